@@ -14,7 +14,8 @@ use Rattle.pfl_base.specs.Names.{name_cmp, is_name}
 
 -- names that compare alike are one
 pub names_exact : IsAntisymmetric name_cmp
-names_exact a b h = ap (λ (p : ℕ × ℕ). record { creator = p.0; id = p.1 }) (exact_pairs nat_cmp nat_cmp exact_unsigned exact_unsigned (a.creator, a.id) (b.creator, b.id) h)
+names_exact a b h = ap (λ (p : ℕ × ℕ). record { creator = p.0; id = p.1 })
+    (exact_pairs nat_cmp nat_cmp exact_unsigned exact_unsigned (a.creator, a.id) (b.creator, b.id) h)
 
 pub names_total : IsTotalOrder name_cmp
 names_total = then_total (on_total (λ n. n.creator) nat_cmp_total) (on_total (λ n. n.id) nat_cmp_total)

@@ -1,11 +1,13 @@
 -- The classes of states, with their numbers and default timeouts (pf.conf(5); the numbers and seconds are this project's profile).
 use Rattle.std.specs.Prelude.{ℕ, Option, List, [], ◌∷◌, slice_get}
 use Rattle.pfl_base.specs.declared.class.Class.{Class}
-use Rattle.pfl_base.specs.declared.class.Class.TheVariants.{TcpFirst, TcpOpening, TcpEstablished, TcpClosing, TcpFinWait, TcpClosed, UdpFirst, UdpSingle, UdpMultiple, IcmpFirst, IcmpError, OtherFirst, OtherSingle, OtherMultiple}
+use Rattle.pfl_base.specs.declared.class.Class.TheVariants.{TcpFirst, TcpOpening, TcpEstablished, TcpClosing, TcpFinWait, TcpClosed, UdpFirst}
+use Rattle.pfl_base.specs.declared.class.Class.TheVariants.{UdpSingle, UdpMultiple, IcmpFirst, IcmpError, OtherFirst, OtherSingle, OtherMultiple}
 
 -- the classes in the order of their numbers
 abbrev pub classes : List Class
-classes = TcpFirst ∷ TcpOpening ∷ TcpEstablished ∷ TcpClosing ∷ TcpFinWait ∷ TcpClosed ∷ UdpFirst ∷ UdpSingle ∷ UdpMultiple ∷ IcmpFirst ∷ IcmpError ∷ OtherFirst ∷ OtherSingle ∷ OtherMultiple ∷ []
+classes = TcpFirst ∷ TcpOpening ∷ TcpEstablished ∷ TcpClosing ∷ TcpFinWait ∷ TcpClosed ∷ UdpFirst ∷ UdpSingle ∷ UdpMultiple ∷ IcmpFirst
+    ∷ IcmpError ∷ OtherFirst ∷ OtherSingle ∷ OtherMultiple ∷ []
 
 -- the number of a class in a frame (this project's profile)
 abbrev pub class_number : Class → ℕ

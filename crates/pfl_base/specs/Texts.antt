@@ -6,7 +6,8 @@ use Rattle.pfl_base.specs.declared.addr.Addr.TheVariants.{V4, V6}
 use Rattle.pfl_base.specs.declared.addr.End.{End}
 use Rattle.pfl_base.specs.Ends.{proto_number}
 use Rattle.pfl_base.specs.declared.class.Class.{Class}
-use Rattle.pfl_base.specs.declared.class.Class.TheVariants.{TcpFirst, TcpOpening, TcpEstablished, TcpClosing, TcpFinWait, TcpClosed, UdpFirst, UdpSingle, UdpMultiple, IcmpFirst, IcmpError, OtherFirst, OtherSingle, OtherMultiple}
+use Rattle.pfl_base.specs.declared.class.Class.TheVariants.{TcpFirst, TcpOpening, TcpEstablished, TcpClosing, TcpFinWait, TcpClosed, UdpFirst}
+use Rattle.pfl_base.specs.declared.class.Class.TheVariants.{UdpSingle, UdpMultiple, IcmpFirst, IcmpError, OtherFirst, OtherSingle, OtherMultiple}
 use Rattle.pfl_base.specs.declared.direction.Dir.{Dir}
 use Rattle.pfl_base.specs.declared.direction.Dir.TheVariants.{Inbound, Outbound}
 use Rattle.pfl_base.specs.declared.node_id.NodeId.{NodeId}
@@ -14,7 +15,8 @@ use Rattle.pfl_base.specs.declared.node_id.NodeId.TheVariants.{A, B}
 use Rattle.pfl_base.specs.declared.proto.Proto.{Proto}
 use Rattle.pfl_base.specs.declared.proto.Proto.TheVariants.{Tcp, Udp, Icmp, Other}
 use Rattle.pfl_base.specs.declared.refusal.Refusal.{Refusal}
-use Rattle.pfl_base.specs.declared.refusal.Refusal.TheVariants.{NoSuchFrame, NothingPending, NoSuchState, LinkFull, QueueFull, ClockFull, CountFull, NotSyncing, TooEarly, NoMemory}
+use Rattle.pfl_base.specs.declared.refusal.Refusal.TheVariants.{NoSuchFrame, NothingPending, NoSuchState, LinkFull, QueueFull, ClockFull, CountFull}
+use Rattle.pfl_base.specs.declared.refusal.Refusal.TheVariants.{NotSyncing, TooEarly, NoMemory}
 use Rattle.pfl_base.specs.declared.state_name.StateName.{StateName}
 
 -- a hexadecimal digit, in lower case
@@ -31,11 +33,13 @@ group_text n = hex_byte (n / 2 ^ 8) ++ hex_byte (n % 2 ^ 8)
 
 -- four groups of a number of 64 bits, joined by colons
 abbrev pub groups_text : ℕ → List ℕ
-groups_text n = group_text (n / 2 ^ 48) ++ codes ":" ++ group_text (n / 2 ^ 32 % 2 ^ 16) ++ codes ":" ++ group_text (n / 2 ^ 16 % 2 ^ 16) ++ codes ":" ++ group_text (n % 2 ^ 16)
+groups_text n = group_text (n / 2 ^ 48) ++ codes ":" ++ group_text (n / 2 ^ 32 % 2 ^ 16) ++ codes ":" ++ group_text (n / 2 ^ 16 % 2 ^ 16)
+    ++ codes ":" ++ group_text (n % 2 ^ 16)
 
 -- four numbers joined by dots, or eight groups joined by colons
 abbrev pub address_text : Addr → List ℕ
-address_text (V4 n) = decimal (n / 2 ^ 24) ++ codes "." ++ decimal (n / 2 ^ 16 % 2 ^ 8) ++ codes "." ++ decimal (n / 2 ^ 8 % 2 ^ 8) ++ codes "." ++ decimal (n % 2 ^ 8)
+address_text (V4 n) = decimal (n / 2 ^ 24) ++ codes "." ++ decimal (n / 2 ^ 16 % 2 ^ 8) ++ codes "." ++ decimal (n / 2 ^ 8 % 2 ^ 8)
+    ++ codes "." ++ decimal (n % 2 ^ 8)
 address_text (V6 n) = groups_text (n / 2 ^ 64) ++ codes ":" ++ groups_text (n % 2 ^ 64)
 
 -- an address beside a port

@@ -43,5 +43,8 @@ pub use std_device::{DeviceFault, Std};
 /// Milliseconds of a node's clock.
 pub type Millis = u64;
 
+/// The last millisecond that a clock can reach.
+pub const LAST_MILLISECOND: Millis = 1_000_000_000_000;
+
 /// The greatest number of 32 bits, up to which events count, and which lines may say.
 pub const GREATEST_NUMBER: u64 = 4294967295;

@@ -64,7 +64,9 @@ impl Packet {
         len: u16,
         scale: Option<u8>,
     ) -> Result<Packet, BadPacket>
-        ensures { let fields : PacketFields = record { proto = proto; src = src; dst = dst; flags = flags; seq = seq; ack = ack; window = window; len = len; scale = scale } in MatchResult result (λ p. (p ≡ fields) × (bad_packet fields ≡ None)) (λ e. bad_packet fields ≡ Some e) }
+        ensures { let fields : PacketFields =
+            record { proto = proto; src = src; dst = dst; flags = flags; seq = seq; ack = ack; window = window; len = len; scale = scale } in
+            MatchResult result (λ p. (p ≡ fields) × (bad_packet fields ≡ None)) (λ e. bad_packet fields ≡ Some e) }
     {
         Packet::of(PacketFields {
             seq,

@@ -18,6 +18,9 @@ pub struct StateName {
 impl StateName {
     ghost use Rattle.pfl_base.specs.Names.{name_cmp};
 
+    /// The name that no state has. As a request it asks for all states.
+    pub const NONE: StateName = StateName { creator: 0, id: 0 };
+
     /// The order of names, which is that of `Ord` too: by creator, and then by id.
     pub fn compare(self, other: StateName) -> Ordering
         ensures { result ≡ name_cmp self other }

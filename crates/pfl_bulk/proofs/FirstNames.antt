@@ -27,22 +27,28 @@ few_tests : {X : Type 0} (xs : List X) (n batch : ℕ) → batch < n → nat_le 
 few_tests xs n batch h = grind (arith, nat_tests, length-take n xs)
 
 -- the names of the turn
-pub turn_names-first : (s : BulkServer) (names : List StateName) (n batch : ℕ) → batch < n → turn_names s (first_names s names n) batch ≡ turn_names s names batch
+pub turn_names-first : (s : BulkServer) (names : List StateName) (n batch : ℕ) → batch < n
+    → turn_names s (first_names s names n) batch ≡ turn_names s names batch
 turn_names-first server.Idle names n batch h = refl
 turn_names-first (server.Serving cursor since) names n batch h =
     ap (take batch) (keeps (λ m. is_lt (name_cmp cursor m)) names n) ∙ take-take batch n (names_after cursor names) (omega arith)
 
 -- whether it is the last
-pub is_last_turn-first : (s : BulkServer) (names : List StateName) (n batch : ℕ) → batch < n → is_last_turn s (first_names s names n) batch ≡ is_last_turn s names batch
+pub is_last_turn-first : (s : BulkServer) (names : List StateName) (n batch : ℕ) → batch < n
+    → is_last_turn s (first_names s names n) batch ≡ is_last_turn s names batch
 is_last_turn-first server.Idle names n batch h = refl
 is_last_turn-first (server.Serving cursor since) names n batch h =
     ap (λ (ms : List StateName). nat_le (length ms) batch) (keeps (λ m. is_lt (name_cmp cursor m)) names n) ∙ few_tests (names_after cursor names) n batch h
 
 -- and the server after it
-pub after_turn-first : (s : BulkServer) (names : List StateName) (n batch : ℕ) → batch < n → after_turn s (first_names s names n) batch ≡ after_turn s names batch
+pub after_turn-first : (s : BulkServer) (names : List StateName) (n batch : ℕ) → batch < n
+    → after_turn s (first_names s names n) batch ≡ after_turn s names batch
 after_turn-first server.Idle names n batch h = refl
 after_turn-first (server.Serving cursor since) names n batch h =
     let last = is_last_turn-first (server.Serving cursor since) names n batch h in
     let sent = turn_names-first (server.Serving cursor since) names n batch h in
-    ap (λ b. cond b server.Idle (server.Serving (unwrap_or (last_of (turn_names (server.Serving cursor since) (first_names (server.Serving cursor since) names n) batch)) cursor) since)) last
-    ∙ ap (λ (ms : List StateName). cond (nat_le (length (names_after cursor names)) batch) server.Idle (server.Serving (unwrap_or (last_of ms) cursor) since)) sent
+    ap (λ b. cond b server.Idle
+    (server.Serving (unwrap_or
+    (last_of (turn_names (server.Serving cursor since) (first_names (server.Serving cursor since) names n) batch)) cursor) since)) last
+    ∙ ap (λ (ms : List StateName). cond (nat_le (length (names_after cursor names)) batch) server.Idle
+    (server.Serving (unwrap_or (last_of ms) cursor) since)) sent

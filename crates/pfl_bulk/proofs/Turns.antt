@@ -1,5 +1,6 @@
 -- Names in rising order: those after a cursor are what a search by halves leaves.
-use Rattle.std.proofs.Common.{◌≡◌, ◌+◌, ◌-◌, ◌≤◌, ◌<◌, ℕ, zero, suc, Bool, true, false, cond, not, List, [], ◌∷◌, length, take, drop, get_or, filter, unwrap_or, refl, sym, ◌∙◌, ap, arith}
+use Rattle.std.proofs.Common.{◌≡◌, ◌+◌, ◌-◌, ◌≤◌, ◌<◌, ℕ, zero, suc, Bool, true, false, cond, not, List, [], ◌∷◌, length, take, drop, get_or, filter}
+use Rattle.std.proofs.Common.{unwrap_or, refl, sym, ◌∙◌, ap, arith}
 use Rattle.std.proofs.lemmas.List.{take_rest}
 use Rattle.std.specs.List.{AllWithin}
 use Rattle.std.specs.List.Sorted.{IsPartitionedBy, IsPartitionPoint}
@@ -23,12 +24,14 @@ last_is (x ∷ y ∷ ys) d e h =
     ap (λ n. get_or (x ∷ y ∷ ys) n d) place ∙ last_is (y ∷ ys) d e (omega arith)
 
 -- what a filter keeps, where an element passes exactly from place n on
-filter_from : {X : Type 0} (q : X → Bool) (xs : List X) (n : ℕ) → AllWithin (λ x. q x ≡ false) xs 0 n → AllWithin (λ x. q x ≡ true) xs n (length xs) → n ≤ length xs → filter q xs ≡ drop n xs
+filter_from : {X : Type 0} (q : X → Bool) (xs : List X) (n : ℕ) → AllWithin (λ x. q x ≡ false) xs 0 n
+    → AllWithin (λ x. q x ≡ true) xs n (length xs) → n ≤ length xs → filter q xs ≡ drop n xs
 filter_from q [] zero fails passes h = refl
 filter_from q [] (suc n) fails passes h = absurd (omega arith)
 filter_from q (x ∷ xs) zero fails passes h =
     ap (λ b. cond b (x ∷ filter q xs) (filter q xs)) (passes 0 x (omega arith) (omega arith))
-    ∙ ap (λ (ys : List _). x ∷ ys) (filter_from q xs zero (λ k d a b. absurd (omega arith)) (λ k d a b. passes (suc k) d (omega arith) (omega arith)) (omega arith))
+    ∙ ap (λ (ys : List _). x ∷ ys)
+    (filter_from q xs zero (λ k d a b. absurd (omega arith)) (λ k d a b. passes (suc k) d (omega arith) (omega arith)) (omega arith))
 filter_from q (x ∷ xs) (suc n) fails passes h =
     ap (λ b. cond b (x ∷ filter q xs) (filter q xs)) (fails 0 x (omega arith) (omega arith))
     ∙ filter_from q xs n (λ k d a b. fails (suc k) d (omega arith) (omega arith)) (λ k d a b. passes (suc k) d (omega arith) (omega arith)) (omega arith)
@@ -57,10 +60,12 @@ module _ (cursor : StateName) where
   parted (x ∷ xs) r (suc i) (suc j) d le lt h = parted xs r.1 i j d (omega arith) (omega arith) h
 
   -- those from the point on are those after the cursor
-  pub after_point : (xs : List StateName) (n : ℕ) → n ≤ length xs → IsPartitionPoint (λ y. not (is_lt (name_cmp cursor y)) ≡ true) (λ y. not (is_lt (name_cmp cursor y)) ≡ false) xs n
+  pub after_point : (xs : List StateName) (n : ℕ) → n ≤ length xs
+      → IsPartitionPoint (λ y. not (is_lt (name_cmp cursor y)) ≡ true) (λ y. not (is_lt (name_cmp cursor y)) ≡ false) xs n
       → take (length xs - n) (drop n xs) ≡ names_after cursor xs
   after_point xs n h point =
-      take_rest xs n ∙ sym (filter_from (λ y. is_lt (name_cmp cursor y)) xs n (λ k d a b. not-true _ (point.0 k d a b)) (λ k d a b. not-false _ (point.1 k d a b)) h)
+      take_rest xs n ∙ sym (filter_from (λ y. is_lt (name_cmp cursor y)) xs n (λ k d a b. not-true _ (point.0 k d a b))
+      (λ k d a b. not-false _ (point.1 k d a b)) h)
 
 pub turns_need_few_names : TurnsNeedFewNames
 turns_need_few_names s all batch = record {

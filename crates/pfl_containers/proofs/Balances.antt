@@ -1,10 +1,13 @@
 -- How deep a balanced tree may be, by its entries, and what each join and each change makes of how deep trees are.
-use Rattle.std.proofs.Common.{◌≡◌, ◌⊎◌, inl, inr, ℕ, zero, suc, ◌+◌, ◌-◌, ◌≤◌, ◌<◌, ◌^◌, List, ◌∷◌, length, length-append, Option, Some, None, refl, ap, subst, ◌∙◌, arith}
+use Rattle.std.proofs.Common.{◌≡◌, ◌⊎◌, inl, inr, ℕ, zero, suc, ◌+◌, ◌-◌, ◌≤◌, ◌<◌, ◌^◌, List, ◌∷◌, length, length-append, Option, Some, None, refl}
+use Rattle.std.proofs.Common.{ap, subst, ◌∙◌, arith}
 use Rattle.std.specs.Prelude.{max, min}
 use Rattle.std.proofs.lemmas.Option.{slice_get_past}
 use Rattle.pfl_containers.specs.declared.order.node.Node.{Node}
 use Rattle.pfl_containers.specs.inner.Trees.{Tree, leaf, fork, entries, Holds}
-use Rattle.pfl_containers.specs.inner.Balances.{height_of, FitsSides, depth, IsBalanced, HasSides, Links, TurnsRight, TurnsLeft, LeansLeft, LeansRight, IsJoined, Balances, BalancesLeft, BalancesRight, Grows, Shrinks, Unites, fewest_from, fewest}
+use Rattle.pfl_containers.specs.inner.Balances.{height_of, FitsSides, depth, IsBalanced, HasSides, Links, TurnsRight, TurnsLeft, LeansLeft}
+use Rattle.pfl_containers.specs.inner.Balances.{LeansRight, IsJoined, Balances, BalancesLeft, BalancesRight, Grows, Shrinks, Unites, fewest_from}
+use Rattle.pfl_containers.specs.inner.Balances.{fewest}
 
 -- The fewest entries.
 fewest_from-step : (few next h : ℕ) → fewest_from few next (suc (suc h)) ≡ fewest_from few next (suc h) + fewest_from few next h + 1
@@ -64,7 +67,8 @@ module _ {K V : Type 0} where
 
   -- the height at its root is its depth
   pub height-is : (nodes : List (Node K V)) (t : Tree K V) (link : ℕ) → Holds nodes t link → IsBalanced t → height_of nodes link ≡ depth t
-  height-is nodes leaf link h b = let past : length nodes ≤ link = omega (arith, h.0, h.1) in ap (λ (o : Option (Node K V)). elim o [ None ↦ 0 | Some n ↦ n.height ]) (slice_get_past nodes link past)
+  height-is nodes leaf link h b = let past : length nodes ≤ link = omega (arith, h.0, h.1)
+      in ap (λ (o : Option (Node K V)). elim o [ None ↦ 0 | Some n ↦ n.height ]) (slice_get_past nodes link past)
   height-is nodes (fork l i n r) link h b =
       ap (height_of nodes) h.0 ∙ (ap (λ (o : Option (Node K V)). elim o [ None ↦ 0 | Some n ↦ n.height ]) h.1 ∙ b.0)
 
@@ -112,14 +116,16 @@ module _ {K V : Type 0} where
       record { balanced = sides-balanced d e t has left right; least = omega (arith, deep); most = omega (arith, deep); near = λ h k. deep }
 
   -- The left tree l is two deeper than r: the deeper side goes to the left, and then the tree turns to the right.
-  pub balances_right : (l r p t : Tree K V) → LeansLeft l p → TurnsRight p r t → (IsBalanced l → IsBalanced r → depth l < 255 → depth r + 1 < depth l) → Balances l r t
+  pub balances_right : (l r p t : Tree K V) → LeansLeft l p → TurnsRight p r t
+      → (IsBalanced l → IsBalanced r → depth l < 255 → depth r + 1 < depth l) → Balances l r t
   balances_right l r p t leans turns deeper = record {
     joined = λ left right low_left low_right near_left near_right.
         let far = deeper left right low_left in
         let side = leans.sides left (omega (arith, far)) (omega (arith, low_left)) in
         let d = side.0 in
         let e = side.1 in
-        let all = turns.sides d e side.2 right (omega (arith, side.3, side.4, near_left)) (omega (arith, side.3, side.5, far)) (omega (arith, side.3, low_left)) (omega (arith, side.3, side.4, low_left, far)) in
+        let all = turns.sides d e side.2 right (omega (arith, side.3, side.4, near_left)) (omega (arith, side.3, side.5, far))
+        (omega (arith, side.3, low_left)) (omega (arith, side.3, side.4, low_left, far)) in
         let whole = joined-sides d (max e (depth r) + 1) t all (omega (arith, side.3, near_left)) (omega (arith, side.3, side.4, far, near_left)) in
         record {
           balanced = whole.balanced;
@@ -129,14 +135,16 @@ module _ {K V : Type 0} where
         };
   }
 
-  pub balances_left : (l r p t : Tree K V) → LeansRight r p → TurnsLeft l p t → (IsBalanced l → IsBalanced r → depth r < 255 → depth l + 1 < depth r) → Balances l r t
+  pub balances_left : (l r p t : Tree K V) → LeansRight r p → TurnsLeft l p t
+      → (IsBalanced l → IsBalanced r → depth r < 255 → depth l + 1 < depth r) → Balances l r t
   balances_left l r p t leans turns deeper = record {
     joined = λ left right low_left low_right near_left near_right.
         let far = deeper left right low_right in
         let side = leans.sides right (omega (arith, far)) (omega (arith, low_right)) in
         let d = side.0 in
         let e = side.1 in
-        let all = turns.sides d e left side.2 (omega (arith, side.3, side.5, far)) (omega (arith, side.3, side.4, near_right)) (omega (arith, side.3, low_right)) (omega (arith, side.3, side.4, low_right, far)) in
+        let all = turns.sides d e left side.2 (omega (arith, side.3, side.5, far)) (omega (arith, side.3, side.4, near_right))
+        (omega (arith, side.3, low_right)) (omega (arith, side.3, side.4, low_right, far)) in
         let whole = joined-sides (max (depth l) d + 1) e t all (omega (arith, side.3, side.4, far, near_right)) (omega (arith, side.3, near_right)) in
         record {
           balanced = whole.balanced;
@@ -149,11 +157,13 @@ module _ {K V : Type 0} where
   -- neither is
   pub balances_linked : (l r t : Tree K V) → Links l r t → (IsBalanced l → IsBalanced r → (depth l ≤ depth r + 1) × (depth r ≤ depth l + 1)) → Balances l r t
   balances_linked l r t links near = record {
-    joined = λ left right low_left low_right _ _. joined-sides (depth l) (depth r) t (links.sides left right low_left low_right) (near left right).0 (near left right).1;
+    joined = λ left right low_left low_right _ _. joined-sides (depth l) (depth r) t (links.sides left right low_left low_right)
+        (near left right).0 (near left right).1;
   }
 
   -- A node whose new left tree is as deep as the one before stays as it is, and so does one whose right tree is.
-  pub stays_joined : (l r : Tree K V) (i : ℕ) (n : Node K V) → IsBalanced l → IsBalanced r → FitsSides n.height (depth l) (depth r) → IsJoined (depth l) (depth r) (fork l i n r)
+  pub stays_joined : (l r : Tree K V) (i : ℕ) (n : Node K V) → IsBalanced l → IsBalanced r → FitsSides n.height (depth l) (depth r)
+      → IsJoined (depth l) (depth r) (fork l i n r)
   stays_joined l r i n left right fits = record {
     balanced = (fits.0, fits.1, fits.2, left, right);
     least = omega arith;
@@ -162,10 +172,12 @@ module _ {K V : Type 0} where
   }
 
   pub balances_as_left : (was height : ℕ) (l r t : Tree K V) → Balances l r t → BalancesLeft was height l r t
-  balances_as_left was height l r t b = record { joined = λ left right low_left low_right near_left near_right _. b.joined left right low_left low_right near_left near_right }
+  balances_as_left was height l r t b =
+      record { joined = λ left right low_left low_right near_left near_right _. b.joined left right low_left low_right near_left near_right }
 
   pub balances_as_right : (was height : ℕ) (l r t : Tree K V) → Balances l r t → BalancesRight was height l r t
-  balances_as_right was height l r t b = record { joined = λ left right low_left low_right near_left near_right _. b.joined left right low_left low_right near_left near_right }
+  balances_as_right was height l r t b =
+      record { joined = λ left right low_left low_right near_left near_right _. b.joined left right low_left low_right near_left near_right }
 
   -- Of a tree whose left side is no less deep than its right one nothing changes, and another one turns.
   pub leans_left-leaf : LeansLeft {K = K} {V = V} leaf leaf
@@ -178,14 +190,23 @@ module _ {K V : Type 0} where
         (depth l, depth r, balanced-sides l r i n b, omega (arith, le), le, omega (arith, b.1));
   }
 
-  pub leans_left-turned : (l r : Tree K V) (i : ℕ) (n : Node K V) (u : Tree K V) → (IsBalanced l → IsBalanced r → depth l < depth r) → TurnsLeft l r u → LeansLeft (fork l i n r) u
+  pub leans_left-turned : (l r : Tree K V) (i : ℕ) (n : Node K V) (u : Tree K V) → (IsBalanced l → IsBalanced r → depth l < depth r)
+      → TurnsLeft l r u → LeansLeft (fork l i n r) u
   leans_left-turned l leaf i n u lower turns = record { sides = λ b _ _. absurd (omega (arith, lower b.3 b.4)) }
   leans_left-turned l (fork rl j m rr) i n u lower turns = record {
     sides = λ b _ few.
         let less = lower b.3 b.4 in
         let own = b.4 in
-        let all = turns.sides (depth rl) (depth rr) b.3 (balanced-sides rl rr j m own) (omega (arith, less, b.2, own.1, own.2)) (omega (arith, less, b.2, own.1, own.2)) (omega (arith, few)) (omega (arith, few, less)) in
-        (max (depth l) (depth rl) + 1, depth rr, all, omega (arith, less, b.2, own.1, own.2), omega (arith, less, b.2, own.1, own.2), omega (arith, less, b.2, own.1, own.2));
+        let all = turns.sides (depth rl) (depth rr) b.3 (balanced-sides rl rr j m own) (omega (arith, less, b.2, own.1, own.2))
+        (omega (arith, less, b.2, own.1, own.2)) (omega (arith, few)) (omega (arith, few, less)) in (
+          max (depth l) (depth rl) + 1,
+          depth rr,
+          all,
+          omega (arith, less, b.2, own.1, own.2),
+          omega (arith, less, b.2, own.1, own.2),
+          omega
+              (arith, less, b.2, own.1, own.2),
+        );
   }
 
   -- And likewise on the right.
@@ -199,14 +220,23 @@ module _ {K V : Type 0} where
         (depth l, depth r, balanced-sides l r i n b, omega (arith, le), le, omega (arith, b.2));
   }
 
-  pub leans_right-turned : (l r : Tree K V) (i : ℕ) (n : Node K V) (u : Tree K V) → (IsBalanced l → IsBalanced r → depth r < depth l) → TurnsRight l r u → LeansRight (fork l i n r) u
+  pub leans_right-turned : (l r : Tree K V) (i : ℕ) (n : Node K V) (u : Tree K V) → (IsBalanced l → IsBalanced r → depth r < depth l)
+      → TurnsRight l r u → LeansRight (fork l i n r) u
   leans_right-turned leaf r i n u lower turns = record { sides = λ b _ _. absurd (omega (arith, lower b.3 b.4)) }
   leans_right-turned (fork ll j m lr) r i n u lower turns = record {
     sides = λ b _ few.
         let less = lower b.3 b.4 in
         let own = b.3 in
-        let all = turns.sides (depth ll) (depth lr) (balanced-sides ll lr j m own) b.4 (omega (arith, less, b.1, own.1, own.2)) (omega (arith, less, b.1, own.1, own.2)) (omega (arith, few)) (omega (arith, few, less)) in
-        (depth ll, max (depth lr) (depth r) + 1, all, omega (arith, less, b.1, own.1, own.2), omega (arith, less, b.1, own.1, own.2), omega (arith, less, b.1, own.1, own.2));
+        let all = turns.sides (depth ll) (depth lr) (balanced-sides ll lr j m own) b.4 (omega (arith, less, b.1, own.1, own.2))
+        (omega (arith, less, b.1, own.1, own.2)) (omega (arith, few)) (omega (arith, few, less)) in (
+          depth ll,
+          max (depth lr) (depth r) + 1,
+          all,
+          omega (arith, less, b.1, own.1, own.2),
+          omega (arith, less, b.1, own.1, own.2),
+          omega
+              (arith, less, b.1, own.1, own.2),
+        );
   }
 
   -- A leaf becomes a tree of one node,
@@ -218,44 +248,56 @@ module _ {K V : Type 0} where
   }
 
   -- a tree grows on its left side,
-  pub grows_left : (l r : Tree K V) (i : ℕ) (n : Node K V) (p t : Tree K V) (was : ℕ) → (IsBalanced l → was ≡ depth l) → Grows l p → BalancesLeft was n.height p r t → Grows (fork l i n r) t
+  pub grows_left : (l r : Tree K V) (i : ℕ) (n : Node K V) (p t : Tree K V) (was : ℕ) → (IsBalanced l → was ≡ depth l) → Grows l p
+      → BalancesLeft was n.height p r t → Grows (fork l i n r) t
   grows_left l r i n p t was deep_before grows balances = record {
     grown = λ few b.
         let fewer : length (entries l) < 2 ^ 32 = omega (arith, few, length-append (entries l) ((n.key, n.value) ∷ entries r)) in
         let below = grows.grown fewer b.3 in
         let deep = low (fork l i n r) b few in
-        let all = balances.joined below.0 b.4 (omega (arith, deep, below.2)) (omega (arith, deep)) (omega (arith, b.1, below.2)) (omega (arith, b.2, below.1)) (omega (arith, b.0, deep_before b.3), omega (arith, b.1, deep_before b.3), omega (arith, b.2, deep_before b.3)) in
+        let all = balances.joined below.0 b.4 (omega (arith, deep, below.2)) (omega (arith, deep)) (omega (arith, b.1, below.2))
+        (omega (arith, b.2, below.1))
+        (omega (arith, b.0, deep_before b.3), omega (arith, b.1, deep_before b.3), omega (arith, b.2, deep_before b.3)) in
         (all.balanced, grind (arith, all.least, all.near, b.1, b.2, below.1, below.2), grind (arith, all.most, all.near, b.1, b.2, below.1, below.2));
   }
 
-  pub grows_right : (l r : Tree K V) (i : ℕ) (n : Node K V) (p t : Tree K V) (was : ℕ) → (IsBalanced r → was ≡ depth r) → Grows r p → BalancesRight was n.height l p t → Grows (fork l i n r) t
+  pub grows_right : (l r : Tree K V) (i : ℕ) (n : Node K V) (p t : Tree K V) (was : ℕ) → (IsBalanced r → was ≡ depth r) → Grows r p
+      → BalancesRight was n.height l p t → Grows (fork l i n r) t
   grows_right l r i n p t was deep_before grows balances = record {
     grown = λ few b.
         let fewer : length (entries r) < 2 ^ 32 = omega (arith, few, length-append (entries l) ((n.key, n.value) ∷ entries r)) in
         let below = grows.grown fewer b.4 in
         let deep = low (fork l i n r) b few in
-        let all = balances.joined b.3 below.0 (omega (arith, deep)) (omega (arith, deep, below.2)) (omega (arith, b.1, below.1)) (omega (arith, b.2, below.2)) (omega (arith, b.0, deep_before b.4), omega (arith, b.1, deep_before b.4), omega (arith, b.2, deep_before b.4)) in
+        let all = balances.joined b.3 below.0 (omega (arith, deep)) (omega (arith, deep, below.2)) (omega (arith, b.1, below.1))
+        (omega (arith, b.2, below.2))
+        (omega (arith, b.0, deep_before b.4), omega (arith, b.1, deep_before b.4), omega (arith, b.2, deep_before b.4)) in
         (all.balanced, grind (arith, all.least, all.near, b.1, b.2, below.1, below.2), grind (arith, all.most, all.near, b.1, b.2, below.1, below.2));
   }
 
   -- and shrinks on either,
-  pub shrinks_left : (l r : Tree K V) (i : ℕ) (n : Node K V) (p t : Tree K V) (was : ℕ) → (IsBalanced l → was ≡ depth l) → Shrinks l p → BalancesLeft was n.height p r t → Shrinks (fork l i n r) t
+  pub shrinks_left : (l r : Tree K V) (i : ℕ) (n : Node K V) (p t : Tree K V) (was : ℕ) → (IsBalanced l → was ≡ depth l) → Shrinks l p
+      → BalancesLeft was n.height p r t → Shrinks (fork l i n r) t
   shrinks_left l r i n p t was deep_before shrinks balances = record {
     shrunk = λ few b.
         let fewer : length (entries l) < 2 ^ 32 = omega (arith, few, length-append (entries l) ((n.key, n.value) ∷ entries r)) in
         let below = shrinks.shrunk fewer b.3 in
         let deep = low (fork l i n r) b few in
-        let all = balances.joined below.0 b.4 (omega (arith, deep, below.1)) (omega (arith, deep)) (omega (arith, b.1, below.1)) (omega (arith, b.2, below.2)) (omega (arith, b.0, deep_before b.3), omega (arith, b.1, deep_before b.3), omega (arith, b.2, deep_before b.3)) in
+        let all = balances.joined below.0 b.4 (omega (arith, deep, below.1)) (omega (arith, deep)) (omega (arith, b.1, below.1))
+        (omega (arith, b.2, below.2))
+        (omega (arith, b.0, deep_before b.3), omega (arith, b.1, deep_before b.3), omega (arith, b.2, deep_before b.3)) in
         (all.balanced, grind (arith, all.most, all.near, b.1, b.2, below.1, below.2), grind (arith, all.least, all.near, b.1, b.2, below.1, below.2));
   }
 
-  pub shrinks_right : (l r : Tree K V) (i : ℕ) (n : Node K V) (p t : Tree K V) (was : ℕ) → (IsBalanced r → was ≡ depth r) → Shrinks r p → BalancesRight was n.height l p t → Shrinks (fork l i n r) t
+  pub shrinks_right : (l r : Tree K V) (i : ℕ) (n : Node K V) (p t : Tree K V) (was : ℕ) → (IsBalanced r → was ≡ depth r) → Shrinks r p
+      → BalancesRight was n.height l p t → Shrinks (fork l i n r) t
   shrinks_right l r i n p t was deep_before shrinks balances = record {
     shrunk = λ few b.
         let fewer : length (entries r) < 2 ^ 32 = omega (arith, few, length-append (entries l) ((n.key, n.value) ∷ entries r)) in
         let below = shrinks.shrunk fewer b.4 in
         let deep = low (fork l i n r) b few in
-        let all = balances.joined b.3 below.0 (omega (arith, deep)) (omega (arith, deep, below.1)) (omega (arith, b.1, below.2)) (omega (arith, b.2, below.1)) (omega (arith, b.0, deep_before b.4), omega (arith, b.1, deep_before b.4), omega (arith, b.2, deep_before b.4)) in
+        let all = balances.joined b.3 below.0 (omega (arith, deep)) (omega (arith, deep, below.1)) (omega (arith, b.1, below.2))
+        (omega (arith, b.2, below.1))
+        (omega (arith, b.0, deep_before b.4), omega (arith, b.1, deep_before b.4), omega (arith, b.2, deep_before b.4)) in
         (all.balanced, grind (arith, all.most, all.near, b.1, b.2, below.1, below.2), grind (arith, all.least, all.near, b.1, b.2, below.1, below.2));
   }
 
@@ -280,13 +322,20 @@ module _ {K V : Type 0} where
   unites_below l r p u shrinks balances = record {
     united = λ few_left few_right left right near_left near_right.
         let below = shrinks.shrunk few_right right in
-        let all = balances.joined left below.0 (omega (arith, low l left few_left)) (omega (arith, low r right few_right, below.1)) (omega (arith, near_left, below.2)) (omega (arith, near_right, below.1)) in
-        (all.balanced, grind (arith, all.least, all.near, near_left, near_right, below.1, below.2), grind (arith, all.most, all.near, near_left, near_right, below.1, below.2));
+        let all = balances.joined left below.0 (omega (arith, low l left few_left)) (omega (arith, low r right few_right, below.1))
+        (omega (arith, near_left, below.2)) (omega (arith, near_right, below.1)) in (
+          all.balanced,
+          grind (arith, all.least, all.near, near_left, near_right, below.1, below.2),
+          grind
+              (arith, all.most, all.near, near_left, near_right, below.1, below.2),
+        );
   }
 
   -- What `linked` writes.
-  pub links_linked : (nodes : List (Node K V)) (l r : Tree K V) (place : ℕ) (node : Node K V) (left right height : ℕ) → Holds nodes l node.left → Holds nodes r node.right
-      → left ≡ height_of nodes node.left → right ≡ height_of nodes node.right → height ≡ min (max left right + 1) 255 → Links l r (fork l place (record node { height = height }) r)
+  pub links_linked : (nodes : List (Node K V)) (l r : Tree K V) (place : ℕ) (node : Node K V) (left right height : ℕ)
+      → Holds nodes l node.left → Holds nodes r node.right
+      → left ≡ height_of nodes node.left → right ≡ height_of nodes node.right → height ≡ min (max left right + 1) 255
+      → Links l r (fork l place (record node { height = height }) r)
   links_linked nodes l r place node left right height holds_left holds_right is_left is_right is = record {
     sides = λ b c low_left low_right.
         let same_left = is_left ∙ height-is nodes l node.left holds_left b in

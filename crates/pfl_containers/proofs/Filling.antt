@@ -1,5 +1,6 @@
 -- What each call of an arena leaves in it.
-use Rattle.std.proofs.Common.{◌≡◌, ◌<◌, ◌≤◌, ◌-◌, ◌+◌, ◌^◌, inl, inr, ℕ, zero, suc, cond, T, List, [], ◌∷◌, ◌++◌, length, length-append, set, Option, Some, None, is_some, refl, sym, ap, subst, ◌∙◌, arith, vec_len, vec_capacity}
+use Rattle.std.proofs.Common.{◌≡◌, ◌<◌, ◌≤◌, ◌-◌, ◌+◌, ◌^◌, inl, inr, ℕ, zero, suc, cond, T, List, [], ◌∷◌, ◌++◌, length, length-append, set, Option}
+use Rattle.std.proofs.Common.{Some, None, is_some, refl, sym, ap, subst, ◌∙◌, arith, vec_len, vec_capacity}
 use Rattle.std.specs.Prelude.{slice_get}
 use Rattle.std.specs.Option.{option_map}
 use Rattle.std.specs.Vec.{with_items}
@@ -31,18 +32,24 @@ slice_get-front (x ∷ xs) ys zero h = refl
 slice_get-front (x ∷ xs) ys (suc j) h = slice_get-front xs ys j (omega arith)
 
 -- the tree that is made, with what is known to have stood under the key, and the one that is left, with the node taken out of it
-pub as_former : {K V : Type 0} {R : K → K → Ordering} {nodes new : List (Node K V)} {from place steps : ℕ} {item : Node K V} {grown : Grown V} {former : Option V} → grown.former ≡ former
+pub as_former : {K V : Type 0} {R : K → K
+    → Ordering} {nodes new : List (Node K V)} {from place steps : ℕ} {item : Node K V} {grown : Grown V} {former : Option V} → grown.former ≡ former
     → Inserts R nodes new from place item steps grown → Inserts R nodes new from place item steps (record { link = grown.link; former = former })
-as_former {K} {V} {R} {nodes} {new} {from} {place} {steps} {item} {grown} is inserts = subst (λ (f : Option V). Inserts R nodes new from place item steps (record { link = grown.link; former = f })) is inserts
+as_former {K} {V} {R} {nodes} {new} {from} {place} {steps} {item} {grown} is inserts =
+    subst (λ (f : Option V). Inserts R nodes new from place item steps (record { link = grown.link; former = f })) is inserts
 
-pub as_taken : {K V : Type 0} {R : K → K → Ordering} {nodes new : List (Node K V)} {from steps : ℕ} {q : K} {rest : Remaining V} {taken : Option (Taken V)} → rest.taken ≡ taken
+pub as_taken : {K V : Type 0} {R : K → K
+    → Ordering} {nodes new : List (Node K V)} {from steps : ℕ} {q : K} {rest : Remaining V} {taken : Option (Taken V)} → rest.taken ≡ taken
     → Removes R nodes new from q steps rest → Removes R nodes new from q steps (record { link = rest.link; taken = taken })
-as_taken {K} {V} {R} {nodes} {new} {from} {steps} {q} {rest} is removes = subst (λ (t : Option (Taken V)). Removes R nodes new from q steps (record { link = rest.link; taken = t })) is removes
+as_taken {K} {V} {R} {nodes} {new} {from} {steps} {q} {rest} is removes =
+    subst (λ (t : Option (Taken V)). Removes R nodes new from q steps (record { link = rest.link; taken = t })) is removes
 
-module _ {K V : Type 0} {limit capacity : ℕ} {nodes : List (Node K V)} {root free : ℕ} {t : Tree K V} {held : ℕ → ℕ} {count : ℕ} (f : Fills limit capacity nodes root free t held count)
+module _ {K V : Type 0} {limit capacity : ℕ} {nodes : List (Node K V)} {root free : ℕ} {t : Tree K V} {held : ℕ
+    → ℕ} {count : ℕ} (f : Fills limit capacity nodes root free t held count)
     {new : List (Node K V)} {es : List (K × V)} {u : ℕ → ℕ} {S : Tree K V → Type 0} {link : ℕ} (m : Makes nodes new es u S link) (hold : ℕ → ℕ) (more : ℕ) where
   -- the tree is made anew,
-  pub fills_made : ((j : ℕ) → hold j + u j ≡ held j + uses t j) → more + length es ≡ count + length (entries t) → Fills limit capacity new link free m.tree hold more
+  pub fills_made : ((j : ℕ) → hold j + u j ≡ held j + uses t j) → more + length es ≡ count + length (entries t)
+      → Fills limit capacity new link free m.tree hold more
   fills_made places counts = record {
     spare = f.spare;
     holds = m.holds;
@@ -55,7 +62,8 @@ module _ {K V : Type 0} {limit capacity : ℕ} {nodes : List (Node K V)} {root f
   }
 
   -- or that of the free places
-  pub fills_spared : ((j : ℕ) → hold j + u j ≡ held j + uses f.spare j) → more + length es ≡ count + length (entries f.spare) → Fills limit capacity new root link t hold more
+  pub fills_spared : ((j : ℕ) → hold j + u j ≡ held j + uses f.spare j) → more + length es ≡ count + length (entries f.spare)
+      → Fills limit capacity new root link t hold more
   fills_spared places counts = record {
     spare = m.tree;
     holds = Holds-kept nodes new t root (λ h. omega (arith, h, m.long)) f.holds (λ j p. m.keeps j (omega (arith, places j, f.apart j)));
@@ -68,7 +76,8 @@ module _ {K V : Type 0} {limit capacity : ℕ} {nodes : List (Node K V)} {root f
   }
 
 -- a place that was held is free again
-freed_fills : {K V : Type 0} {limit capacity : ℕ} {mid xs : List (Node K V)} {root free : ℕ} {t : Tree K V} (place : ℕ) (freed : Node K V) → Fills limit capacity mid root free t (once place) 1 → place < length mid
+freed_fills : {K V : Type 0} {limit capacity : ℕ} {mid xs : List (Node K V)} {root free : ℕ} {t : Tree K V} (place : ℕ) (freed : Node K V)
+    → Fills limit capacity mid root free t (once place) 1 → place < length mid
     → xs ≡ set mid place freed → freed.left ≡ NO_PLACE → freed.right ≡ free → Fills limit capacity xs root place t none_held 0
 freed_fills {K} {V} {limit} {capacity} {mid} {xs} {root} {free} {t} place freed f within is left right =
     let m = (linked_joins mid xs place freed freed.height (λ l r u. Unit {0}) is (λ l r can. tt)).makes leaf f.spare (record {
@@ -84,8 +93,10 @@ module _ {K V A : Type 0} {R : K → K → Ordering} (o : IsTotalOrder R) where
   pub written : (v : Vec (Node K V) A) (xs : List (Node K V)) → length xs ≡ length v.items → (with_items v xs).items ≡ xs
   written v xs same = with_items_is v xs (same ∙ sym v.ok.0)
 
-  stored : (v : Vec (Node K V) A) (xs : List (Node K V)) → length xs ≡ length v.items → {limit len : ℕ} {root free : ℕ} {es : List (K × V)} {t : Tree K V} → Fills limit (vec_capacity v) xs root free t none_held 0
-      → entries t ≡ es → T (is_sorted R es) → len ≡ length es → IsBalanced t → Stores R limit (record { nodes = with_items v xs; root = root; free = free; len = len }) es
+  stored : (v : Vec (Node K V) A) (xs : List (Node K V)) → length xs ≡ length v.items
+      → {limit len : ℕ} {root free : ℕ} {es : List (K × V)} {t : Tree K V} → Fills limit (vec_capacity v) xs root free t none_held 0
+      → entries t ≡ es → T (is_sorted R es) → len ≡ length es → IsBalanced t
+      → Stores R limit (record { nodes = with_items v xs; root = root; free = free; len = len }) es
   stored v xs same {limit} {len} {root} {free} {es} {t} f lists sorted long balanced = record {
     tree = t;
     fills = subst (λ (ns : List (Node K V)). Fills limit (vec_capacity v) ns root free t none_held 0) (sym (written v xs same)) f;
@@ -123,16 +134,22 @@ module _ {K V A : Type 0} {R : K → K → Ordering} (o : IsTotalOrder R) where
   changes old place node v xs is = record {
     stores = λ limit es s q at.
         let m = changed o old.nodes.items s.tree old.root s.fills.holds (λ j. omega (arith, s.fills.apart j)) (tree_sorted s) q v place node at in
-        let same = length-put R o q v (entries s.tree) (tree_sorted s) ∙ ap (λ (found : Option V). cond (is_some found) (length (entries s.tree)) (length (entries s.tree) + 1)) (found_some s q place node at) in
+        let same = length-put R o q v (entries s.tree) (tree_sorted s)
+        ∙ ap (λ (found : Option V). cond (is_some found) (length (entries s.tree)) (length (entries s.tree) + 1))
+        (found_some s q place node at) in
         stored old.nodes xs (ap length is ∙ m.long)
-        (subst (λ (ns : List (Node K V)). Fills limit (vec_capacity old.nodes) ns old.root old.free m.tree none_held 0) (sym is) (fills_made s.fills m none_held 0 (λ j. refl) (omega (arith, same))))
-        (m.lists ∙ ap (put R q v) s.lists) (is_sorted-put R o q v es s.sorted) (omega (arith, s.long, same, ap (λ (fs : List (K × V)). length (put R q v fs)) s.lists, ap length s.lists))
+        (subst (λ (ns : List (Node K V)). Fills limit (vec_capacity old.nodes) ns old.root old.free m.tree none_held 0) (sym is)
+        (fills_made s.fills m none_held 0 (λ j. refl) (omega (arith, same))))
+        (m.lists ∙ ap (put R q v) s.lists) (is_sorted-put R o q v es s.sorted)
+        (omega (arith, s.long, same, ap (λ (fs : List (K × V)). length (put R q v fs)) s.lists, ap length s.lists))
         (m.says.alike s.balanced).0;
   }
 
   -- An entry was put in: its key is new, or another value stood under it and the place is free again.
-  module _ (old mid : Arena K V A) (place : ℕ) (item : Node K V) (takes : TakesPlace R old mid place) (left : item.left ≡ NO_PLACE) (right : item.right ≡ NO_PLACE) where
-    has_item : {made : List (Node K V)} {grown : Grown V} → Inserts R mid.nodes.items made mid.root place item mid.len grown → {limit : ℕ} {es : List (K × V)} (s : Stores R limit old es) → length es < limit → HasItem R mid.nodes.items made s.tree place item grown
+  module _ (old mid : Arena K V A) (place : ℕ) (item : Node K V) (takes : TakesPlace R old mid place) (left : item.left ≡ NO_PLACE)
+      (right : item.right ≡ NO_PLACE) where
+    has_item : {made : List (Node K V)} {grown : Grown V} → Inserts R mid.nodes.items made mid.root place item mid.len grown
+        → {limit : ℕ} {es : List (K × V)} (s : Stores R limit old es) → length es < limit → HasItem R mid.nodes.items made s.tree place item grown
     has_item inserts {limit} {es} s less =
         let f = takes.holding limit es s less in
         inserts.makes s.tree (record {
@@ -145,8 +162,10 @@ module _ {K V A : Type 0} {R : K → K → Ordering} (o : IsTotalOrder R) where
           deep = omega (arith, takes.long, s.long, ap length s.lists);
         })
 
-    more : {former : Option V} {limit : ℕ} {es : List (K × V)} (s : Stores R limit old es) → former ≡ find R item.key (entries s.tree) → length (put R item.key item.value (entries s.tree)) ≡ cond (is_some former) (length (entries s.tree)) (length (entries s.tree) + 1)
-    more s is = length-put R o item.key item.value (entries s.tree) (tree_sorted s) ∙ ap (λ (found : Option V). cond (is_some found) (length (entries s.tree)) (length (entries s.tree) + 1)) (sym is)
+    more : {former : Option V} {limit : ℕ} {es : List (K × V)} (s : Stores R limit old es) → former ≡ find R item.key (entries s.tree)
+        → length (put R item.key item.value (entries s.tree)) ≡ cond (is_some former) (length (entries s.tree)) (length (entries s.tree) + 1)
+    more s is = length-put R o item.key item.value (entries s.tree) (tree_sorted s)
+        ∙ ap (λ (found : Option V). cond (is_some found) (length (entries s.tree)) (length (entries s.tree) + 1)) (sym is)
 
     pub gains_new : {made : List (Node K V)} {link : ℕ} → Inserts R mid.nodes.items made mid.root place item mid.len (record { link = link; former = None })
         → Gains R old (record { nodes = with_items mid.nodes made; root = link; free = mid.free; len = mid.len + 1 }) item.key item.value None
@@ -164,7 +183,8 @@ module _ {K V A : Type 0} {R : K → K → Ordering} (o : IsTotalOrder R) where
           );
     }
 
-    pub gains_known : {made : List (Node K V)} {link : ℕ} (former : V) (freed : Node K V) (xs : List (Node K V)) → Inserts R mid.nodes.items made mid.root place item mid.len (record { link = link; former = Some former })
+    pub gains_known : {made : List (Node K V)} {link : ℕ} (former : V) (freed : Node K V) (xs : List (Node K V))
+        → Inserts R mid.nodes.items made mid.root place item mid.len (record { link = link; former = Some former })
         → xs ≡ set (with_items mid.nodes made).items place freed → freed.left ≡ NO_PLACE → freed.right ≡ mid.free
         → Gains R old (record { nodes = with_items (with_items mid.nodes made) xs; root = link; free = place; len = mid.len }) item.key item.value (Some former)
     gains_known {made} {link} former freed xs inserts is no_left next = record {
@@ -186,13 +206,15 @@ module _ {K V A : Type 0} {R : K → K → Ordering} (o : IsTotalOrder R) where
 
   -- The tree without a key, where it had none,
   module _ (old : Arena K V A) (q : K) {mid : List (Node K V)} {link : ℕ} where
-    pub loses_none : Removes R old.nodes.items mid old.root q old.len (record { link = link; taken = None }) → Loses R old (record { nodes = with_items old.nodes mid; root = link; free = old.free; len = old.len }) q None
+    pub loses_none : Removes R old.nodes.items mid old.root q old.len (record { link = link; taken = None })
+        → Loses R old (record { nodes = with_items old.nodes mid; root = link; free = old.free; len = old.len }) q None
     loses_none removes = record {
       stores = λ limit es s.
           let f = s.fills in
           let lacks = removes.makes s.tree f.holds (λ j. omega (arith, f.apart j)) (tree_sorted s) (omega (arith, s.long, ap length s.lists)) in
           let m = lacks.sheds.made in
-          let less = ap (λ (found : Option V). cond (is_some found) 1 0 + length (without R q (entries s.tree))) lacks.former ∙ length_without R o q (entries s.tree) (tree_sorted s) in (
+          let less = ap (λ (found : Option V). cond (is_some found) 1 0 + length (without R q (entries s.tree))) lacks.former
+          ∙ length_without R o q (entries s.tree) (tree_sorted s) in (
             stored old.nodes mid m.long (fills_made f m none_held 0 (λ j. omega (arith, lacks.sheds.takes j)) (omega (arith, less)))
                 (m.lists ∙ ap (without R q) s.lists) (is_sorted-where_key R _ es s.sorted)
                 (omega (arith, s.long, less, ap (λ (fs : List (K × V)). length (without R q fs)) s.lists, ap length s.lists))
@@ -202,7 +224,9 @@ module _ {K V A : Type 0} {R : K → K → Ordering} (o : IsTotalOrder R) where
     }
 
     -- and where it had one, whose place is free then.
-    pub loses_some : (taken : Taken V) (freed : Node K V) (xs : List (Node K V)) → Removes R old.nodes.items mid old.root q old.len (record { link = link; taken = Some taken }) → xs ≡ set mid taken.place freed → freed.left ≡ NO_PLACE → freed.right ≡ old.free
+    pub loses_some : (taken : Taken V) (freed : Node K V) (xs : List (Node K V))
+        → Removes R old.nodes.items mid old.root q old.len (record { link = link; taken = Some taken }) → xs ≡ set mid taken.place freed
+        → freed.left ≡ NO_PLACE → freed.right ≡ old.free
         → Loses R old (record { nodes = with_items old.nodes xs; root = link; free = taken.place; len = old.len - 1 }) q (Some taken.value)
     loses_some taken freed xs removes is left right = record {
       stores = λ limit es s.
@@ -210,7 +234,8 @@ module _ {K V A : Type 0} {R : K → K → Ordering} (o : IsTotalOrder R) where
           let place = taken.place in
           let lacks = removes.makes s.tree f.holds (λ j. omega (arith, f.apart j)) (tree_sorted s) (omega (arith, s.long, ap length s.lists)) in
           let sheds = lacks.sheds in
-          let less = ap (λ (found : Option V). cond (is_some found) 1 0 + length (without R q (entries s.tree))) lacks.former ∙ length_without R o q (entries s.tree) (tree_sorted s) in
+          let less = ap (λ (found : Option V). cond (is_some found) 1 0 + length (without R q (entries s.tree))) lacks.former
+          ∙ length_without R o q (entries s.tree) (tree_sorted s) in
           let pending = fills_made f sheds.made (once place) 1 (λ j. omega (arith, sheds.takes j)) (omega (arith, less)) in
           let within = used_within old.nodes.items s.tree old.root f.holds place (omega (arith, sheds.takes place, once_same place place refl)) in
           let all = freed_fills place freed pending (omega (arith, within, sheds.made.long)) is left right in (
@@ -223,7 +248,8 @@ module _ {K V A : Type 0} {R : K → K → Ordering} (o : IsTotalOrder R) where
     }
 
     -- an arena that loses an entry is not empty
-    pub some_lost : {taken : Taken V} → IsArena R old → Removes R old.nodes.items mid old.root q old.len (record { link = link; taken = Some taken }) → 0 < old.len
+    pub some_lost : {taken : Taken V} → IsArena R old
+        → Removes R old.nodes.items mid old.root q old.len (record { link = link; taken = Some taken }) → 0 < old.len
     some_lost {taken} is removes =
         let s = is.stores in
         let lacks = removes.makes s.tree s.fills.holds (λ j. omega (arith, s.fills.apart j)) (tree_sorted s) (omega (arith, s.long, ap length s.lists)) in
@@ -233,11 +259,13 @@ module _ {K V A : Type 0} {R : K → K → Ordering} (o : IsTotalOrder R) where
         not_empty [] e = absurd (cc)
         not_empty (x ∷ fs) e = omega arith
 
-  pub takes_free : (old : Arena K V A) (first : Parted K V) (xs : List (Node K V)) (steps : ℕ) → HasRoom R old → steps ≡ vec_len old.nodes → Parts old.nodes.items xs old.free steps (Some first)
+  pub takes_free : (old : Arena K V A) (first : Parted K V) (xs : List (Node K V)) (steps : ℕ) → HasRoom R old → steps ≡ vec_len old.nodes
+      → Parts old.nodes.items xs old.free steps (Some first)
       → TakesPlace R old (record { nodes = with_items old.nodes xs; root = old.root; free = first.rest; len = old.len }) first.place
   takes_free old first xs steps room is_len parts =
       let all = is_len ∙ old.nodes.ok.0 in
-      let parted = λ (limit : ℕ) (es : List (K × V)) (s : Stores R limit old es). parts.makes s.fills.spare s.fills.spare_holds (λ j. omega (arith, s.fills.apart j)) (omega (arith, all, s.fills.counted)) in
+      let parted = λ (limit : ℕ) (es : List (K × V)) (s : Stores R limit old es). parts.makes s.fills.spare s.fills.spare_holds
+      (λ j. omega (arith, s.fills.apart j)) (omega (arith, all, s.fills.counted)) in
       let own = parted room.limit room.es room.stores in
       let same = written old.nodes xs own.sheds.made.long in
       record {
@@ -249,27 +277,38 @@ module _ {K V A : Type 0} {R : K → K → Ordering} (o : IsTotalOrder R) where
         long = refl;
       }
 
-  pub takes_new : (old : Arena K V A) (item : Node K V) (xs : List (Node K V)) (steps : ℕ) → HasRoom R old → steps ≡ vec_len old.nodes → Parts old.nodes.items xs old.free steps None
+  pub takes_new : (old : Arena K V A) (item : Node K V) (xs : List (Node K V)) (steps : ℕ) → HasRoom R old → steps ≡ vec_len old.nodes
+      → Parts old.nodes.items xs old.free steps None
       → (v : Vec (Node K V) A) → v.items ≡ (with_items old.nodes xs).items ++ item ∷ [] → vec_capacity v ≡ vec_capacity old.nodes
       → TakesPlace R old (record { nodes = v; root = old.root; free = old.free; len = old.len }) steps
   takes_new old item xs steps room is_len parts v items capacity =
       let all = is_len ∙ old.nodes.ok.0 in
-      let none = λ (limit : ℕ) (es : List (K × V)) (s : Stores R limit old es). parts.makes s.fills.spare s.fills.spare_holds (λ j. omega (arith, s.fills.apart j)) (omega (arith, all, s.fills.counted)) in
+      let none = λ (limit : ℕ) (es : List (K × V)) (s : Stores R limit old es). parts.makes s.fills.spare s.fills.spare_holds
+      (λ j. omega (arith, s.fills.apart j)) (omega (arith, all, s.fills.counted)) in
       let own = none room.limit room.es room.stores in
-      let is : v.items ≡ old.nodes.items ++ item ∷ [] = items ∙ ap (λ (ns : List (Node K V)). ns ++ item ∷ []) (written old.nodes xs (ap length own.1) ∙ own.1) in
+      let is : v.items ≡ old.nodes.items ++ item ∷ [] =
+      items ∙ ap (λ (ns : List (Node K V)). ns ++ item ∷ []) (written old.nodes xs (ap length own.1) ∙ own.1) in
       let longer = ap length is ∙ length-append old.nodes.items (item ∷ []) in
       record {
         holding = λ limit es s less.
             let f = s.fills in
             let spare = ap (λ (u : Tree K V). length (entries u)) (none limit es s).0 in
             let few : length v.items ≤ limit = omega (arith, f.counted, longer, spare, less, ap length s.lists) in
-            let kept = λ (t : Tree K V) (link : ℕ) (h : Holds old.nodes.items t link). Holds-kept old.nodes.items v.items t link (λ _. omega (arith, few, f.short)) h (λ j p. ap (λ (ns : List (Node K V)). slice_get ns j) is ∙ slice_get-front old.nodes.items (item ∷ []) j (used_within old.nodes.items t link h j p)) in
+            let kept = λ (t : Tree K V) (link : ℕ) (h : Holds old.nodes.items t link). Holds-kept old.nodes.items v.items t link
+            (λ _. omega (arith, few, f.short)) h (λ j p. ap (λ (ns : List (Node K V)). slice_get ns j) is
+            ∙ slice_get-front old.nodes.items (item ∷ []) j (used_within old.nodes.items t link h j p)) in
             record {
               spare = f.spare;
               holds = kept s.tree old.root f.holds;
               spare_holds = kept f.spare old.free f.spare_holds;
               apart = λ j. elim (one_or_other steps j) [
-                | inl e ↦ omega (arith, once_same steps j e, uses_within old.nodes.items s.tree old.root f.holds j (omega (arith, e, all)), uses_within old.nodes.items f.spare old.free f.spare_holds j (omega (arith, e, all)))
+                | inl e ↦ omega (
+                  arith,
+                  once_same steps j e,
+                  uses_within old.nodes.items s.tree old.root f.holds j
+                      (omega (arith, e, all)),
+                  uses_within old.nodes.items f.spare old.free f.spare_holds j (omega (arith, e, all)),
+                )
                 | inr e ↦ omega (arith, once_other steps j e, f.apart j)
               ];
               counted = omega (arith, f.counted, longer);
@@ -282,7 +321,8 @@ module _ {K V A : Type 0} {R : K → K → Ordering} (o : IsTotalOrder R) where
       }
 
   -- no entries
-  pub starts : (v : Vec (Node K V) A) (limit : ℕ) → v.items ≡ [] → limit ≤ vec_capacity v → limit < 2 ^ 32 → Stores R limit (record { nodes = v; root = NO_PLACE; free = NO_PLACE; len = 0 }) []
+  pub starts : (v : Vec (Node K V) A) (limit : ℕ) → v.items ≡ [] → limit ≤ vec_capacity v → limit < 2 ^ 32
+      → Stores R limit (record { nodes = v; root = NO_PLACE; free = NO_PLACE; len = 0 }) []
   starts v limit none room short =
       let empty : length v.items ≡ 0 = ap length none in
       record {
@@ -312,7 +352,8 @@ module _ {K V A : Type 0} {R : K → K → Ordering} (o : IsTotalOrder R) where
       none None e = refl
       none (Some p) e = absurd (cc)
 
-  pub locates_some : (a : Arena K V A) (q : K) (place : ℕ) (found : Option (Node K V)) → Finds R a.nodes.items a.root q a.len (Some place) → found ≡ slice_get a.nodes.items place → Locates R a q (option_map (λ n. (place, n)) found)
+  pub locates_some : (a : Arena K V A) (q : K) (place : ℕ) (found : Option (Node K V)) → Finds R a.nodes.items a.root q a.len (Some place)
+      → found ≡ slice_get a.nodes.items place → Locates R a q (option_map (λ n. (place, n)) found)
   locates_some a q place found finds is = record {
     is = λ limit es s.
         ap (option_map (λ n. (place, n))) is

@@ -1,5 +1,6 @@
 -- What is found under a key, and the map of the slots, after a slot is filled or freed.
-use Rattle.std.proofs.Common.{◌≡◌, ◌≢◌, ◌+◌, ◌≤◌, ◌<◌, ℕ, zero, suc, Bool, true, false, cond, T, List, [], ◌∷◌, length, set, Option, Some, None, is_some, refl, sym, ◌∙◌, ap, subst, arith}
+use Rattle.std.proofs.Common.{◌≡◌, ◌≢◌, ◌+◌, ◌≤◌, ◌<◌, ℕ, zero, suc, Bool, true, false, cond, T, List, [], ◌∷◌, length, set, Option, Some, None}
+use Rattle.std.proofs.Common.{is_some, refl, sym, ◌∙◌, ap, subst, arith}
 use Rattle.std.proofs.lemmas.List.{length-set, set-set, set-get_or, get_or-set_same}
 use Rattle.std.specs.declared.cmp.Ordering.{Ordering}
 use Rattle.std.specs.Ordering.{eq_by_cmp}
@@ -32,9 +33,11 @@ module _ {K V : Type 0} where
       set-set slots place None (Some e) ∙ (ap (set slots place) (sym here) ∙ set-get_or slots place None)
 
 -- two keys that compare as equal to a third are one
-clash : {K : Type 0} {R : K → K → Ordering} → IsTotalOrder R → IsAntisymmetric R → (q x y : K) → eq_by_cmp R q x ≡ true → eq_by_cmp R q y ≡ true → eq_by_cmp R y x ≡ false → ⊥
+clash : {K : Type 0} {R : K → K → Ordering} → IsTotalOrder R → IsAntisymmetric R → (q x y : K) → eq_by_cmp R q x ≡ true
+    → eq_by_cmp R q y ≡ true → eq_by_cmp R y x ≡ false → ⊥
 clash {R = R} o exact q x y a b apart =
-    subst T (sym (own_key o exact (λ k. k) x) ∙ (ap (λ k. eq_by_cmp R k x) (sym (same_key o exact (λ k. k) q x a) ∙ same_key o exact (λ k. k) q y b) ∙ apart)) tt
+    subst T (sym (own_key o exact (λ k. k) x)
+    ∙ (ap (λ k. eq_by_cmp R k x) (sym (same_key o exact (λ k. k) q x a) ∙ same_key o exact (λ k. k) q y b) ∙ apart)) tt
 
 module _ {K V : Type 0} {R : K → K → Ordering} (o : IsTotalOrder R) (exact : IsAntisymmetric R) where
   -- the map of the slots has what a scan of them finds
@@ -45,7 +48,8 @@ module _ {K V : Type 0} {R : K → K → Ordering} (o : IsTotalOrder R) (exact :
       get-insert o (slot_map R slots) e.0 e.1 q ∙ ap (cond (eq_by_cmp R q e.0) (Some e.1)) (get-slot_map slots q)
 
   -- what is found once a free slot is filled
-  pub value_at-filled : (slots : List (Option (K × V))) (place : ℕ) (e : K × V) (q : K) → place < length slots → slot slots place ≡ None → value_at R slots e.0 ≡ None
+  pub value_at-filled : (slots : List (Option (K × V))) (place : ℕ) (e : K × V) (q : K) → place < length slots → slot slots place ≡ None
+      → value_at R slots e.0 ≡ None
       → value_at R (set slots place (Some e)) q ≡ cond (eq_by_cmp R q e.0) (Some e.1) (value_at R slots q)
   value_at-filled [] place e q within free none = absurd (omega arith)
   value_at-filled (None ∷ slots) zero e q within free none = refl
@@ -82,7 +86,8 @@ module _ {K V : Type 0} {R : K → K → Ordering} (o : IsTotalOrder R) (exact :
       let within : place < length (set slots place None) = rw length-set (within_slots slots place e here) in
       let again =
       value_at-filled (set slots place None) place e x.0 within (get_or-set_same slots place None None (within_slots slots place e here)) rest.0 in
-      let apart = cond_none (eq_by_cmp R x.0 e.0) e.1 (value_at R (set slots place None) x.0) (sym again ∙ (ap (λ s. value_at R s x.0) (refilled slots place e here) ∙ d.0)) in
+      let apart = cond_none (eq_by_cmp R x.0 e.0) e.1 (value_at R (set slots place None) x.0)
+      (sym again ∙ (ap (λ s. value_at R s x.0) (refilled slots place e here) ∙ d.0)) in
       (ap (λ b. cond b (Some x.1) (value_at R (set slots place None) e.0)) ((eq_by_cmp_equiv o).symm e.0 x.0 ∙ apart.0) ∙ rest.0, (apart.1, rest.1))
 
   -- a free slot that is filled sets its key
@@ -109,7 +114,8 @@ module _ {K V : Type 0} {R : K → K → Ordering} (o : IsTotalOrder R) (exact :
     pub slot_map-removed : slot_map R (set slots place None) ≡ set_at (slot_map R slots) e.0 None
     slot_map-removed =
         sym (ap (λ m. set_at m e.0 None) slot_map-freed
-        ∙ set_at-back o exact (slot_map R (set slots place None)) e.0 None (Some e.1) (get-slot_map (set slots place None) e.0 ∙ (Distinct-freed slots place e here d).0))
+        ∙ set_at-back o exact (slot_map R (set slots place None)) e.0 None (Some e.1) (get-slot_map (set slots place None) e.0
+        ∙ (Distinct-freed slots place e here d).0))
 
     -- the entry is found under its key
     pub value_at-here : value_at R slots e.0 ≡ Some e.1
@@ -118,7 +124,8 @@ module _ {K V : Type 0} {R : K → K → Ordering} (o : IsTotalOrder R) (exact :
         ∙ (value_at-filled (set slots place None) place e e.0 within_freed free (Distinct-freed slots place e here d).0
         ∙ ap (λ b. cond b (Some e.1) (value_at R (set slots place None) e.0)) (own_key o exact (λ k. k) e.0))
 
-  len-taken : (slots : List (Option (K × V))) (e : K × V) → value_at R slots e.0 ≡ None → maps.len (slot_map R (Some e ∷ slots)) ≡ maps.len (slot_map R slots) + 1
+  len-taken : (slots : List (Option (K × V))) (e : K × V) → value_at R slots e.0 ≡ None
+      → maps.len (slot_map R (Some e ∷ slots)) ≡ maps.len (slot_map R slots) + 1
   len-taken slots e none =
       len-insert o (slot_map R slots) e.0 e.1
       ∙ ap (λ at. cond (is_some at) (maps.len (slot_map R slots)) (maps.len (slot_map R slots) + 1)) (get-slot_map slots e.0 ∙ none)

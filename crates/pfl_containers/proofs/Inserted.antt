@@ -1,5 +1,6 @@
 -- A loose slot is put into a ring.
-use Rattle.std.proofs.Common.{◌≡◌, ◌≢◌, ◌⊎◌, inl, inr, ℕ, ◌+◌, ◌<◌, ◌≤◌, List, [], ◌∷◌, ◌++◌, length, get_or, set, slice_get, Some, refl, sym, ◌∙◌, ap, subst, arith, get_or-set_same, get_or-set_other, length-set}
+use Rattle.std.proofs.Common.{◌≡◌, ◌≢◌, ◌⊎◌, inl, inr, ℕ, ◌+◌, ◌<◌, ◌≤◌, List, [], ◌∷◌, ◌++◌, length, get_or, set, slice_get, Some, refl, sym, ◌∙◌}
+use Rattle.std.proofs.Common.{ap, subst, arith, get_or-set_same, get_or-set_other, length-set}
 use Rattle.std.proofs.lemmas.Bool.{cases_eq}
 use Rattle.std.proofs.lemmas.Option.{slice_get_within, slice_get_past}
 use Rattle.pfl_containers.specs.Lists.{Link, link, last_from, Lacks}
@@ -9,8 +10,10 @@ use Rattle.pfl_containers.proofs.Paths.{path-first, path-rest, path-known, path-
 use Rattle.pfl_containers.proofs.Walked.{each-set}
 
 -- The loose slot x, with the value v, is put into ring k after the node p.
-module _ {V : Type 0} (old new : Nodes) (values : List V) (limit : ℕ) (rings : List (List (Link V))) (x : ℕ) (a : AreRings old values limit x rings) (few : length values ≤ limit)
-    (v : V) (at : slice_get values x ≡ Some v) (k : ℕ) (within : k < length rings) (f b : List (Link V)) (split : get_or rings k [] ≡ f ++ b) (p : ℕ) (ends : last_from (limit + k) f ≡ p) where
+module _ {V : Type 0} (old new : Nodes) (values : List V) (limit : ℕ) (rings : List (List (Link V))) (x : ℕ)
+    (a : AreRings old values limit x rings) (few : length values ≤ limit)
+    (v : V) (at : slice_get values x ≡ Some v) (k : ℕ) (within : k < length rings) (f b : List (Link V))
+    (split : get_or rings k [] ≡ f ++ b) (p : ℕ) (ends : last_from (limit + k) f ≡ p) where
   own : IsRing old values x k (limit + k) (f ++ b)
   own = subst (IsRing old values x k (limit + k)) split (a.each k within)
 
@@ -24,10 +27,13 @@ module _ {V : Type 0} (old new : Nodes) (values : List V) (limit : ℕ) (rings :
   place_is : (g : List (Link V)) → g ≡ f → (p ≡ limit + k) ⊎ ((ring_of old p ≡ k) × (p < length values))
   place_is [] e = inl (sym ends ∙ ap (last_from (limit + k)) (sym e))
   place_is (y ∷ g) e =
-      let path : Path old k (limit + k) (y ∷ (g ++ b)) (limit + k) = subst (λ (m : List (Link V)). Path old k (limit + k) (m ++ b) (limit + k)) (sym e) own.path in
+      let path : Path old k (limit + k) (y ∷ (g ++ b)) (limit + k) =
+      subst (λ (m : List (Link V)). Path old k (limit + k) (m ++ b) (limit + k)) (sym e) own.path in
       let held : Holds values (y ∷ (g ++ b)) = subst (λ (m : List (Link V)). Holds values (m ++ b)) (sym e) own.held in
       let is : last_from y.slot g ≡ p = ap (last_from (limit + k)) e ∙ ends in
-      inr (subst (λ n. (ring_of old n ≡ k) × (n < length values)) is (path-known old values k y.slot g b (limit + k) path.3 held.1 (path.2, slice_get_within values y.slot y.value held.0)))
+      inr (subst (λ n. (ring_of old n ≡ k)
+      × (n < length values)) is
+      (path-known old values k y.slot g b (limit + k) path.3 held.1 (path.2, slice_get_within values y.slot y.value held.0)))
 
   slot-number : (i : ℕ) → i < length values → IsNumber (length values) limit (length rings) i
   slot-number i h = record { below = omega arith; slot = λ _. h }
@@ -41,7 +47,8 @@ module _ {V : Type 0} (old new : Nodes) (values : List V) (limit : ℕ) (rings :
   rest : Path old k p b (limit + k)
   rest = subst (λ n. Path old k n b (limit + k)) ends (path-rest old k (limit + k) f b (limit + k) own.path)
 
-  next_is : (g : List (Link V)) → Path old k p g (limit + k) → Holds values g → Lacks x g → IsNumber (length values) limit (length rings) (next_of old p) × (x ≢ next_of old p)
+  next_is : (g : List (Link V)) → Path old k p g (limit + k) → Holds values g → Lacks x g
+      → IsNumber (length values) limit (length rings) (next_of old p) × (x ≢ next_of old p)
   next_is [] q h l = (head-number (next_of old p) q.0, λ e. no_sentinel k (sym (e ∙ q.0)))
   next_is (y ∷ g) q h l = (slot-number (next_of old p) (omega (arith, q.0, slice_get_within values y.slot y.value h.0)), λ e. l.0 (sym (e ∙ q.0)))
 
@@ -59,7 +66,11 @@ module _ {V : Type 0} (old new : Nodes) (values : List V) (limit : ℕ) (rings :
     others_lack : (r : ℕ) → r < length rings → r ≢ k → Lacks p (get_or rings r []) × (limit + r ≢ p)
     others_lack r h other = let ring = a.each r h in elim (place_is f refl) [
       | inl e ↦ (Holds-Lacks values p (get_or rings r []) (slice_get_past values p (omega arith)) ring.held, λ same. absurd (other (omega arith)))
-      | inr known ↦ (path-Lacks old r (limit + r) (get_or rings r []) (limit + r) p ring.path (λ same. other (sym same ∙ known.0)), λ same. absurd (omega arith))
+      | inr known ↦ (
+        path-Lacks old r (limit + r) (get_or rings r []) (limit + r) p ring.path
+            (λ same. other (sym same ∙ known.0)),
+        λ same. absurd (omega arith),
+      )
     ]
 
     ring_kept : (r : ℕ) → r < length rings → r ≢ k → IsRing new values (length values) r (limit + r) (get_or rings r [])
@@ -84,13 +95,15 @@ module _ {V : Type 0} (old new : Nodes) (values : List V) (limit : ℕ) (rings :
 
     stands_here : (r : ℕ) → r ≡ k → Lacks x (get_or (set rings k (f ++ link x v ∷ b)) r []) → ⊥
     stands_here r same lacks =
-        let here : get_or (set rings k (f ++ link x v ∷ b)) r [] ≡ f ++ link x v ∷ b = ap (λ n. get_or (set rings k (f ++ link x v ∷ b)) n []) same ∙ get_or-set_same rings k (f ++ link x v ∷ b) [] within in
+        let here : get_or (set rings k (f ++ link x v ∷ b)) r [] ≡ f ++ link x v ∷ b =
+        ap (λ n. get_or (set rings k (f ++ link x v ∷ b)) n []) same ∙ get_or-set_same rings k (f ++ link x v ∷ b) [] within in
         (Lacks-back x f (link x v ∷ b) (subst (Lacks x) here lacks)).0 refl
 
     still_stands : (y : ℕ) → y < length values → y ≢ x → Lacks y (get_or (set rings k (f ++ link x v ∷ b)) (ring_of old y) []) → ⊥
     still_stands y h ne lacks = elim (cases_eq (ring_of old y) k) [
       | inl same ↦
-          let here : get_or (set rings k (f ++ link x v ∷ b)) (ring_of old y) [] ≡ f ++ link x v ∷ b = ap (λ n. get_or (set rings k (f ++ link x v ∷ b)) n []) same ∙ get_or-set_same rings k (f ++ link x v ∷ b) [] within in
+          let here : get_or (set rings k (f ++ link x v ∷ b)) (ring_of old y) [] ≡ f ++ link x v ∷ b =
+          ap (λ n. get_or (set rings k (f ++ link x v ∷ b)) n []) same ∙ get_or-set_same rings k (f ++ link x v ∷ b) [] within in
           let less = Lacks-without y f (link x v) b (subst (Lacks y) here lacks) in
           a.stands y h ne (subst (Lacks y) (sym (ap (λ r. get_or rings r []) same ∙ split)) less)
       | inr other ↦ a.stands y h ne (subst (Lacks y) (get_or-set_other rings k (ring_of old y) (f ++ link x v ∷ b) [] other) lacks)
@@ -104,7 +117,8 @@ module _ {V : Type 0} (old new : Nodes) (values : List V) (limit : ℕ) (rings :
         | inr other ↦ omega (arith, i.other_ring y other, a.within y h other, length-set rings k (f ++ link x v ∷ b))
       ];
       stands = λ y h _ lacks. elim (cases_eq y x) [
-        | inl same ↦ stands_here (ring_of new y) (ap (ring_of new) same ∙ i.ring_here) (subst (λ n. Lacks n (get_or (set rings k (f ++ link x v ∷ b)) (ring_of new y) [])) same lacks)
+        | inl same ↦ stands_here (ring_of new y) (ap (ring_of new) same ∙ i.ring_here)
+            (subst (λ n. Lacks n (get_or (set rings k (f ++ link x v ∷ b)) (ring_of new y) [])) same lacks)
         | inr other ↦ still_stands y h other (subst (λ r. Lacks y (get_or (set rings k (f ++ link x v ∷ b)) r [])) (i.other_ring y other) lacks)
       ];
     }

@@ -1,8 +1,10 @@
 -- What chains keep, and that it is so again when a slot was taken, put into a list or taken out of one.
-use Rattle.std.proofs.Common.{◌≡◌, ◌≢◌, ℕ, zero, suc, ◌+◌, ◌<◌, ◌≤◌, ◌^◌, List, [], ◌∷◌, ◌++◌, length, get_or, set, drop, slice_get, Some, None, true, false, cond, ltb, refl, sym, ◌∙◌, ap, subst, arith, add-zero, length-set, length-append}
+use Rattle.std.proofs.Common.{◌≡◌, ◌≢◌, ℕ, zero, suc, ◌+◌, ◌<◌, ◌≤◌, ◌^◌, List, [], ◌∷◌, ◌++◌, length, get_or, set, drop, slice_get, Some, None, true}
+use Rattle.std.proofs.Common.{false, cond, ltb, refl, sym, ◌∙◌, ap, subst, arith, add-zero, length-set, length-append}
 use Rattle.std.proofs.lemmas.Option.{slice_get_within}
 use Rattle.pfl_containers.specs.Lists.{Link, link, last_from, count_of, first_slot, last_slot}
-use Rattle.pfl_containers.specs.inner.Rings.{Nodes, next_of, Path, Holds, walk, rings_from, previous_of, slot_of, IsNumber, IsRing, AreRings, IsKept, Takes, Unlinks, Inserts}
+use Rattle.pfl_containers.specs.inner.Rings.{Nodes, next_of, Path, Holds, walk, rings_from, previous_of, slot_of, IsNumber, IsRing, AreRings, IsKept}
+use Rattle.pfl_containers.specs.inner.Rings.{Takes, Unlinks, Inserts}
 use Rattle.pfl_containers.proofs.Links.{last-Holds, count-set, Holds-front, Holds-back}
 use Rattle.pfl_containers.proofs.Paths.{path-last, path-front, path-back}
 use Rattle.pfl_containers.proofs.Walked.{rings_from-are, rings-renewed, rings-written}
@@ -21,15 +23,20 @@ module _ {V : Type 0} where
   length-rings_from nodes values s (suc n) = ap suc (length-rings_from nodes values (suc s) n)
 
   -- what the node after the start of a path, and the one before its end, say of its links
-  pub slot-first : (nodes : Nodes) (values : List V) (limit r s : ℕ) (l : List (Link V)) (e : ℕ) → Path nodes r s l e → Holds values l → length values ≤ limit → limit ≤ e → slot_of limit (next_of nodes s) ≡ first_slot l
+  pub slot-first : (nodes : Nodes) (values : List V) (limit r s : ℕ) (l : List (Link V)) (e : ℕ) → Path nodes r s l e → Holds values l
+      → length values ≤ limit → limit ≤ e → slot_of limit (next_of nodes s) ≡ first_slot l
   slot-first nodes values limit r s [] e p h few out = ap (slot_of limit) p.0 ∙ slot_of-none limit e out
-  slot-first nodes values limit r s (x ∷ l) e p h few out = ap (slot_of limit) p.0 ∙ slot_of-slot limit x.slot (omega (arith, slice_get_within values x.slot x.value h.0))
+  slot-first nodes values limit r s (x ∷ l) e p h few out = ap (slot_of limit) p.0
+      ∙ slot_of-slot limit x.slot (omega (arith, slice_get_within values x.slot x.value h.0))
 
-  last-slot : (values : List V) (limit s : ℕ) (l : List (Link V)) → Holds values l → length values ≤ limit → limit ≤ s → slot_of limit (last_from s l) ≡ last_slot l
+  last-slot : (values : List V) (limit s : ℕ) (l : List (Link V)) → Holds values l → length values ≤ limit → limit ≤ s
+      → slot_of limit (last_from s l) ≡ last_slot l
   last-slot values limit s [] h few out = slot_of-none limit s out
-  last-slot values limit s (x ∷ l) h few out = slot_of-slot limit (last_from x.slot l) (omega (arith, last-Holds values x.slot l (slice_get_within values x.slot x.value h.0) h.1))
+  last-slot values limit s (x ∷ l) h few out =
+      slot_of-slot limit (last_from x.slot l) (omega (arith, last-Holds values x.slot l (slice_get_within values x.slot x.value h.0) h.1))
 
-  pub slot-last : (nodes : Nodes) (values : List V) (limit r s : ℕ) (l : List (Link V)) (e : ℕ) → Path nodes r s l e → Holds values l → length values ≤ limit → limit ≤ s → slot_of limit (previous_of nodes e) ≡ last_slot l
+  pub slot-last : (nodes : Nodes) (values : List V) (limit r s : ℕ) (l : List (Link V)) (e : ℕ) → Path nodes r s l e → Holds values l
+      → length values ≤ limit → limit ≤ s → slot_of limit (previous_of nodes e) ≡ last_slot l
   slot-last nodes values limit r s l e p h few out = ap (slot_of limit) (path-last nodes r s l e p).1 ∙ last-slot values limit s l h few out
 
   -- both have nodes
@@ -37,7 +44,8 @@ module _ {V : Type 0} where
     number : (i : ℕ) → i < length values → IsNumber (length values) limit heads i
     number i h = record { below = omega arith; slot = λ _. h }
 
-    next-number : (r s : ℕ) (l : List (Link V)) (e : ℕ) → Path nodes r s l e → Holds values l → IsNumber (length values) limit heads e → IsNumber (length values) limit heads (next_of nodes s)
+    next-number : (r s : ℕ) (l : List (Link V)) (e : ℕ) → Path nodes r s l e → Holds values l → IsNumber (length values) limit heads e
+        → IsNumber (length values) limit heads (next_of nodes s)
     next-number r s [] e p h end = subst (IsNumber (length values) limit heads) (sym p.0) end
     next-number r s (x ∷ l) e p h end = number (next_of nodes s) (omega (arith, p.0, slice_get_within values x.slot x.value h.0))
 
@@ -45,15 +53,18 @@ module _ {V : Type 0} where
     last-number s [] h start = start
     last-number s (x ∷ l) h start = number (last_from x.slot l) (last-Holds values x.slot l (slice_get_within values x.slot x.value h.0) h.1)
 
-    previous-number : (r s : ℕ) (l : List (Link V)) (e : ℕ) → Path nodes r s l e → Holds values l → IsNumber (length values) limit heads s → IsNumber (length values) limit heads (previous_of nodes e)
+    previous-number : (r s : ℕ) (l : List (Link V)) (e : ℕ) → Path nodes r s l e → Holds values l → IsNumber (length values) limit heads s
+        → IsNumber (length values) limit heads (previous_of nodes e)
     previous-number r s l e p h start = subst (IsNumber (length values) limit heads) (sym (path-last nodes r s l e p).1) (last-number s l h start)
 
   -- where these are the rings, the walks find them
   pub kept-new : (nodes : Nodes) (values : List V) (limit lists len : ℕ) (free : List (Link V)) (all : List (List (Link V)))
       → limit + suc lists ≤ 2 ^ 32 → length values ≤ limit → length all ≡ lists → AreRings nodes values limit (length values) (free ∷ all)
-      → length free + count_of all ≡ length values → count_of all ≡ len → IsKept nodes values limit lists len × (rings_from nodes values (suc limit) lists ≡ all)
+      → length free + count_of all ≡ length values → count_of all ≡ len → IsKept nodes values limit lists len
+      × (rings_from nodes values (suc limit) lists ≡ all)
   kept-new nodes values limit lists len free all small few many a used linked =
-      let whole : rings_from nodes values limit (suc (length all)) ≡ free ∷ all = rings_from-are nodes values limit (length values) (free ∷ all) a few (omega arith) in
+      let whole : rings_from nodes values limit (suc (length all)) ≡ free ∷ all =
+      rings_from-are nodes values limit (length values) (free ∷ all) a few (omega arith) in
       let is : rings_from nodes values limit (suc lists) ≡ free ∷ all = subst (λ n. rings_from nodes values limit (suc n) ≡ free ∷ all) many whole in
       let rest : rings_from nodes values (suc limit) lists ≡ all = ap (drop (suc zero)) is in (
         record {
@@ -72,14 +83,16 @@ pub record IsNear (nodes : Nodes) (used limit heads x : ℕ) : Type 0 where
   pub previous : IsNumber used limit heads (previous_of nodes x)
   pub next : IsNumber used limit heads (next_of nodes x)
 
-pub near : {V : Type 0} (nodes : Nodes) (values : List V) (limit heads loose r : ℕ) (x : ℕ) (v : V) (f b : List (Link V)) → IsRing nodes values loose r (limit + r) (f ++ link x v ∷ b) → length values ≤ limit → r < heads
+pub near : {V : Type 0} (nodes : Nodes) (values : List V) (limit heads loose r : ℕ) (x : ℕ) (v : V) (f b : List (Link V))
+    → IsRing nodes values loose r (limit + r) (f ++ link x v ∷ b) → length values ≤ limit → r < heads
     → IsNear nodes (length values) limit heads x
 near nodes values limit heads loose r x v f b ring few within =
     let head : IsNumber (length values) limit heads (limit + r) = record { below = omega arith; slot = λ h. absurd (omega arith) } in
     let held = Holds-back values f (link x v ∷ b) ring.held in
     record {
       slot = slice_get_within values x v held.0;
-      previous = previous-number nodes values limit heads few r (limit + r) f x (path-front nodes r (limit + r) f (link x v) b (limit + r) ring.path) (Holds-front values f (link x v ∷ b) ring.held) head;
+      previous = previous-number nodes values limit heads few r (limit + r) f x
+          (path-front nodes r (limit + r) f (link x v) b (limit + r) ring.path) (Holds-front values f (link x v ∷ b) ring.held) head;
       next = next-number nodes values limit heads few r x b (limit + r) (path-back nodes r (limit + r) f (link x v) b (limit + r) ring.path).1 held.1 head;
     }
 
@@ -107,7 +120,8 @@ module _ {V : Type 0} where
   slice_get-set_other (x ∷ values) (suc k) (suc i) w v ne e = slice_get-set_other values k i w v (λ same. ne (ap suc same)) e
 
   -- the free slots, by what stands after the start of their ring
-  none_free : (nodes : Nodes) (values : List V) (limit : ℕ) (l : List (Link V)) → Path nodes 0 limit l limit → Holds values l → length values ≤ limit → next_of nodes limit ≡ limit → l ≡ []
+  none_free : (nodes : Nodes) (values : List V) (limit : ℕ) (l : List (Link V)) → Path nodes 0 limit l limit → Holds values l
+      → length values ≤ limit → next_of nodes limit ≡ limit → l ≡ []
   none_free nodes values limit [] p h few e = refl
   none_free nodes values limit (x ∷ l) p h few e = absurd (omega (arith, p.0, slice_get_within values x.slot x.value h.0))
 
@@ -136,12 +150,15 @@ module _ {V : Type 0} (nodes : Nodes) (values : List V) (limit lists len : ℕ) 
 
   -- no slot was given back: the next that was never used is taken
   pub fresh-room : next_of nodes limit ≡ limit → len < limit → length values < limit
-  fresh-room e room = let none = none_free nodes values limit free free-ring.path free-ring.held kept.few e in omega (arith, kept.used, kept.linked, ap length none)
+  fresh-room e room = let none = none_free nodes values limit free free-ring.path free-ring.held kept.few e
+      in omega (arith, kept.used, kept.linked, ap length none)
 
-  pub take-fresh : (value : V) → next_of nodes limit ≡ limit → len < limit → (new : Nodes) → ((i : ℕ) → i ≢ length values → new i ≡ nodes i) → Takes nodes new values (values ++ value ∷ []) limit lists (length values) value
+  pub take-fresh : (value : V) → next_of nodes limit ≡ limit → len < limit → (new : Nodes)
+      → ((i : ℕ) → i ≢ length values → new i ≡ nodes i) → Takes nodes new values (values ++ value ∷ []) limit lists (length values) value
   take-fresh value e room new others =
       let none = none_free nodes values limit free free-ring.path free-ring.held kept.few e in
-      let rings : AreRings nodes values limit (length values) ([] ∷ all) = subst (λ (l : List (Link V)). AreRings nodes values limit (length values) (l ∷ all)) none kept.rings in
+      let rings : AreRings nodes values limit (length values) ([] ∷ all) =
+      subst (λ (l : List (Link V)). AreRings nodes values limit (length values) (l ∷ all)) none kept.rings in
       record {
         few = omega (arith, fresh-room e room, length-append values (value ∷ []));
         there = slice_get-push values value;
@@ -160,10 +177,13 @@ module _ {V : Type 0} (nodes : Nodes) (values : List V) (limit lists len : ℕ) 
   pub back-near : next_of nodes limit ≢ limit → IsNear nodes (length values) limit (suc lists) (next_of nodes limit)
   back-near ne =
       let at = back-ring ne in
-      let ring : IsRing nodes values (length values) 0 (limit + 0) free = subst (λ s. IsRing nodes values (length values) 0 s free) (sym (add-zero limit)) free-ring in
-      near nodes values limit (suc lists) (length values) 0 (next_of nodes limit) at.value [] at.rest (subst (IsRing nodes values (length values) 0 (limit + 0)) at.split ring) kept.few (omega arith)
+      let ring : IsRing nodes values (length values) 0 (limit + 0) free =
+      subst (λ s. IsRing nodes values (length values) 0 s free) (sym (add-zero limit)) free-ring in
+      near nodes values limit (suc lists) (length values) 0 (next_of nodes limit) at.value [] at.rest
+      (subst (IsRing nodes values (length values) 0 (limit + 0)) at.split ring) kept.few (omega arith)
 
-  pub take-back : (value : V) (ne : next_of nodes limit ≢ limit) (new : Nodes) → Unlinks nodes new (next_of nodes limit) → Takes nodes new values (set values (next_of nodes limit) value) limit lists (next_of nodes limit) value
+  pub take-back : (value : V) (ne : next_of nodes limit ≢ limit) (new : Nodes) → Unlinks nodes new (next_of nodes limit)
+      → Takes nodes new values (set values (next_of nodes limit) value) limit lists (next_of nodes limit) value
   take-back value ne new u =
       let at = back-ring ne in
       let x = next_of nodes limit in
@@ -201,12 +221,14 @@ module _ {V : Type 0} (nodes : Nodes) (values : List V) (limit lists len : ℕ) 
     pub put-apart : slot ≢ p
     put-apart = inserted-apart new new now limit (t.free ∷ all) slot t.rings t.few value t.there (suc k) within f b split p ends
 
-    pub put-kept : (last : Nodes) → Inserts new last (suc k) slot p → IsKept last now limit lists (suc len) × (rings_from last now (suc limit) lists ≡ set all k (f ++ link slot value ∷ b))
+    pub put-kept : (last : Nodes) → Inserts new last (suc k) slot p → IsKept last now limit lists (suc len)
+        × (rings_from last now (suc limit) lists ≡ set all k (f ++ link slot value ∷ b))
     put-kept last i =
         let more = f ++ link slot value ∷ b in
         let count = count-set all k more (omega (arith, length-rings_from nodes values (suc limit) lists)) in
         let longer : length more ≡ suc (length (get_or all k [])) = omega (arith, length-append f (link slot value ∷ b), ap length split, length-append f b) in
-        kept-new last now limit lists (suc len) t.free (set all k more) kept.small t.few (length-set all k more ∙ length-rings_from nodes values (suc limit) lists)
+        kept-new last now limit lists (suc len) t.free (set all k more) kept.small t.few (length-set all k more
+        ∙ length-rings_from nodes values (suc limit) lists)
         (rings-inserted new last now limit (t.free ∷ all) slot t.rings t.few value t.there (suc k) within f b split p ends i)
         (omega (arith, t.used, count, longer)) (omega (arith, kept.linked, count, longer))
 
@@ -223,17 +245,26 @@ module _ {V : Type 0} (nodes : Nodes) (values : List V) (limit lists len : ℕ) 
 
     module _ (new : Nodes) (u : Unlinks nodes new x) where
       less : AreRings new values limit x (free ∷ set all k (f ++ b))
-      less = rings-unlinked nodes new values limit (free ∷ all) kept.rings kept.few (suc k) (omega (arith, length-rings_from nodes values (suc limit) lists)) x v f b split u
+      less = rings-unlinked nodes new values limit (free ∷ all) kept.rings kept.few (suc k)
+          (omega (arith, length-rings_from nodes values (suc limit) lists)) x v f b split u
 
       pub drop-next : IsNumber (length values) limit (suc lists) (next_of new limit) × (x ≢ next_of new limit)
       drop-next =
-          let next = inserted-next new new values limit (free ∷ set all k (f ++ b)) x less kept.few v drop-there 0 (omega arith) [] free refl limit (add-zero limit) in
-          (record { below = omega (arith, next.0.below, length-set all k (f ++ b), length-rings_from nodes values (suc limit) lists); slot = next.0.slot }, next.1)
+          let next = inserted-next new new values limit (free ∷ set all k (f ++ b)) x less kept.few v drop-there 0
+          (omega arith) [] free refl limit (add-zero limit) in (
+            record {
+              below = omega (arith, next.0.below, length-set all k (f ++ b), length-rings_from nodes values (suc limit) lists);
+              slot = next.0.slot;
+            },
+            next.1,
+          )
 
-      pub drop-kept : (last : Nodes) → Inserts new last 0 x limit → (less : ℕ) → suc less ≡ len → IsKept last values limit lists less × (rings_from last values (suc limit) lists ≡ set all k (f ++ b))
+      pub drop-kept : (last : Nodes) → Inserts new last 0 x limit → (less : ℕ) → suc less ≡ len → IsKept last values limit lists less
+          × (rings_from last values (suc limit) lists ≡ set all k (f ++ b))
       drop-kept last i fewer one =
           let count = count-set all k (f ++ b) (omega (arith, length-rings_from nodes values (suc limit) lists)) in
           let shorter : suc (length (f ++ b)) ≡ length (get_or all k []) = omega (arith, length-append f (link x v ∷ b), ap length split, length-append f b) in
-          kept-new last values limit lists fewer (link x v ∷ free) (set all k (f ++ b)) kept.small kept.few (length-set all k (f ++ b) ∙ length-rings_from nodes values (suc limit) lists)
+          kept-new last values limit lists fewer (link x v ∷ free) (set all k (f ++ b)) kept.small kept.few (length-set all k (f ++ b)
+          ∙ length-rings_from nodes values (suc limit) lists)
           (rings-inserted new last values limit (free ∷ set all k (f ++ b)) x less kept.few v drop-there 0 (omega arith) [] free refl limit (add-zero limit) i)
           (omega (arith, kept.used, count, shorter)) (omega (arith, kept.linked, count, shorter))

@@ -1,5 +1,6 @@
 -- Lists of links: the slots that they have, and the values of these.
-use Rattle.std.proofs.Common.{◌≡◌, ◌≢◌, inl, inr, ℕ, zero, suc, ◌+◌, ◌<◌, ◌≤◌, List, [], ◌∷◌, ◌++◌, length, get_or, set, slice_get, Some, None, sym, ◌∙◌, ap, arith}
+use Rattle.std.proofs.Common.{◌≡◌, ◌≢◌, inl, inr, ℕ, zero, suc, ◌+◌, ◌<◌, ◌≤◌, List, [], ◌∷◌, ◌++◌, length, get_or, set, slice_get, Some, None, sym}
+use Rattle.std.proofs.Common.{◌∙◌, ap, arith}
 use Rattle.std.proofs.lemmas.Bool.{cases_eq}
 use Rattle.std.proofs.lemmas.Option.{slice_get_within}
 use Rattle.pfl_containers.specs.Lists.{Link, link, count_of, last_from, Lacks, Distinct}
@@ -88,12 +89,14 @@ module _ {V : Type 0} where
       (other, Holds-Lacks values x l e h.1)
 
   -- a value changed at a slot that they lack
-  pub Holds-changed : (old new : List V) (x : ℕ) (l : List (Link V)) → ((i : ℕ) (v : V) → i ≢ x → slice_get old i ≡ Some v → slice_get new i ≡ Some v) → Lacks x l → Holds old l → Holds new l
+  pub Holds-changed : (old new : List V) (x : ℕ) (l : List (Link V))
+      → ((i : ℕ) (v : V) → i ≢ x → slice_get old i ≡ Some v → slice_get new i ≡ Some v) → Lacks x l → Holds old l → Holds new l
   Holds-changed old new x [] keep p h = tt
   Holds-changed old new x (y ∷ l) keep p h = (keep y.slot y.value p.0 h.0, Holds-changed old new x l keep p.1 h.1)
 
   -- what a count of all links says of one list
-  pub count-set : (lists : List (List (Link V))) (k : ℕ) (l : List (Link V)) → k < length lists → count_of (set lists k l) + length (get_or lists k []) ≡ count_of lists + length l
+  pub count-set : (lists : List (List (Link V))) (k : ℕ) (l : List (Link V)) → k < length lists
+      → count_of (set lists k l) + length (get_or lists k []) ≡ count_of lists + length l
   count-set [] k l h = absurd (omega arith)
   count-set (x ∷ lists) zero l h = omega arith
   count-set (x ∷ lists) (suc k) l h = omega (arith, count-set lists k l (omega arith))

@@ -30,4 +30,5 @@ module _ {V : Type 0} where
         within = λ x h ne. absurd (omega arith);
         stands = λ x h ne. absurd (omega arith);
       } in
-      kept-new nodes [] limit lists 0 [] none small (omega arith) (length-replicate lists []) rings (omega (arith, no_links [] lists refl)) (no_links [] lists refl)
+      kept-new nodes [] limit lists 0 [] none small (omega arith) (length-replicate lists []) rings (omega (arith, no_links [] lists refl))
+      (no_links [] lists refl)

@@ -56,7 +56,8 @@ module _ {K X Y : Type 0} (R : K → K → Ordering) (f : X → Y) where
 
   -- what it has at a key
   pub get-map_values : (m : Map R X) (q : K) → maps.get (map_values f m) q ≡ option_map f (maps.get m q)
-  get-map_values m q = get-entries (map_values f m) q ∙ (ap (find R q) (entries-map_values m) ∙ (find_at q (maps.entries m) ∙ ap (option_map f) (sym (get-entries m q))))
+  get-map_values m q = get-entries (map_values f m) q
+      ∙ (ap (find R q) (entries-map_values m) ∙ (find_at q (maps.entries m) ∙ ap (option_map f) (sym (get-entries m q))))
 
   -- it is as long
   pub len-map_values : (m : Map R X) → maps.len (map_values f m) ≡ maps.len m

@@ -1,5 +1,6 @@
 -- What each call of a map does to what contracts see of it.
-use Rattle.std.proofs.Common.{◌≡◌, ◌≤◌, ◌<◌, ◌+◌, ℕ, zero, suc, cond, T, List, [], length, length-append, ◌∷◌, Option, Some, None, is_some, refl, sym, ap, subst, ◌∙◌, arith}
+use Rattle.std.proofs.Common.{◌≡◌, ◌≤◌, ◌<◌, ◌+◌, ℕ, zero, suc, cond, T, List, [], length, length-append, ◌∷◌, Option, Some, None, is_some, refl, sym}
+use Rattle.std.proofs.Common.{ap, subst, ◌∙◌, arith}
 use Rattle.std.specs.Prelude.{slice_get, find as first_with}
 use Rattle.std.specs.Option.{option_map}
 use Rattle.std.proofs.lemmas.Option.{slice_get_past}
@@ -25,10 +26,12 @@ module _ {K V : Type 0} where
   step nodes steps i found = elim found [ None ↦ leaf | Some n ↦ fork (tree_at nodes steps n.left) i n (tree_at nodes steps n.right) ]
 
   -- a tree is read as what stands there
-  tree_at-holds : (nodes : List (Node K V)) (t : Tree K V) (link : ℕ) (steps : ℕ) → Holds nodes t link → length (entries t) ≤ steps → tree_at nodes steps link ≡ t
+  tree_at-holds : (nodes : List (Node K V)) (t : Tree K V) (link : ℕ) (steps : ℕ) → Holds nodes t link → length (entries t) ≤ steps
+      → tree_at nodes steps link ≡ t
   unfolding tree_at
   tree_at-holds nodes leaf link zero h d = refl
-  tree_at-holds nodes leaf link (suc steps) h d = let past : length nodes ≤ link = omega (arith, h.0, h.1) in ap (step nodes steps link) (slice_get_past nodes link past)
+  tree_at-holds nodes leaf link (suc steps) h d = let past : length nodes ≤ link = omega (arith, h.0, h.1)
+      in ap (step nodes steps link) (slice_get_past nodes link past)
   tree_at-holds nodes (fork l i n r) link zero h d = absurd (omega (arith, length-append (entries l) ((n.key, n.value) ∷ entries r)))
   tree_at-holds nodes (fork l i n r) link (suc steps) h d =
       let e = length-append (entries l) ((n.key, n.value) ∷ entries r) in
@@ -56,7 +59,8 @@ module _ {K V A : Type 0} {R : K → K → Ordering} (o : IsTotalOrder R) (limit
   got : {found : Option (ℕ × Node K V)} → Locates R a q found → option_map (λ p. p.1.value) found ≡ maps.get (map_of R (listed a)) q
   got l =
       ap (option_map (λ p. p.1.value)) (l.is limit (listed a) s)
-      ∙ (sym (find-under o s.tree q (subst (λ (es : List (K × V)). T (is_sorted R es)) (sym s.lists) s.sorted)) ∙ (ap (find R q) s.lists ∙ sym (get-map_of R (listed a) q s.sorted)))
+      ∙ (sym (find-under o s.tree q (subst (λ (es : List (K × V)). T (is_sorted R es)) (sym s.lists) s.sorted))
+      ∙ (ap (find R q) s.lists ∙ sym (get-map_of R (listed a) q s.sorted)))
 
   -- what stood there
   pub former_some : {place : ℕ} {node : Node K V} → Locates R a q (Some (place, node)) → Some node.value ≡ maps.get (map_of R (listed a)) q
@@ -66,7 +70,8 @@ module _ {K V A : Type 0} {R : K → K → Ordering} (o : IsTotalOrder R) (limit
   former_none l = got l
 
   -- and where another value is put there
-  pub former_before : {new : Arena K V A} {v : V} {former : Option V} → length (listed a) < limit → Gains R a new q v former → former ≡ maps.get (map_of R (listed a)) q
+  pub former_before : {new : Arena K V A} {v : V} {former : Option V} → length (listed a) < limit → Gains R a new q v former
+      → former ≡ maps.get (map_of R (listed a)) q
   former_before less gains = (gains.stores limit (listed a) s less).1 ∙ sym (get-map_of R (listed a) q s.sorted)
 
   -- and where it is given as it is taken out
@@ -75,7 +80,8 @@ module _ {K V A : Type 0} {R : K → K → Ordering} (o : IsTotalOrder R) (limit
 
   module _ (at : Option V) where
     -- another value under the key
-    pub entry_changed : {new : Arena K V A} {place : ℕ} {node : Node K V} (v : V) → Locates R a q (Some (place, node)) → Changes R a new place node v → at ≡ Some v → SetsEntry R limit new (listed a) q at
+    pub entry_changed : {new : Arena K V A} {place : ℕ} {node : Node K V} (v : V) → Locates R a q (Some (place, node))
+        → Changes R a new place node v → at ≡ Some v → SetsEntry R limit new (listed a) q at
     entry_changed v l changes is =
         let made = changes.stores limit (listed a) s q (sym (l.is limit (listed a) s)) in
         record {
@@ -93,12 +99,16 @@ module _ {K V A : Type 0} {R : K → K → Ordering} (o : IsTotalOrder R) (limit
         }
 
     -- `asked` is what the caller knows of the whole value, of which the entries and the limit are the fields
-    module _ (whole : EntryList K V) (fields : record { list = listed a; limit = limit } ≡ whole) (asked : maps.len (set_at (map_of R whole.list) q at) ≤ whole.limit) (v : V) (l : Locates R a q None) (is : at ≡ Some v) where
+    module _ (whole : EntryList K V) (fields : record { list = listed a; limit = limit } ≡ whole)
+        (asked : maps.len (set_at (map_of R whole.list) q at) ≤ whole.limit) (v : V) (l : Locates R a q None) (is : at ≡ Some v) where
       less : length (listed a) < limit
       less =
-          let room : maps.len (set_at (map_of R (listed a)) q at) ≤ limit = subst (λ (m : EntryList K V). maps.len (set_at (map_of R m.list) q at) ≤ m.limit) (sym fields) asked in
-          let more : maps.len (maps.insert (map_of R (listed a)) q v) ≤ limit = subst (λ (x : Option V). maps.len (set_at (map_of R (listed a)) q x) ≤ limit) is room in
-          let grows = len-insert o (map_of R (listed a)) q v ∙ ap (λ (x : Option V). cond (is_some x) (maps.len (map_of R (listed a))) (maps.len (map_of R (listed a)) + 1)) (sym (former_none l)) in
+          let room : maps.len (set_at (map_of R (listed a)) q at) ≤ limit =
+          subst (λ (m : EntryList K V). maps.len (set_at (map_of R m.list) q at) ≤ m.limit) (sym fields) asked in
+          let more : maps.len (maps.insert (map_of R (listed a)) q v) ≤ limit =
+          subst (λ (x : Option V). maps.len (set_at (map_of R (listed a)) q x) ≤ limit) is room in
+          let grows = len-insert o (map_of R (listed a)) q v
+          ∙ ap (λ (x : Option V). cond (is_some x) (maps.len (map_of R (listed a))) (maps.len (map_of R (listed a)) + 1)) (sym (former_none l)) in
           omega (arith, grows, more, len-map_of R (listed a) s.sorted)
 
       -- so that a full map has the key
@@ -106,7 +116,8 @@ module _ {K V A : Type 0} {R : K → K → Ordering} (o : IsTotalOrder R) (limit
       not_full full = omega (arith, less, full, s.long)
 
     -- the entry put in
-    pub entry_added : {new : Arena K V A} {former : Option V} (v : V) → length (listed a) < limit → Gains R a new q v former → at ≡ Some v → SetsEntry R limit new (listed a) q at
+    pub entry_added : {new : Arena K V A} {former : Option V} (v : V) → length (listed a) < limit → Gains R a new q v former → at ≡ Some v
+        → SetsEntry R limit new (listed a) q at
     entry_added v less gains is =
         let made = (gains.stores limit (listed a) s less).0 in
         record {
@@ -122,7 +133,8 @@ module _ {K V A : Type 0} {R : K → K → Ordering} (o : IsTotalOrder R) (limit
   room_left h = record { limit = limit; es = listed a; stores = s; less = less_than h }
 
 -- a copy is seen as what it was made of
-pub copied_is : {K V A : Type 0} {R : K → K → Ordering} {limit : ℕ} {a new : Arena K V A} → Stores R limit a (listed a) → Copies R limit a new → ◌≡◌ {A = EntryList K V} (record { list = listed new; limit = limit }) (record { list = listed a; limit = limit })
+pub copied_is : {K V A : Type 0} {R : K → K → Ordering} {limit : ℕ} {a new : Arena K V A} → Stores R limit a (listed a)
+    → Copies R limit a new → ◌≡◌ {A = EntryList K V} (record { list = listed new; limit = limit }) (record { list = listed a; limit = limit })
 copied_is {K} {V} {A} {R} {limit} {a} s copies = ap (λ (es : List (K × V)). record { list = es; limit = limit }) (listed_is (copies.stores (listed a) s))
 
 -- the next entry, and those after it

@@ -7,17 +7,20 @@ use Rattle.pfl_containers.proofs.Links.{last-Lacks, Lacks-front}
 
 module _ {V : Type 0} where
   -- where a path ends
-  pub path-last : (nodes : Nodes) (r s : ℕ) (l : List (Link V)) (e : ℕ) → Path nodes r s l e → (next_of nodes (last_from s l) ≡ e) × (previous_of nodes e ≡ last_from s l)
+  pub path-last : (nodes : Nodes) (r s : ℕ) (l : List (Link V)) (e : ℕ) → Path nodes r s l e → (next_of nodes (last_from s l) ≡ e)
+      × (previous_of nodes e ≡ last_from s l)
   path-last nodes r s [] e p = p
   path-last nodes r s (x ∷ l) e p = path-last nodes r x.slot l e p.3
 
   -- a path up to one of its links
-  pub path-front : (nodes : Nodes) (r s : ℕ) (f : List (Link V)) (x : Link V) (b : List (Link V)) (e : ℕ) → Path nodes r s (f ++ x ∷ b) e → Path nodes r s f x.slot
+  pub path-front : (nodes : Nodes) (r s : ℕ) (f : List (Link V)) (x : Link V) (b : List (Link V)) (e : ℕ) → Path nodes r s (f ++ x ∷ b) e
+      → Path nodes r s f x.slot
   path-front nodes r s [] x b e p = (p.0, p.1)
   path-front nodes r s (y ∷ f) x b e p = (p.0, p.1, p.2, path-front nodes r y.slot f x b e p.3)
 
   -- and from it on
-  pub path-back : (nodes : Nodes) (r s : ℕ) (f : List (Link V)) (x : Link V) (b : List (Link V)) (e : ℕ) → Path nodes r s (f ++ x ∷ b) e → (ring_of nodes x.slot ≡ r) × Path nodes r x.slot b e
+  pub path-back : (nodes : Nodes) (r s : ℕ) (f : List (Link V)) (x : Link V) (b : List (Link V)) (e : ℕ) → Path nodes r s (f ++ x ∷ b) e
+      → (ring_of nodes x.slot ≡ r) × Path nodes r x.slot b e
   path-back nodes r s [] x b e p = (p.2, p.3)
   path-back nodes r s (y ∷ f) x b e p = path-back nodes r y.slot f x b e p.3
 
@@ -40,12 +43,15 @@ module _ {V : Type 0} where
   -- the links of another ring lack a node
   pub path-Lacks : (nodes : Nodes) (r s : ℕ) (l : List (Link V)) (e x : ℕ) → Path nodes r s l e → ring_of nodes x ≢ r → Lacks x l
   path-Lacks nodes r s [] e x p a = tt
-  path-Lacks nodes r s (y ∷ l) e x p a = let other : y.slot ≢ x = λ same. a (ap (ring_of nodes) (sym same) ∙ p.2) in (other, path-Lacks nodes r y.slot l e x p.3 a)
+  path-Lacks nodes r s (y ∷ l) e x p a = let other : y.slot ≢ x = λ same. a (ap (ring_of nodes) (sym same) ∙ p.2)
+      in (other, path-Lacks nodes r y.slot l e x p.3 a)
 
   -- a walk along a path finds its links
-  pub walk-path : (nodes : Nodes) (values : List V) (r s : ℕ) (l : List (Link V)) (e n : ℕ) → Path nodes r s l e → Holds values l → length l ≤ n → slice_get values e ≡ None → walk nodes values n (next_of nodes s) ≡ l
+  pub walk-path : (nodes : Nodes) (values : List V) (r s : ℕ) (l : List (Link V)) (e n : ℕ) → Path nodes r s l e → Holds values l
+      → length l ≤ n → slice_get values e ≡ None → walk nodes values n (next_of nodes s) ≡ l
   walk-path nodes values r s [] e zero p h few out = refl
-  walk-path nodes values r s [] e (suc n) p h few out = ap (λ i. walked i (slice_get values i) (walk nodes values n (next_of nodes i))) p.0 ∙ ap (λ o. walked e o (walk nodes values n (next_of nodes e))) out
+  walk-path nodes values r s [] e (suc n) p h few out = ap (λ i. walked i (slice_get values i) (walk nodes values n (next_of nodes i))) p.0
+      ∙ ap (λ o. walked e o (walk nodes values n (next_of nodes e))) out
   walk-path nodes values r s (x ∷ l) e zero p h few out = absurd (omega arith)
   walk-path nodes values r s (x ∷ l) e (suc n) p h few out =
       ap (λ i. walked i (slice_get values i) (walk nodes values n (next_of nodes i))) p.0
@@ -53,7 +59,8 @@ module _ {V : Type 0} where
       ∙ ap (λ (rest : List (Link V)). x ∷ rest) (walk-path nodes values r x.slot l e n p.3 h.1 (omega arith) out))
 
   -- a path stays where one node that it does not have is another
-  pub path-kept : (old new : Nodes) (x : ℕ) → ((i : ℕ) → i ≢ x → new i ≡ old i) → (r s : ℕ) (l : List (Link V)) (e : ℕ) → Path old r s l e → Lacks x l → s ≢ x → e ≢ x → Path new r s l e
+  pub path-kept : (old new : Nodes) (x : ℕ) → ((i : ℕ) → i ≢ x → new i ≡ old i) → (r s : ℕ) (l : List (Link V)) (e : ℕ) → Path old r s l e
+      → Lacks x l → s ≢ x → e ≢ x → Path new r s l e
   path-kept old new x same r s [] e p a ns ne = (ap (λ n. n.next) (same s ns) ∙ p.0, ap (λ n. n.previous) (same e ne) ∙ p.1)
   path-kept old new x same r s (y ∷ l) e p a ns ne = (
     ap (λ n. n.next) (same s ns) ∙ p.0,
@@ -84,7 +91,8 @@ module _ (old new : Nodes) (x : ℕ) (u : Unlinks old new x)
   unlink-over a b p n = (ap (next_of new) (sym p) ∙ (u.next ∙ n), ap (previous_of new) (sym n) ∙ (u.previous ∙ p))
 
   -- x's own path loses it
-  pub unlink-own : {V : Type 0} (r s : ℕ) (f : List (Link V)) (v : V) (b : List (Link V)) (e : ℕ) → Path old r s (f ++ link x v ∷ b) e → Lacks x (f ++ b) → s ≢ x → e ≢ x → Path new r s (f ++ b) e
+  pub unlink-own : {V : Type 0} (r s : ℕ) (f : List (Link V)) (v : V) (b : List (Link V)) (e : ℕ) → Path old r s (f ++ link x v ∷ b) e
+      → Lacks x (f ++ b) → s ≢ x → e ≢ x → Path new r s (f ++ b) e
   unlink-own r s [] v [] e p a ns ne = unlink-over s e p.1 p.3.0
   unlink-own r s [] v (y ∷ b) e p a ns ne =
       let over = unlink-over s y.slot p.1 p.3.0 in
@@ -110,7 +118,8 @@ module _ (old new : Nodes) (ring x p : ℕ) (i : Inserts old new ring x p)
       (step.0, step.1, i.other_ring y.slot a.0 ∙ q.2, insert-other r y.slot l e q.3 a.1 a.0 ne b.1 b.0)
 
   -- the path of p gains x after it
-  pub insert-own : {V : Type 0} (s : ℕ) (f : List (Link V)) (v : V) (b : List (Link V)) (e : ℕ) → Path old ring s (f ++ b) e → last_from s f ≡ p → Lacks x (f ++ b) → s ≢ x → e ≢ x → Lacks s (f ++ b) → Distinct (f ++ b) → Path new ring s (f ++ link x v ∷ b) e
+  pub insert-own : {V : Type 0} (s : ℕ) (f : List (Link V)) (v : V) (b : List (Link V)) (e : ℕ) → Path old ring s (f ++ b) e
+      → last_from s f ≡ p → Lacks x (f ++ b) → s ≢ x → e ≢ x → Lacks s (f ++ b) → Distinct (f ++ b) → Path new ring s (f ++ link x v ∷ b) e
   insert-own s [] v [] e q is a ns ne away d =
       let behind : next_of old p ≡ e = ap (next_of old) (sym is) ∙ q.0 in
       (ap (next_of new) is ∙ i.next_there, i.previous_here ∙ sym is, i.ring_here, (i.next_here ∙ behind, ap (previous_of new) (sym behind) ∙ i.previous_there))

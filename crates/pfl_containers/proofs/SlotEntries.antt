@@ -1,5 +1,6 @@
 -- The entries of words: what is read and written at a place, and what a search among them finds.
-use Rattle.std.proofs.Common.{◌≡◌, ◌==◌, ◌≢◌, inl, inr, ◌+◌, ◌≤◌, ◌<◌, ℕ, zero, suc, Bool, true, false, cond, List, [], ◌∷◌, length, get_or, set, Option, Some, None, sym, ◌∙◌, ap, subst, arith, refl}
+use Rattle.std.proofs.Common.{◌≡◌, ◌==◌, ◌≢◌, inl, inr, ◌+◌, ◌≤◌, ◌<◌, ℕ, zero, suc, Bool, true, false, cond, List, [], ◌∷◌, length, get_or, set}
+use Rattle.std.proofs.Common.{Option, Some, None, sym, ◌∙◌, ap, subst, arith, refl}
 use Rattle.std.proofs.lemmas.List.{map-set, length-map, get_or-map, get_or-set_same}
 use Rattle.std.proofs.lemmas.Bool.{cases_eq, cases_lt, cases_order, ne_eqb}
 use Rattle.std.proofs.lemmas.Cmp.{nat_cmp_total}
@@ -39,7 +40,8 @@ pub entry-read : (words : List Word) (place : ℕ) (d : Word) → place < length
 entry-read words place d within = get_or-map entry_in words place d None within
 
 -- and what is written
-pub entries-set : (words : List Word) (place : ℕ) (w : Word) (at : Option (ℕ × ℕ)) → entry_in w ≡ at → entries_in (set words place w) ≡ set (entries_in words) place at
+pub entries-set : (words : List Word) (place : ℕ) (w : Word) (at : Option (ℕ × ℕ)) → entry_in w ≡ at
+    → entries_in (set words place w) ≡ set (entries_in words) place at
 entries-set words place w at is = map-set entry_in words place w ∙ ap (set (entries_in words) place) is
 
 -- an entry stands within the words
@@ -49,29 +51,36 @@ within_words (w ∷ words) zero e here = omega arith
 within_words (w ∷ words) (suc place) e here = omega (arith, within_words words place e here)
 
 -- a word that is not of the slot is before its entry,
-pub not-yet : (words : List Word) (at place s tag : ℕ) (d : Word) → at ≤ place → StandsAt words tag s place → ((get_or words at d).slot ≡ s → ⊥) → at + 1 ≤ place
+pub not-yet : (words : List Word) (at place s tag : ℕ) (d : Word) → at ≤ place → StandsAt words tag s place
+    → ((get_or words at d).slot ≡ s → ⊥) → at + 1 ≤ place
 not-yet words at place s tag d upto is other =
     elim (cases_eq place at) [
-      | inl same ↦ absurd (other (ap (λ p. (get_or words p d).slot) (sym same) ∙ (entry-slot _ _ (sym (entry-read words place d (within_words words place (s, tag) is)) ∙ is)).0))
+      | inl same ↦ absurd (other (ap (λ p. (get_or words p d).slot) (sym same)
+          ∙ (entry-slot _ _ (sym (entry-read words place d (within_words words place (s, tag) is)) ∙ is)).0))
       | inr apart ↦ omega arith
     ]
 
 -- and one that is has an entry of it
-pub number-stands : (words : List Word) (at place s tag : ℕ) (d : Word) → at ≤ place → StandsAt words tag s place → (get_or words at d).slot ≡ s → (t : ℕ) × StandsAt words t s at
+pub number-stands : (words : List Word) (at place s tag : ℕ) (d : Word) → at ≤ place → StandsAt words tag s place
+    → (get_or words at d).slot ≡ s → (t : ℕ) × StandsAt words t s at
 number-stands words at place s tag d upto is same =
     let inside = within_words words place (s, tag) is in
     let named = entry-slot (get_or words place d) (s, tag) (sym (entry-read words place d inside) ∙ is) in
     let within : at < length words = omega (arith, inside) in (
       (get_or words at d).tag,
-      entry-read words at d within ∙ (entry-taken (get_or words at d) (λ none. named.1 (named.0 ∙ (sym same ∙ none))) ∙ ap (λ (n : ℕ). Some (n, (get_or words at d).tag)) same),
+      entry-read words at d within
+          ∙ (entry-taken (get_or words at d) (λ none. named.1 (named.0 ∙ (sym same ∙ none)))
+          ∙ ap (λ (n : ℕ). Some (n, (get_or words at d).tag)) same),
     )
 
 -- where a slot has a tag, its entry stands at a place
-pub stands-somewhere : (entries : List (Option (ℕ × ℕ))) (q tag : ℕ) → value_at nat_cmp entries q ≡ Some tag → (place : ℕ) × (slot entries place ≡ Some (q, tag))
+pub stands-somewhere : (entries : List (Option (ℕ × ℕ))) (q tag : ℕ) → value_at nat_cmp entries q ≡ Some tag
+    → (place : ℕ) × (slot entries place ≡ Some (q, tag))
 stands-somewhere [] q tag is = absurd (some_is_none tag (sym is))
 stands-somewhere (None ∷ entries) q tag is = let rest = stands-somewhere entries q tag is in (suc rest.0, rest.1)
 stands-somewhere (Some e ∷ entries) q tag is =
-    elim (eq_by_cmp nat_cmp q e.0) as (λ b. eq_by_cmp nat_cmp q e.0 ≡ b → cond b (Some e.1) (value_at nat_cmp entries q) ≡ Some tag → (place : ℕ) × (slot (Some e ∷ entries) place ≡ Some (q, tag))) [
+    elim (eq_by_cmp nat_cmp q e.0) as (λ b. eq_by_cmp nat_cmp q e.0 ≡ b → cond b (Some e.1) (value_at nat_cmp entries q) ≡ Some tag
+    → (place : ℕ) × (slot (Some e ∷ entries) place ≡ Some (q, tag))) [
       | true ↦ λ t has.
           let slots : q ≡ e.0 = same_key nat_cmp_total exact_unsigned (λ k. k) q e.0 t in
           let tags : e.1 ≡ tag = cc in
@@ -91,7 +100,8 @@ module _ {buckets : ℕ} (words : List Word) (sound : AreWords buckets words NoG
       (there.0, tag, sound.housed.after there.0 (s, tag) there.1, there.1)
 
   -- what a search from the home of a tag finds
-  pub finds : (answer : ℕ → Bool → Type 0) (tag : ℕ) (result : Option ℕ) → SearchGives (λ s. answer s true) (λ s. answer s false) words tag (home_in buckets tag) result → FindsBy answer (tag_map words) tag result
+  pub finds : (answer : ℕ → Bool → Type 0) (tag : ℕ) (result : Option ℕ)
+      → SearchGives (λ s. answer s true) (λ s. answer s false) words tag (home_in buckets tag) result → FindsBy answer (tag_map words) tag result
   finds answer tag None (place, ends) = λ s has.
       let there = stands s tag has in
       let is : entry_at words there.0 ≡ Some (s, tag) = subst (λ t. StandsAt words t s there.0) (tags_of s tag there has) there.3 in
@@ -101,7 +111,8 @@ module _ {buckets : ℕ} (words : List Word) (sound : AreWords buckets words NoG
         | inr (inr after) ↦ absurd (sound.housed.between there.0 place (s, tag) is ends.order after ends.free)
       ]
     where
-      tags_of : (s tag : ℕ) (there : (place : ℕ) × (t : ℕ) × (home_in buckets tag ≤ place) × StandsAt words t s place) → HasTag (tag_map words) tag s → there.1 ≡ tag
+      tags_of : (s tag : ℕ) (there : (place : ℕ) × (t : ℕ) × (home_in buckets tag ≤ place) × StandsAt words t s place)
+          → HasTag (tag_map words) tag s → there.1 ≡ tag
       tags_of s tag there has = let both : Some there.1 ≡ Some tag = sym (has-tag there.0 s there.1 there.3) ∙ has in cc
   finds answer tag (Some s) found = (has-tag found.0 s tag found.1, found.2)
 
@@ -112,11 +123,13 @@ module _ {buckets : ℕ} (words : List Word) (sound : AreWords buckets words NoG
         elim (cases_lt place (length words)) [
           | inl within ↦ within
           | inr past ↦
-              let many = entries_from nat_cmp_total exact_unsigned (entries_in words) from sound.distinct (λ i after within. free.taken i after (omega (arith, length-map words entry_in))) in
+              let many = entries_from nat_cmp_total exact_unsigned (entries_in words) from sound.distinct
+              (λ i after within. free.taken i after (omega (arith, length-map words entry_in))) in
               absurd (omega (arith, many, length-map words entry_in))
         ]
 
-  module _ (s tag : ℕ) {place : ℕ} (free : IsFree words (home_in buckets tag) place) (within : place < length words) (new : maps.get (tag_map words) s ≡ None) (small : s < no_slot) where
+  module _ (s tag : ℕ) {place : ℕ} (free : IsFree words (home_in buckets tag) place) (within : place < length words)
+      (new : maps.get (tag_map words) s ≡ None) (small : s < no_slot) where
     written : entries_in (set words place (record { slot = s; tag = tag })) ≡ set (entries_in words) place (Some (s, tag))
     written = entries-set words place (record { slot = s; tag = tag }) (Some (s, tag)) (entry-taken (record { slot = s; tag = tag }) (λ same. omega arith))
 
@@ -150,7 +163,8 @@ module _ {buckets : ℕ} (words : List Word) (sound : AreWords buckets words NoG
     map-less = ap (slot_map nat_cmp) freed ∙ map-taken sound place (s, tag) here
 
 -- An entry is moved into a gap.
-module _ {buckets gap place : ℕ} (words : List Word) (closing : IsClosing buckets (entries_in words) gap place) (e : ℕ × ℕ) (here : entry_at words place ≡ Some e) (w f : Word) (is : entry_in w ≡ Some e) (none : entry_in f ≡ None) where
+module _ {buckets gap place : ℕ} (words : List Word) (closing : IsClosing buckets (entries_in words) gap place) (e : ℕ
+    × ℕ) (here : entry_at words place ≡ Some e) (w f : Word) (is : entry_in w ≡ Some e) (none : entry_in f ≡ None) where
   both : entries_in (set (set words place f) gap w) ≡ set (set (entries_in words) place None) gap (Some e)
   both = entries-set (set words place f) gap w (Some e) is ∙ ap (λ es. set es gap (Some e)) (entries-set words place f None none)
 

@@ -1,5 +1,6 @@
 -- The fields of an index of slots, when it is made, and when a slot comes or goes.
-use Rattle.std.proofs.Common.{◌≡◌, inl, inr, ◌+◌, ◌-◌, ◌*◌, ◌/◌, ◌≤◌, ◌<◌, ◌^◌, ℕ, zero, suc, cond, List, [], ◌∷◌, ◌++◌, length, take, drop, replicate, Option, Some, None, is_some, sym, ◌∙◌, ap, subst, arith, refl}
+use Rattle.std.proofs.Common.{◌≡◌, inl, inr, ◌+◌, ◌-◌, ◌*◌, ◌/◌, ◌≤◌, ◌<◌, ◌^◌, ℕ, zero, suc, cond, List, [], ◌∷◌, ◌++◌, length, take, drop}
+use Rattle.std.proofs.Common.{replicate, Option, Some, None, is_some, sym, ◌∙◌, ap, subst, arith, refl}
 use Rattle.std.proofs.lemmas.List.{length-replicate, get_or-replicate, get_or_past, take_all, drop_all, append-nil}
 use Rattle.std.proofs.lemmas.Bool.{cases_lt}
 use Rattle.std.proofs.lemmas.Cmp.{nat_cmp_total}
@@ -22,7 +23,8 @@ resized n m old x none nought =
 -- a slice that was the whole of a list, once it is written back
 pub whole : {X : Type 0} (xs ys : List X) (n : ℕ) → length ys ≡ length xs → n ≡ length xs → take n (ys ++ drop (length ys) xs) ≡ ys
 whole xs ys n same is =
-    ap (λ (zs : List _). take n (ys ++ zs)) (drop_all (length ys) xs (omega (arith, same))) ∙ (ap (take n) (append-nil ys) ∙ take_all n ys (omega (arith, same, is)))
+    ap (λ (zs : List _). take n (ys ++ zs)) (drop_all (length ys) xs (omega (arith, same)))
+    ∙ (ap (take n) (append-nil ys) ∙ take_all n ys (omega (arith, same, is)))
 
 -- ---- words that are all free
 
@@ -60,7 +62,9 @@ words-free buckets n w none = subst (λ es. AreTagged buckets es NoGap) (sym (en
 })
 
 -- an index of no slots
-pub fields-free : (limit buckets capacity : ℕ) (w : Word) → entry_in w ≡ None → 0 < buckets → buckets ≤ 2 * limit + 1 → limit ≤ 2 ^ 30 → (buckets < 2 * limit + 1 → buckets ≤ limit) → 3 * limit + 1 ≤ capacity → AreFields limit 0 buckets (replicate (buckets + buckets / 2) w) capacity
+pub fields-free : (limit buckets capacity : ℕ) (w : Word) → entry_in w ≡ None → 0 < buckets → buckets ≤ 2 * limit + 1 → limit ≤ 2 ^ 30
+    → (buckets < 2 * limit + 1 → buckets ≤ limit) → 3 * limit + 1 ≤ capacity
+    → AreFields limit 0 buckets (replicate (buckets + buckets / 2) w) capacity
 fields-free limit buckets capacity w none some most small sparse room = record {
   sound = words-free buckets (buckets + buckets / 2) w none;
   count = sym (ap maps.len (tag_map-free (buckets + buckets / 2) w none) ∙ len-empty nat_cmp ℕ);
@@ -90,7 +94,8 @@ module _ {limit len buckets capacity : ℕ} (words : List Word) (fields : AreFie
   not_empty s tag has = omega (arith, fields.count, some_entry (tag_map words) s tag has)
 
   module _ (s tag : ℕ) (new : List Word) (sound : AreWords buckets new NoGap) (same : length new ≡ length words) where
-    pub fields-put : tag_map new ≡ maps.insert (tag_map words) s tag → maps.get (tag_map words) s ≡ None → len < limit → len < buckets / 2 → AreFields limit (len + 1) buckets new capacity
+    pub fields-put : tag_map new ≡ maps.insert (tag_map words) s tag → maps.get (tag_map words) s ≡ None → len < limit → len < buckets / 2
+        → AreFields limit (len + 1) buckets new capacity
     fields-put is none room less = record {
       sound = sound;
       count = sym (ap maps.len is ∙ (len-insert nat_cmp_total (tag_map words) s tag

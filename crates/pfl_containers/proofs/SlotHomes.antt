@@ -37,7 +37,8 @@ module _ {K V : Type 0} (home : K × V → ℕ) (slots : List (Option (K × V)))
           ];
       between = λ k i x is from below none.
           elim (cases_eq i place) [
-            | inl same ↦ absurd (some_is_none e (sym (get_or-set_same slots place (Some e) None within) ∙ (ap (slot (set slots place (Some e))) (sym same) ∙ none)))
+            | inl same ↦ absurd (some_is_none e (sym (get_or-set_same slots place (Some e) None within)
+                ∙ (ap (slot (set slots place (Some e))) (sym same) ∙ none)))
             | inr apart ↦
                 elim (cases_eq k place) [
                   | inl same ↦ path i (subst (λ (y : K × V). home y ≤ i) (sym (there k x is same)) from) (omega arith) (elsewhere i apart none)
@@ -48,7 +49,8 @@ module _ {K V : Type 0} (home : K × V → ℕ) (slots : List (Option (K × V)))
       where
         there : (k : ℕ) (x : K × V) → slot (set slots place (Some e)) k ≡ Some x → k ≡ place → e ≡ x
         there k x is same =
-            let entries : Some e ≡ Some x = sym (get_or-set_same slots place (Some e) None within) ∙ (ap (slot (set slots place (Some e))) (sym same) ∙ is) in cc
+            let entries : Some e ≡ Some x = sym (get_or-set_same slots place (Some e) None within)
+            ∙ (ap (slot (set slots place (Some e))) (sym same) ∙ is) in cc
 
         elsewhere : {at : Option (K × V)} (k : ℕ) → k ≢ place → slot (set slots place (Some e)) k ≡ at → slot slots k ≡ at
         elsewhere k other is = sym (get_or-set_other slots place k (Some e) None other) ∙ is

@@ -9,7 +9,8 @@ use Rattle.std.proofs.Common.{cond, ◌∙◌, ap, sym, subst, arith}
 use Rattle.pfl_edits.specs.Maps as maps
 use Rattle.pfl_edits.specs.Maps.{Map}
 use Rattle.pfl_edits.specs.Rows.{map_of}
-use Rattle.pfl_edits.proofs.ForCallers.{row_at, Distinct, own_key, same_key, get-map_of, len-map_of, row_at-between, map_of-between, map_of-without, Distinct-without, some_is_none, set_at-back}
+use Rattle.pfl_edits.proofs.ForCallers.{row_at, Distinct, own_key, same_key, get-map_of, len-map_of, row_at-between, map_of-between, map_of-without}
+use Rattle.pfl_edits.proofs.ForCallers.{Distinct-without, some_is_none, set_at-back}
 use Rattle.pfl_containers.specs.Lists.{Link, link}
 use Rattle.pfl_containers.specs.Mapped.{map_values}
 use Rattle.pfl_containers.specs.SlotIndexes.{key_of, IsIndexOf, IsIndex, HasNone}
@@ -36,7 +37,8 @@ module _ {K X : Type 0} {R : K → K → Ordering} (o : IsTotalOrder R) (exact :
       ] none
 
   -- a row of a new key leaves no two rows with one key
-  pub Distinct-between : (front : List X) (y : X) (rest : List X) → Distinct R key (front ++ rest) → row_at R key (front ++ rest) (key y) ≡ None → Distinct R key (front ++ y ∷ rest)
+  pub Distinct-between : (front : List X) (y : X) (rest : List X) → Distinct R key (front ++ rest)
+      → row_at R key (front ++ rest) (key y) ≡ None → Distinct R key (front ++ y ∷ rest)
   Distinct-between [] y rest d none = (none, d)
   Distinct-between (x ∷ front) y rest d none =
       let not = not_first x (front ++ rest) (key y) none in
@@ -59,7 +61,8 @@ module _ {V K : Type 0} (R : K → K → Ordering) (key : V → K) where
       ] e
 
   -- a key that no row has is not that of one that stands there
-  pub not_its_key : (front : List (Link V)) (l : Link V) (back : List (Link V)) (q : K) → HasNone R key (front ++ l ∷ back) q → eq_by_cmp R q (key l.value) ≡ false
+  pub not_its_key : (front : List (Link V)) (l : Link V) (back : List (Link V)) (q : K) → HasNone R key (front ++ l ∷ back) q
+      → eq_by_cmp R q (key l.value) ≡ false
   not_its_key [] l back q none =
       elim (eq_by_cmp R q (key l.value)) as (λ b. cond b (Some l) (row_at R (key_of key) back q) ≡ None → b ≡ false) [
         | true ↦ λ is. absurd (some_is_none l is)
@@ -98,24 +101,28 @@ module _ {X K Y : Type 0} {R : K → K → Ordering} (o : IsTotalOrder R) (exact
       → IsIndexOf R key made (front ++ x ∷ back) (maps.insert m (key x) (made x))
   made-with front x back m i none = record {
     is = ap (λ (n : Map R Y). maps.insert n (key x) (made x)) i.is
-        ∙ sym (ap (map_values made) (map_of-between o exact key front x back none) ∙ map_values-set_at o exact made (map_of R key (front ++ back)) (key x) (Some x));
+        ∙ sym (ap (map_values made) (map_of-between o exact key front x back none)
+        ∙ map_values-set_at o exact made (map_of R key (front ++ back)) (key x) (Some x));
     apart = Distinct-between o exact key front x back i.apart none;
   }
 
   -- a value less
-  pub made-without : (front : List X) (x : X) (back : List X) (m : Map R Y) → IsIndexOf R key made (front ++ x ∷ back) m → IsIndexOf R key made (front ++ back) (maps.remove m (key x))
+  pub made-without : (front : List X) (x : X) (back : List X) (m : Map R Y) → IsIndexOf R key made (front ++ x ∷ back) m
+      → IsIndexOf R key made (front ++ back) (maps.remove m (key x))
   made-without front x back m i =
       let less = Distinct-without o exact key front x back i.apart in
       record {
         is = ap (λ (n : Map R Y). maps.remove n (key x)) i.is
-            ∙ sym (ap (map_values made) (map_of-without o exact key front x back less.0) ∙ map_values-set_at o exact made (map_of R key (front ++ x ∷ back)) (key x) None);
+            ∙ sym (ap (map_values made) (map_of-without o exact key front x back less.0)
+            ∙ map_values-set_at o exact made (map_of R key (front ++ x ∷ back)) (key x) None);
         apart = less.1;
       }
 
 -- An index of slots.
 module _ {V K : Type 0} {R : K → K → Ordering} (o : IsTotalOrder R) (exact : IsAntisymmetric R) (key : V → K) where
   -- what an index finds
-  pub index-get : (links : List (Link V)) (m : Map R ℕ) (q : K) → IsIndex R key links m → maps.get m q ≡ option_map (λ l. l.slot) (row_at R (key_of key) links q)
+  pub index-get : (links : List (Link V)) (m : Map R ℕ) (q : K) → IsIndex R key links m
+      → maps.get m q ≡ option_map (λ l. l.slot) (row_at R (key_of key) links q)
   index-get = made-get o exact (key_of key) (λ l. l.slot)
 
   -- it is as long as the rows are many
@@ -127,39 +134,48 @@ module _ {V K : Type 0} {R : K → K → Ordering} (o : IsTotalOrder R) (exact :
   index-empty = made-empty o exact (key_of key) (λ l. l.slot)
 
   -- a row that stands there is found by its key
-  pub stands-found : (front : List (Link V)) (l : Link V) (back : List (Link V)) → Distinct R (key_of key) (front ++ l ∷ back) → row_at R (key_of key) (front ++ l ∷ back) (key l.value) ≡ Some l
+  pub stands-found : (front : List (Link V)) (l : Link V) (back : List (Link V)) → Distinct R (key_of key) (front ++ l ∷ back)
+      → row_at R (key_of key) (front ++ l ∷ back) (key l.value) ≡ Some l
   stands-found front l back d =
       row_at-between o exact (key_of key) front l back (key l.value) (Distinct-without o exact (key_of key) front l back d).0
       ∙ ap (λ b. cond b (Some l) (row_at R (key_of key) (front ++ back) (key l.value))) (own_key o exact (key_of key) (key l.value))
 
   -- no other row has its key
-  pub others-none : (front : List (Link V)) (l : Link V) (back : List (Link V)) → Distinct R (key_of key) (front ++ l ∷ back) → HasNone R key (front ++ back) (key l.value)
+  pub others-none : (front : List (Link V)) (l : Link V) (back : List (Link V)) → Distinct R (key_of key) (front ++ l ∷ back)
+      → HasNone R key (front ++ back) (key l.value)
   others-none front l back d = (Distinct-without o exact (key_of key) front l back d).0
 
   -- a row more
-  pub index-with : (front : List (Link V)) (l : Link V) (back : List (Link V)) (m : Map R ℕ) → IsIndex R key (front ++ back) m → HasNone R key (front ++ back) (key l.value)
+  pub index-with : (front : List (Link V)) (l : Link V) (back : List (Link V)) (m : Map R ℕ) → IsIndex R key (front ++ back) m
+      → HasNone R key (front ++ back) (key l.value)
       → IsIndex R key (front ++ l ∷ back) (maps.insert m (key l.value) l.slot)
   index-with = made-with o exact (key_of key) (λ l. l.slot)
 
   -- a row less
-  pub index-without : (front : List (Link V)) (l : Link V) (back : List (Link V)) (m : Map R ℕ) → IsIndex R key (front ++ l ∷ back) m → IsIndex R key (front ++ back) (maps.remove m (key l.value))
+  pub index-without : (front : List (Link V)) (l : Link V) (back : List (Link V)) (m : Map R ℕ) → IsIndex R key (front ++ l ∷ back) m
+      → IsIndex R key (front ++ back) (maps.remove m (key l.value))
   index-without = made-without o exact (key_of key) (λ l. l.slot)
 
   -- another row at a slot
-  pub index-changed : (front : List (Link V)) (slot : ℕ) (was r : V) (back : List (Link V)) (m : Map R ℕ) → IsIndex R key (front ++ link slot was ∷ back) m → HasNone R key (front ++ back) (key r)
+  pub index-changed : (front : List (Link V)) (slot : ℕ) (was r : V) (back : List (Link V)) (m : Map R ℕ)
+      → IsIndex R key (front ++ link slot was ∷ back) m → HasNone R key (front ++ back) (key r)
       → IsIndex R key (front ++ link slot r ∷ back) (maps.insert (maps.remove m (key was)) (key r) slot)
-  index-changed front slot was r back m i none = index-with front (link slot r) back (maps.remove m (key was)) (index-without front (link slot was) back m i) none
+  index-changed front slot was r back m i none =
+      index-with front (link slot r) back (maps.remove m (key was)) (index-without front (link slot was) back m i) none
 
   -- it has the slot of a row that stands there
-  pub index-has : (front : List (Link V)) (l : Link V) (back : List (Link V)) (m : Map R ℕ) → IsIndex R key (front ++ l ∷ back) m → maps.get m (key l.value) ≡ Some l.slot
+  pub index-has : (front : List (Link V)) (l : Link V) (back : List (Link V)) (m : Map R ℕ) → IsIndex R key (front ++ l ∷ back) m
+      → maps.get m (key l.value) ≡ Some l.slot
   index-has front l back m i = index-get (front ++ l ∷ back) m (key l.value) i ∙ ap (option_map (λ (k : Link V). k.slot)) (stands-found front l back i.apart)
 
   -- another row of the same key at a slot
-  pub index-kept : (front : List (Link V)) (slot : ℕ) (was r : V) (back : List (Link V)) (m : Map R ℕ) → IsIndex R key (front ++ link slot was ∷ back) m → key r ≡ key was → IsIndex R key (front ++ link slot r ∷ back) m
+  pub index-kept : (front : List (Link V)) (slot : ℕ) (was r : V) (back : List (Link V)) (m : Map R ℕ)
+      → IsIndex R key (front ++ link slot was ∷ back) m → key r ≡ key was → IsIndex R key (front ++ link slot r ∷ back) m
   index-kept front slot was r back m i same =
       let none : HasNone R key (front ++ back) (key r) = ap (row_at R (key_of key) (front ++ back)) same ∙ others-none front (link slot was) back i.apart in
       subst (IsIndex R key (front ++ link slot r ∷ back))
-      (ap (λ q. maps.insert (maps.remove m (key was)) q slot) same ∙ set_at-back o exact m (key was) (Some slot) None (index-has front (link slot was) back m i))
+      (ap (λ q. maps.insert (maps.remove m (key was)) q slot) same
+      ∙ set_at-back o exact m (key was) (Some slot) None (index-has front (link slot was) back m i))
       (index-changed front slot was r back m i none)
 
 -- Such an index, as a caller changes it: `old` and `new` are its maps before and after, and k is the key of a row.
@@ -173,13 +189,16 @@ module _ {V K : Type 0} {R : K → K → Ordering} (o : IsTotalOrder R) (exact :
   index-room limit n links m i same room = omega (arith, index-len o exact key links m i)
 
   -- what was put under a row's key is its slot
-  pub gained : (front back : List (Link V)) (slot : ℕ) (r : V) (old new : Map R ℕ) (k : K) → k ≡ key r → new ≡ maps.insert old k slot → IsIndex R key (front ++ back) old → HasNone R key (front ++ back) (key r)
+  pub gained : (front back : List (Link V)) (slot : ℕ) (r : V) (old new : Map R ℕ) (k : K) → k ≡ key r → new ≡ maps.insert old k slot
+      → IsIndex R key (front ++ back) old → HasNone R key (front ++ back) (key r)
       → IsIndex R key (front ++ link slot r ∷ back) new
   gained front back slot r old new k same is i none =
-      subst (IsIndex R key (front ++ link slot r ∷ back)) (sym (is ∙ ap (λ q. maps.insert old q slot) same)) (index-with o exact key front (link slot r) back old i none)
+      subst (IsIndex R key (front ++ link slot r ∷ back)) (sym (is ∙ ap (λ q. maps.insert old q slot) same))
+      (index-with o exact key front (link slot r) back old i none)
 
   -- what stood under it was taken out
-  pub lost : (front back : List (Link V)) (slot : ℕ) (r : V) (old new : Map R ℕ) (k : K) → k ≡ key r → new ≡ maps.remove old k → IsIndex R key (front ++ link slot r ∷ back) old
+  pub lost : (front back : List (Link V)) (slot : ℕ) (r : V) (old new : Map R ℕ) (k : K) → k ≡ key r → new ≡ maps.remove old k
+      → IsIndex R key (front ++ link slot r ∷ back) old
       → IsIndex R key (front ++ back) new
   lost front back slot r old new k same is i =
       subst (IsIndex R key (front ++ back)) (sym (is ∙ ap (maps.remove old) same)) (index-without o exact key front (link slot r) back old i)

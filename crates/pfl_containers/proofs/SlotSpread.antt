@@ -53,7 +53,8 @@ module _ {buckets : ℕ} {words spare all : List Word} (put : ArePut buckets wor
       pub put-new : maps.get (tag_map words) s ≡ None
       put-new =
           ap (λ m. maps.get m s) put.map
-          ∙ (get-slot_map nat_cmp_total exact_unsigned (entries_in put.done) s ∙ (Distinct-back (entries_in rest) (Some (s, tag) ∷ entries_in put.done) (subst (λ es. Distinct nat_cmp es) whole distinct)).0)
+          ∙ (get-slot_map nat_cmp_total exact_unsigned (entries_in put.done) s
+          ∙ (Distinct-back (entries_in rest) (Some (s, tag) ∷ entries_in put.done) (subst (λ es. Distinct nat_cmp es) whole distinct)).0)
 
   -- at any time there are at most as many entries as in the end
   pub put-room : maps.len (tag_map words) ≤ maps.len (tag_map all)

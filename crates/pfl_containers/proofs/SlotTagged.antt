@@ -8,7 +8,8 @@ use Rattle.std.specs.Ordering.{nat_cmp}
 use Rattle.pfl_edits.specs.Maps as maps
 use Rattle.pfl_containers.specs.inner.Entries.{slot, slot_map, value_at, NoGap, GapAt}
 use Rattle.pfl_containers.specs.inner.SlotWords.{home_in, AreTagged}
-use Rattle.pfl_containers.proofs.Found.{Distinct-freed, Distinct-filled, slot_map-filled, slot_map-freed, slot_map-removed, get-slot_map, value_at-here, within_slots}
+use Rattle.pfl_containers.proofs.Found.{Distinct-freed, Distinct-filled, slot_map-filled, slot_map-freed, slot_map-removed, get-slot_map}
+use Rattle.pfl_containers.proofs.Found.{value_at-here, within_slots}
 use Rattle.pfl_containers.proofs.SlotHomes.{housed-freed, housed-filled, housed-closed}
 
 module _ {buckets : ℕ} {entries : List (Option (ℕ × ℕ))} where
@@ -22,7 +23,8 @@ module _ {buckets : ℕ} {entries : List (Option (ℕ × ℕ))} where
 
     -- one that is filled with an entry of a new slot is none
     pub tagged-filled : place < length entries → slot entries place ≡ None → value_at nat_cmp entries e.0 ≡ None → ((i : ℕ) → IsGap i → i ≢ place → IsLater i)
-        → home_in buckets e.1 ≤ place → ((i : ℕ) → home_in buckets e.1 ≤ i → i < place → slot entries i ≡ None → IsLater i) → AreTagged buckets (set entries place (Some e)) IsLater
+        → home_in buckets e.1 ≤ place → ((i : ℕ) → home_in buckets e.1 ≤ i → i < place → slot entries i ≡ None → IsLater i)
+        → AreTagged buckets (set entries place (Some e)) IsLater
     tagged-filled within free none later after path = record {
       distinct = Distinct-filled nat_cmp_total exact_unsigned entries place e within free none sound.distinct;
       housed = housed-filled _ entries IsGap IsLater sound.housed place e within later after path;
@@ -72,7 +74,8 @@ module _ {buckets : ℕ} {entries : List (Option (ℕ × ℕ))} {gap place : ℕ
     -- it is the same map,
     pub map-moved : slot_map nat_cmp (set (set entries place None) gap (Some e)) ≡ slot_map nat_cmp entries
     map-moved =
-        slot_map-filled nat_cmp_total exact_unsigned (set entries place None) gap e within free (Distinct-freed nat_cmp_total exact_unsigned entries place e here closing.sound.distinct).0
+        slot_map-filled nat_cmp_total exact_unsigned (set entries place None) gap e within free
+        (Distinct-freed nat_cmp_total exact_unsigned entries place e here closing.sound.distinct).0
         ∙ sym (slot_map-freed nat_cmp_total exact_unsigned entries place e here closing.sound.distinct)
 
     IsEither : ℕ → Type 0
@@ -98,13 +101,15 @@ module _ {buckets : ℕ} {entries : List (Option (ℕ × ℕ))} {gap place : ℕ
         record {
           order = omega arith;
           within = rw (length-set, length-set) within_place;
-          free = get_or-set_other (set entries place None) gap place (Some e) None (λ same. apart (sym same)) ∙ get_or-set_same entries place None None within_place;
+          free = get_or-set_other (set entries place None) gap place (Some e) None (λ same. apart (sym same))
+              ∙ get_or-set_same entries place None None within_place;
           sound = tagged-moved near;
           past = λ i x after before is. absurd (omega arith);
         }
 
 -- The entry at a place is taken out.
-module _ {buckets : ℕ} {entries : List (Option (ℕ × ℕ))} (sound : AreTagged buckets entries NoGap) (place : ℕ) (e : ℕ × ℕ) (here : slot entries place ≡ Some e) where
+module _ {buckets : ℕ} {entries : List (Option (ℕ × ℕ))} (sound : AreTagged buckets entries NoGap) (place : ℕ) (e : ℕ
+    × ℕ) (here : slot entries place ≡ Some e) where
   -- it leaves a gap,
   pub tagged-taken : AreTagged buckets (set entries place None) (GapAt place)
   tagged-taken = tagged-freed (GapAt place) sound place e here (λ i gap. absurd gap) refl

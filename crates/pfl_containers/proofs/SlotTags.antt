@@ -13,7 +13,8 @@ use Rattle.pfl_containers.specs.Lists.{Link, link}
 use Rattle.pfl_containers.specs.SlotIndexes.{key_of, IsIndexOf, HasNone, IsTagged}
 use Rattle.pfl_containers.specs.Slots.{HasTag, FindsBy}
 use Rattle.pfl_containers.proofs.Places.{Stands}
-use Rattle.pfl_containers.proofs.SlotIndexes.{key_of_row, Distinct-between, found-stands, has_none, made-get, made-len, made-empty, made-with, made-without, stands-found}
+use Rattle.pfl_containers.proofs.SlotIndexes.{key_of_row, Distinct-between, found-stands, has_none, made-get, made-len, made-empty, made-with}
+use Rattle.pfl_containers.proofs.SlotIndexes.{made-without, stands-found}
 
 module _ {K X : Type 0} (R : K → K → Ordering) where
   -- a row that a scan finds stands among the rows
@@ -29,7 +30,8 @@ module _ {V K : Type 0} {R : K → K → Ordering} (o : IsTotalOrder R) (exact :
   -- the index of no values
   pub tagged-new : (m : Map nat_cmp ℕ) → m ≡ maps.empty → IsTagged R key tag [] m
   tagged-new m none = record {
-    index = subst (IsIndexOf nat_cmp (λ l. l.slot) (λ l. tag (key l.value)) []) (sym none) (made-empty nat_cmp_total nat_cmp-IsAntisymmetric (λ l. l.slot) (λ l. tag (key l.value)));
+    index = subst (IsIndexOf nat_cmp (λ l. l.slot) (λ l. tag (key l.value)) []) (sym none)
+        (made-empty nat_cmp_total nat_cmp-IsAntisymmetric (λ l. l.slot) (λ l. tag (key l.value)));
     apart = tt;
   }
 
@@ -42,16 +44,19 @@ module _ {V K : Type 0} {R : K → K → Ordering} (o : IsTotalOrder R) (exact :
   tagged-room limit n links m i same room = omega (arith, tagged-len links m i)
 
   -- the tag of a value that stands there is under its slot
-  pub tagged-has : (front : List (Link V)) (l : Link V) (back : List (Link V)) (m : Map nat_cmp ℕ) → IsTagged R key tag (front ++ l ∷ back) m → HasTag m (tag (key l.value)) l.slot
+  pub tagged-has : (front : List (Link V)) (l : Link V) (back : List (Link V)) (m : Map nat_cmp ℕ)
+      → IsTagged R key tag (front ++ l ∷ back) m → HasTag m (tag (key l.value)) l.slot
   tagged-has front l back m i =
       let alone = (Distinct-without nat_cmp_total nat_cmp-IsAntisymmetric (λ (x : Link V). x.slot) front l back i.index.apart).0 in
       made-get nat_cmp_total nat_cmp-IsAntisymmetric (λ x. x.slot) (λ x. tag (key x.value)) (front ++ l ∷ back) m l.slot i.index
       ∙ ap (option_map (λ (x : Link V). tag (key x.value)))
       (row_at-between nat_cmp_total nat_cmp-IsAntisymmetric (λ (x : Link V). x.slot) front l back l.slot alone
-      ∙ ap (λ b. cond b (Some l) (row_at nat_cmp (λ (x : Link V). x.slot) (front ++ back) l.slot)) (own_key nat_cmp_total nat_cmp-IsAntisymmetric (λ (x : Link V). x.slot) l.slot))
+      ∙ ap (λ b. cond b (Some l) (row_at nat_cmp (λ (x : Link V). x.slot) (front ++ back) l.slot))
+      (own_key nat_cmp_total nat_cmp-IsAntisymmetric (λ (x : Link V). x.slot) l.slot))
 
   -- a value more, at a slot that had none
-  pub tagged-gained : (front back : List (Link V)) (slot : ℕ) (v : V) (old new : Map nat_cmp ℕ) (t : ℕ) → t ≡ tag (key v) → new ≡ maps.insert old slot t → maps.get old slot ≡ None
+  pub tagged-gained : (front back : List (Link V)) (slot : ℕ) (v : V) (old new : Map nat_cmp ℕ) (t : ℕ) → t ≡ tag (key v)
+      → new ≡ maps.insert old slot t → maps.get old slot ≡ None
       → IsTagged R key tag (front ++ back) old → HasNone R key (front ++ back) (key v) → IsTagged R key tag (front ++ link slot v ∷ back) new
   tagged-gained front back slot v old new t same is fresh i none = record {
     index = subst (IsIndexOf nat_cmp (λ l. l.slot) (λ l. tag (key l.value)) (front ++ link slot v ∷ back)) (sym (is ∙ ap (λ n. maps.insert old slot n) same))
@@ -66,7 +71,8 @@ module _ {V K : Type 0} {R : K → K → Ordering} (o : IsTotalOrder R) (exact :
       unknown (Some l) e = absurd (some_is_none (tag (key l.value)) e)
 
   -- a value less
-  pub tagged-lost : (front back : List (Link V)) (slot : ℕ) (v : V) (old new : Map nat_cmp ℕ) → new ≡ maps.remove old slot → IsTagged R key tag (front ++ link slot v ∷ back) old
+  pub tagged-lost : (front back : List (Link V)) (slot : ℕ) (v : V) (old new : Map nat_cmp ℕ) → new ≡ maps.remove old slot
+      → IsTagged R key tag (front ++ link slot v ∷ back) old
       → IsTagged R key tag (front ++ back) new
   tagged-lost front back slot v old new is i = record {
     index = subst (IsIndexOf nat_cmp (λ l. l.slot) (λ l. tag (key l.value)) (front ++ back)) (sym is)
@@ -75,22 +81,28 @@ module _ {V K : Type 0} {R : K → K → Ordering} (o : IsTotalOrder R) (exact :
   }
 
   -- a slot that was given up has none
-  pub tagged-gone : (front back : List (Link V)) (slot : ℕ) (v : V) (old : Map nat_cmp ℕ) → IsTagged R key tag (front ++ link slot v ∷ back) old → maps.get (maps.remove old slot) slot ≡ None
+  pub tagged-gone : (front back : List (Link V)) (slot : ℕ) (v : V) (old : Map nat_cmp ℕ)
+      → IsTagged R key tag (front ++ link slot v ∷ back) old → maps.get (maps.remove old slot) slot ≡ None
   tagged-gone front back slot v old i =
       made-get nat_cmp_total nat_cmp-IsAntisymmetric (λ l. l.slot) (λ l. tag (key l.value)) (front ++ back) (maps.remove old slot) slot
       (made-without nat_cmp_total nat_cmp-IsAntisymmetric (λ l. l.slot) (λ l. tag (key l.value)) front (link slot v) back old i.index)
-      ∙ ap (option_map (λ (l : Link V). tag (key l.value))) (Distinct-without nat_cmp_total nat_cmp-IsAntisymmetric (λ (l : Link V). l.slot) front (link slot v) back i.index.apart).0
+      ∙ ap (option_map (λ (l : Link V). tag (key l.value)))
+      (Distinct-without nat_cmp_total nat_cmp-IsAntisymmetric (λ (l : Link V). l.slot) front (link slot v) back i.index.apart).0
 
   -- another value at a slot
-  pub tagged-moved : (front back : List (Link V)) (slot : ℕ) (was v : V) (old new : Map nat_cmp ℕ) (t : ℕ) → t ≡ tag (key v) → new ≡ maps.insert (maps.remove old slot) slot t
+  pub tagged-moved : (front back : List (Link V)) (slot : ℕ) (was v : V) (old new : Map nat_cmp ℕ) (t : ℕ) → t ≡ tag (key v)
+      → new ≡ maps.insert (maps.remove old slot) slot t
       → IsTagged R key tag (front ++ link slot was ∷ back) old → HasNone R key (front ++ back) (key v) → IsTagged R key tag (front ++ link slot v ∷ back) new
   tagged-moved front back slot was v old new t same is i none =
-      tagged-gained front back slot v (maps.remove old slot) new t same is (tagged-gone front back slot was old i) (tagged-lost front back slot was old (maps.remove old slot) refl i) none
+      tagged-gained front back slot v (maps.remove old slot) new t same is (tagged-gone front back slot was old i)
+      (tagged-lost front back slot was old (maps.remove old slot) refl i) none
 
   -- another value of the same key at a slot
-  pub tagged-kept : (front back : List (Link V)) (slot : ℕ) (was v : V) (m : Map nat_cmp ℕ) → key v ≡ key was → IsTagged R key tag (front ++ link slot was ∷ back) m → IsTagged R key tag (front ++ link slot v ∷ back) m
+  pub tagged-kept : (front back : List (Link V)) (slot : ℕ) (was v : V) (m : Map nat_cmp ℕ) → key v ≡ key was
+      → IsTagged R key tag (front ++ link slot was ∷ back) m → IsTagged R key tag (front ++ link slot v ∷ back) m
   tagged-kept front back slot was v m same i =
-      let none : HasNone R key (front ++ back) (key v) = ap (row_at R (key_of key) (front ++ back)) same ∙ (Distinct-without o exact (key_of key) front (link slot was) back i.apart).0 in
+      let none : HasNone R key (front ++ back) (key v) = ap (row_at R (key_of key) (front ++ back)) same
+      ∙ (Distinct-without o exact (key_of key) front (link slot was) back i.apart).0 in
       subst (IsTagged R key tag (front ++ link slot v ∷ back))
       (ap (λ k. maps.insert (maps.remove m slot) slot (tag k)) same
       ∙ set_at-back nat_cmp_total nat_cmp-IsAntisymmetric m slot (Some (tag (key was))) None (tagged-has front (link slot was) back m i))
@@ -99,9 +111,11 @@ module _ {V K : Type 0} {R : K → K → Ordering} (o : IsTotalOrder R) (exact :
   -- the value that stands at a slot with a tag
   pub tagged-stands : (links : List (Link V)) (m : Map nat_cmp ℕ) (slot t : ℕ) → IsTagged R key tag links m → HasTag m t slot → (v : V) × Stands slot links v
   tagged-stands links m slot t i has =
-      at (row_at nat_cmp (λ (l : Link V). l.slot) links slot) refl (sym (made-get nat_cmp_total nat_cmp-IsAntisymmetric (λ l. l.slot) (λ l. tag (key l.value)) links m slot i.index) ∙ has)
+      at (row_at nat_cmp (λ (l : Link V). l.slot) links slot) refl
+      (sym (made-get nat_cmp_total nat_cmp-IsAntisymmetric (λ l. l.slot) (λ l. tag (key l.value)) links m slot i.index) ∙ has)
     where
-      at : (found : Option (Link V)) → row_at nat_cmp (λ (l : Link V). l.slot) links slot ≡ found → option_map (λ (l : Link V). tag (key l.value)) found ≡ Some t → (v : V) × Stands slot links v
+      at : (found : Option (Link V)) → row_at nat_cmp (λ (l : Link V). l.slot) links slot ≡ found
+          → option_map (λ (l : Link V). tag (key l.value)) found ≡ Some t → (v : V) × Stands slot links v
       at None is e = absurd (some_is_none t (sym e))
       at (Some l) is e =
           let here = key_of_row nat_cmp_total nat_cmp-IsAntisymmetric (λ (x : Link V). x.slot) links slot l is in
@@ -109,7 +123,8 @@ module _ {V K : Type 0} {R : K → K → Ordering} (o : IsTotalOrder R) (exact :
           (l.value, record { front = split.0; back = split.1; split = split.2 ∙ ap (λ n. split.0 ++ link n l.value ∷ split.1) here })
 
   -- a slot at which no value stands has no tag
-  pub tagged-fresh : (links : List (Link V)) (m : Map nat_cmp ℕ) (slot : ℕ) → IsTagged R key tag links m → ((v : V) → Stands slot links v → ⊥) → maps.get m slot ≡ None
+  pub tagged-fresh : (links : List (Link V)) (m : Map nat_cmp ℕ) (slot : ℕ) → IsTagged R key tag links m
+      → ((v : V) → Stands slot links v → ⊥) → maps.get m slot ≡ None
   tagged-fresh links m slot i free = none (maps.get m slot) refl
     where
       none : (t : Option ℕ) → maps.get m slot ≡ t → t ≡ None
@@ -117,8 +132,10 @@ module _ {V K : Type 0} {R : K → K → Ordering} (o : IsTotalOrder R) (exact :
       none (Some t) is = let at = tagged-stands links m slot t i is in absurd (free at.0 at.1)
 
   -- Where each slot's answer says whether its value has a key, the search among the slots of the key's tag finds the value of the key.
-  pub tagged-found : (answer : ℕ → Bool → Type 0) (links : List (Link V)) (m : Map nat_cmp ℕ) (q : K) (t : ℕ) (found : Option ℕ) → IsTagged R key tag links m → t ≡ tag q → FindsBy answer m t found
-      → ((slot : ℕ) (v : V) → Stands slot links v → answer slot true → key v ≡ q) → ((slot : ℕ) (v : V) → Stands slot links v → answer slot false → key v ≡ q → ⊥)
+  pub tagged-found : (answer : ℕ → Bool → Type 0) (links : List (Link V)) (m : Map nat_cmp ℕ) (q : K) (t : ℕ) (found : Option ℕ)
+      → IsTagged R key tag links m → t ≡ tag q → FindsBy answer m t found
+      → ((slot : ℕ) (v : V) → Stands slot links v → answer slot true → key v ≡ q)
+      → ((slot : ℕ) (v : V) → Stands slot links v → answer slot false → key v ≡ q → ⊥)
       → found ≡ option_map (λ l. l.slot) (row_at R (key_of key) links q)
   tagged-found answer links m q t None i same finds is_its is_not =
       sym (ap (option_map (λ (l : Link V). l.slot))

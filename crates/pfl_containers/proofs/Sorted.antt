@@ -1,5 +1,6 @@
 -- What a search, an insertion and a removal do to a list in order, said of the two sides of one of its entries.
-use Rattle.std.proofs.Common.{◌≡◌, ℕ, zero, suc, ◌-◌, ◌+◌, Bool, true, false, cond, not, ◌&&◌, T, List, [], ◌∷◌, ◌++◌, length, length-append, Option, Some, None, refl, sym, ap, subst, ◌∙◌, arith}
+use Rattle.std.proofs.Common.{◌≡◌, ℕ, zero, suc, ◌-◌, ◌+◌, Bool, true, false, cond, not, ◌&&◌, T, List, [], ◌∷◌, ◌++◌, length, length-append, Option}
+use Rattle.std.proofs.Common.{Some, None, refl, sym, ap, subst, ◌∙◌, arith}
 use Rattle.std.specs.Prelude.{slice_get, filter, find as first_with}
 use Rattle.std.specs.declared.cmp.Ordering.{Ordering}
 use Rattle.std.specs.declared.cmp.Ordering.TheVariants.{Less, Equal, Greater}
@@ -70,13 +71,15 @@ slice_get-behind (x ∷ xs) ys i zero e = absurd (omega (arith, e))
 slice_get-behind (x ∷ xs) ys i (suc n) e = slice_get-behind xs ys i n (omega (arith, e))
 
 -- the last of all
-pub last-behind : {A : Type 0} (xs : List A) (y : A) (ys : List A) (x : A) → Some x ≡ slice_get ys (length ys - 1) → Some x ≡ slice_get (xs ++ y ∷ ys) (length (xs ++ y ∷ ys) - 1)
+pub last-behind : {A : Type 0} (xs : List A) (y : A) (ys : List A) (x : A) → Some x ≡ slice_get ys (length ys - 1)
+    → Some x ≡ slice_get (xs ++ y ∷ ys) (length (xs ++ y ∷ ys) - 1)
 last-behind xs y [] x is = absurd (cc)
 last-behind xs y (z ∷ ys) x is =
     let one_less : suc (length ys) - 1 ≡ length ys = omega arith in
     is ∙ (ap (slice_get (z ∷ ys)) one_less ∙ sym (slice_get-behind xs (y ∷ z ∷ ys) (suc (length ys)) _ (omega (arith, length-append xs (y ∷ z ∷ ys)))))
 
-pub last-here : {A : Type 0} (xs : List A) (y : A) (ys : List A) → None ≡ slice_get ys (length ys - 1) → Some y ≡ slice_get (xs ++ y ∷ ys) (length (xs ++ y ∷ ys) - 1)
+pub last-here : {A : Type 0} (xs : List A) (y : A) (ys : List A) → None ≡ slice_get ys (length ys - 1)
+    → Some y ≡ slice_get (xs ++ y ∷ ys) (length (xs ++ y ∷ ys) - 1)
 last-here xs y [] is = sym (slice_get-behind xs (y ∷ []) 0 _ (omega (arith, length-append xs (y ∷ []))))
 last-here xs y (z ∷ ys) is = absurd (there ys z (ap (slice_get (z ∷ ys)) one_less) is)
   where
@@ -130,7 +133,8 @@ module _ {K X : Type 0} (R : K → K → Ordering) where
   pub put-front : (k : K) (v : X) (ls : List (K × X)) (y : K × X) (rs : List (K × X)) → R k y.0 ≡ Less → put R k v (ls ++ y ∷ rs) ≡ put R k v ls ++ y ∷ rs
   put-front k v [] y rs is = ap (λ r. by_order r ((k, v) ∷ y ∷ rs) ((y.0, v) ∷ rs) (y ∷ put R k v rs)) is
   put-front k v (e ∷ ls) y rs is =
-      elim (R k e.0) as (λ r. by_order r ((k, v) ∷ e ∷ (ls ++ y ∷ rs)) ((e.0, v) ∷ (ls ++ y ∷ rs)) (e ∷ put R k v (ls ++ y ∷ rs)) ≡ by_order r ((k, v) ∷ e ∷ ls) ((e.0, v) ∷ ls) (e ∷ put R k v ls) ++ y ∷ rs) [
+      elim (R k e.0) as (λ r. by_order r ((k, v) ∷ e ∷ (ls ++ y ∷ rs)) ((e.0, v) ∷ (ls ++ y ∷ rs)) (e ∷ put R k v (ls ++ y ∷ rs))
+      ≡ by_order r ((k, v) ∷ e ∷ ls) ((e.0, v) ∷ ls) (e ∷ put R k v ls) ++ y ∷ rs) [
         | Less ↦ refl
         | Equal ↦ refl
         | Greater ↦ ap (λ (es : List (K × X)). e ∷ es) (put-front k v ls y rs is)
@@ -138,18 +142,21 @@ module _ {K X : Type 0} (R : K → K → Ordering) where
 
   put-past : (k : K) (v : X) (ls es : List (K × X)) → Each (λ e. R k e.0 ≡ Greater) ls → put R k v (ls ++ es) ≡ ls ++ put R k v es
   put-past k v [] es h = refl
-  put-past k v (e ∷ ls) es h = ap (λ r. by_order r ((k, v) ∷ e ∷ (ls ++ es)) ((e.0, v) ∷ (ls ++ es)) (e ∷ put R k v (ls ++ es))) h.0 ∙ ap (λ (fs : List (K × X)). e ∷ fs) (put-past k v ls es h.1)
+  put-past k v (e ∷ ls) es h = ap (λ r. by_order r ((k, v) ∷ e ∷ (ls ++ es)) ((e.0, v) ∷ (ls ++ es)) (e ∷ put R k v (ls ++ es))) h.0
+      ∙ ap (λ (fs : List (K × X)). e ∷ fs) (put-past k v ls es h.1)
 
   without-append : (q : K) (ls es : List (K × X)) → without R q (ls ++ es) ≡ without R q ls ++ without R q es
   without-append q [] es = refl
   without-append q (e ∷ ls) es =
-      elim (not (eq_by_cmp R q e.0)) as (λ b. cond b (e ∷ without R q (ls ++ es)) (without R q (ls ++ es)) ≡ cond b (e ∷ without R q ls) (without R q ls) ++ without R q es) [
+      elim (not (eq_by_cmp R q e.0)) as
+      (λ b. cond b (e ∷ without R q (ls ++ es)) (without R q (ls ++ es)) ≡ cond b (e ∷ without R q ls) (without R q ls) ++ without R q es) [
         | true ↦ ap (λ (fs : List (K × X)). e ∷ fs) (without-append q ls es)
         | false ↦ without-append q ls es
       ]
 
   -- at an entry of another key, or of this one
-  without-cons : (q : K) (e : K × X) (es : List (K × X)) (r : Ordering) → R q e.0 ≡ r → without R q (e ∷ es) ≡ cond (not (is_eq r)) (e ∷ without R q es) (without R q es)
+  without-cons : (q : K) (e : K × X) (es : List (K × X)) (r : Ordering) → R q e.0 ≡ r
+      → without R q (e ∷ es) ≡ cond (not (is_eq r)) (e ∷ without R q es) (without R q es)
   without-cons q e es r is = ap (λ s. cond (not (is_eq s)) (e ∷ without R q es) (without R q es)) is
 
   without-below : (q : K) (es : List (K × X)) → Each (λ e. R q e.0 ≡ Less) es → without R q es ≡ es
@@ -251,7 +258,8 @@ module _ {K X : Type 0} {R : K → K → Ordering} (o : IsTotalOrder R) where
   all_above : (q : K) (es : List (K × X)) → Each (λ e. R q e.0 ≡ Less) es → filter (λ e. is_lt (R q e.0)) es ≡ es
   all_above q [] h = refl
   all_above q (e ∷ es) h =
-      ap (λ r. cond (is_lt r) (e ∷ filter (λ e. is_lt (R q e.0)) es) (filter (λ e. is_lt (R q e.0)) es)) h.0 ∙ ap (λ (fs : List (K × X)). e ∷ fs) (all_above q es h.1)
+      ap (λ r. cond (is_lt r) (e ∷ filter (λ e. is_lt (R q e.0)) es) (filter (λ e. is_lt (R q e.0)) es)) h.0
+      ∙ ap (λ (fs : List (K × X)). e ∷ fs) (all_above q es h.1)
 
   -- an entry is not above its own key, nor above that of a later one
   not_above : (q : K) (e : K × X) (es : List (K × X)) → is_lt (R q e.0) ≡ false → filter (λ e. is_lt (R q e.0)) (e ∷ es) ≡ filter (λ e. is_lt (R q e.0)) es
@@ -263,7 +271,8 @@ module _ {K X : Type 0} {R : K → K → Ordering} (o : IsTotalOrder R) where
   filter-next q [] e h is = absurd (cc)
   filter-next q (x ∷ es) e h is =
       let lower = below_each R x.0 es (first _ _ h) in
-      elim (is_lt (R q x.0)) as (λ b. is_lt (R q x.0) ≡ b → Some e ≡ cond b (Some x) (first_with (λ x. is_lt (R q x.0)) es) → cond b (x ∷ filter (λ x. is_lt (R q x.0)) es) (filter (λ x. is_lt (R q x.0)) es) ≡ e ∷ filter (λ y. is_lt (R e.0 y.0)) (x ∷ es)) [
+      elim (is_lt (R q x.0)) as (λ b. is_lt (R q x.0) ≡ b → Some e ≡ cond b (Some x) (first_with (λ x. is_lt (R q x.0)) es)
+      → cond b (x ∷ filter (λ x. is_lt (R q x.0)) es) (filter (λ x. is_lt (R q x.0)) es) ≡ e ∷ filter (λ y. is_lt (R e.0 y.0)) (x ∷ es)) [
         | true ↦ λ less here.
             let same : x ≡ e = cc in
             let up = Each-from (λ y l. o.trans q x.0 y.0 (lt_less _ less) l) es lower in

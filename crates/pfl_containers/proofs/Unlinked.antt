@@ -1,5 +1,6 @@
 -- A slot is taken out of its ring, and is loose.
-use Rattle.std.proofs.Common.{◌≡◌, ◌≢◌, inl, inr, ℕ, ◌+◌, ◌<◌, ◌≤◌, List, [], ◌∷◌, ◌++◌, length, get_or, set, sym, ◌∙◌, ap, subst, arith, get_or-set_same, get_or-set_other, length-set}
+use Rattle.std.proofs.Common.{◌≡◌, ◌≢◌, inl, inr, ℕ, ◌+◌, ◌<◌, ◌≤◌, List, [], ◌∷◌, ◌++◌, length, get_or, set, sym, ◌∙◌, ap, subst, arith}
+use Rattle.std.proofs.Common.{get_or-set_same, get_or-set_other, length-set}
 use Rattle.std.proofs.lemmas.Bool.{cases_eq}
 use Rattle.std.proofs.lemmas.Option.{slice_get_within}
 use Rattle.pfl_containers.specs.Lists.{Link, link, Lacks}
@@ -9,7 +10,8 @@ use Rattle.pfl_containers.proofs.Paths.{path-last, path-front, path-back, path-f
 use Rattle.pfl_containers.proofs.Walked.{each-set}
 
 -- The slot x of ring k is taken out.
-module _ {V : Type 0} (old new : Nodes) (values : List V) (limit : ℕ) (rings : List (List (Link V))) (a : AreRings old values limit (length values) rings) (few : length values ≤ limit)
+module _ {V : Type 0} (old new : Nodes) (values : List V) (limit : ℕ) (rings : List (List (Link V)))
+    (a : AreRings old values limit (length values) rings) (few : length values ≤ limit)
     (k : ℕ) (within : k < length rings) (x : ℕ) (v : V) (f b : List (Link V)) (split : get_or rings k [] ≡ f ++ link x v ∷ b) where
   own : IsRing old values (length values) k (limit + k) (f ++ link x v ∷ b)
   own = subst (IsRing old values (length values) k (limit + k)) split (a.each k within)
@@ -38,7 +40,8 @@ module _ {V : Type 0} (old new : Nodes) (values : List V) (limit : ℕ) (rings :
 
     ring_kept : (r : ℕ) → r < length rings → r ≢ k → IsRing new values x r (limit + r) (get_or rings r [])
     ring_kept r h other = let ring = a.each r h in record {
-      path = unlink-other old new x u there back r (limit + r) (get_or rings r []) (limit + r) ring.path (others_lack r h other) (no_sentinel r) (no_sentinel r);
+      path = unlink-other old new x u there back r (limit + r) (get_or rings r []) (limit + r) ring.path (others_lack r h other)
+          (no_sentinel r) (no_sentinel r);
       distinct = ring.distinct;
       held = ring.held;
       apart = others_lack r h other;
@@ -57,7 +60,8 @@ module _ {V : Type 0} (old new : Nodes) (values : List V) (limit : ℕ) (rings :
         let was = a.stands y h (λ e. absurd (omega arith)) in
         elim (cases_eq (ring_of old y) k) [
           | inl same ↦
-              let here : get_or (set rings k (f ++ b)) (ring_of old y) [] ≡ f ++ b = ap (λ r. get_or (set rings k (f ++ b)) r []) same ∙ get_or-set_same rings k (f ++ b) [] within in
+              let here : get_or (set rings k (f ++ b)) (ring_of old y) [] ≡ f ++ b = ap (λ r. get_or (set rings k (f ++ b)) r []) same
+              ∙ get_or-set_same rings k (f ++ b) [] within in
               let more = Lacks-with y f (link x v) b (λ e. ne (sym e)) (subst (Lacks y) here lacks) in
               was (subst (Lacks y) (sym (ap (λ r. get_or rings r []) same ∙ split)) more)
           | inr other ↦ was (subst (Lacks y) (get_or-set_other rings k (ring_of old y) (f ++ b) [] other) lacks)

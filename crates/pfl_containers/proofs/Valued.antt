@@ -1,10 +1,12 @@
 -- Another value is written at a slot that stands in a ring.
-use Rattle.std.proofs.Common.{◌≡◌, ◌≢◌, inl, inr, ℕ, suc, ◌+◌, ◌<◌, List, [], ◌∷◌, ◌++◌, length, get_or, set, slice_get, Some, sym, ◌∙◌, ap, subst, arith, get_or-set_same, get_or-set_other, length-set, length-append}
+use Rattle.std.proofs.Common.{◌≡◌, ◌≢◌, inl, inr, ℕ, suc, ◌+◌, ◌<◌, List, [], ◌∷◌, ◌++◌, length, get_or, set, slice_get, Some, sym, ◌∙◌, ap, subst}
+use Rattle.std.proofs.Common.{arith, get_or-set_same, get_or-set_other, length-set, length-append}
 use Rattle.std.proofs.lemmas.Bool.{cases_eq}
 use Rattle.std.proofs.lemmas.Option.{slice_get_within}
 use Rattle.pfl_containers.specs.Lists.{Link, link, Lacks}
 use Rattle.pfl_containers.specs.inner.Rings.{Nodes, next_of, Path, walk, rings_from, ring_of, IsRing, AreRings, IsKept}
-use Rattle.pfl_containers.proofs.Links.{Lacks-front, Lacks-back, Distinct-without, Distinct-apart, Distinct-with, Holds-append, Holds-front, Holds-back, Holds-changed, count-set}
+use Rattle.pfl_containers.proofs.Links.{Lacks-front, Lacks-back, Distinct-without, Distinct-apart, Distinct-with, Holds-append, Holds-front}
+use Rattle.pfl_containers.proofs.Links.{Holds-back, Holds-changed, count-set}
 use Rattle.pfl_containers.proofs.Paths.{path-back, path-Lacks}
 use Rattle.pfl_containers.proofs.Walked.{each-set}
 use Rattle.pfl_containers.proofs.Kept.{slice_get-set, slice_get-set_other, length-rings_from, kept-new}
@@ -61,7 +63,8 @@ module _ {V : Type 0} (nodes : Nodes) (old : List V) (limit loose : ℕ) (rings 
   still_stands : (y : ℕ) → y < length old → y ≢ loose → Lacks y (get_or (set rings k valued) (ring_of nodes y) []) → ⊥
   still_stands y h ne lacks = elim (cases_eq (ring_of nodes y) k) [
     | inl same ↦
-        let here : get_or (set rings k valued) (ring_of nodes y) [] ≡ valued = ap (λ r. get_or (set rings k valued) r []) same ∙ get_or-set_same rings k valued [] within in
+        let here : get_or (set rings k valued) (ring_of nodes y) [] ≡ valued = ap (λ r. get_or (set rings k valued) r []) same
+        ∙ get_or-set_same rings k valued [] within in
         a.stands y h ne (subst (Lacks y) (sym (ap (λ r. get_or rings r []) same ∙ split)) (Lacks-valued x v was b y f (subst (Lacks y) here lacks)))
     | inr other ↦ a.stands y h ne (subst (Lacks y) (get_or-set_other rings k (ring_of nodes y) valued [] other) lacks)
   ]
@@ -76,7 +79,8 @@ module _ {V : Type 0} (nodes : Nodes) (old : List V) (limit loose : ℕ) (rings 
 -- The slot x of list k gets the value v in place of another.
 pub kept-valued : {V : Type 0} (nodes : Nodes) (values : List V) (limit lists len : ℕ) → IsKept nodes values limit lists len
     → (k : ℕ) → k < lists → (x : ℕ) (was v : V) (f b : List (Link V)) → get_or (rings_from nodes values (suc limit) lists) k [] ≡ f ++ link x was ∷ b
-    → IsKept nodes (set values x v) limit lists len × (rings_from nodes (set values x v) (suc limit) lists ≡ set (rings_from nodes values (suc limit) lists) k (f ++ link x v ∷ b))
+    → IsKept nodes (set values x v) limit lists len
+    × (rings_from nodes (set values x v) (suc limit) lists ≡ set (rings_from nodes values (suc limit) lists) k (f ++ link x v ∷ b))
 kept-valued {V = V} nodes values limit lists len kept k h x was v f b split =
     let all : List (List (Link V)) = rings_from nodes values (suc limit) lists in
     let free : List (Link V) = walk nodes values (length values) (next_of nodes limit) in
@@ -86,6 +90,7 @@ kept-valued {V = V} nodes values limit lists len kept k h x was v f b split =
     let rings = rings-valued nodes values limit (length values) (free ∷ all) kept.rings (suc k) within x was v f b split in
     let count = count-set all k more (omega (arith, many)) in
     let same : length more ≡ length (get_or all k []) = omega (arith, length-append f (link x v ∷ b), ap length split, length-append f (link x was ∷ b)) in
-    kept-new nodes (set values x v) limit lists len free (set all k more) kept.small (omega (arith, kept.few, length-set values x v)) (length-set all k more ∙ many)
+    kept-new nodes (set values x v) limit lists len free (set all k more) kept.small (omega (arith, kept.few, length-set values x v))
+    (length-set all k more ∙ many)
     (subst (λ n. AreRings nodes (set values x v) limit n (free ∷ set all k more)) (sym (length-set values x v)) rings)
     (omega (arith, kept.used, count, same, length-set values x v)) (omega (arith, kept.linked, count, same))

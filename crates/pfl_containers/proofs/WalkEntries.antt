@@ -1,5 +1,6 @@
 -- The values on the way from a node are those of the links that a walk from there finds.
-use Rattle.std.proofs.Common.{◌≡◌, ℕ, zero, suc, ◌+◌, ◌<◌, List, [], ◌∷◌, length, map, get_or, slice_get, Option, Some, None, refl, sym, ◌∙◌, ap, arith, add-zero}
+use Rattle.std.proofs.Common.{◌≡◌, ℕ, zero, suc, ◌+◌, ◌<◌, List, [], ◌∷◌, length, map, get_or, slice_get, Option, Some, None, refl, sym, ◌∙◌, ap}
+use Rattle.std.proofs.Common.{arith, add-zero}
 use Rattle.std.proofs.lemmas.Option.{slice_get_within}
 use Rattle.pfl_edits.specs.declared.in_order.Node.{Node}
 use Rattle.pfl_edits.specs.Linked.{entries_from, entry_then, next_of as next_in}

@@ -12,7 +12,8 @@ pub record Tags : Type 0 where
 
 -- as a pair of a map and a number
 abbrev pub coded_tags : Coded Tags
-coded_tags = code_by (Map nat_cmp ℕ × ℕ) (coded× (maps.code coded_ℕ coded_ℕ) coded_ℕ) (λ t. (t.tags, t.limit)) (λ p. record { tags = p.0; limit = p.1 }) (λ _. refl)
+coded_tags = code_by (Map nat_cmp ℕ × ℕ) (coded× (maps.code coded_ℕ coded_ℕ) coded_ℕ) (λ t. (t.tags, t.limit))
+    (λ p. record { tags = p.0; limit = p.1 }) (λ _. refl)
 
 -- there are at most as many slots as there is room for
 pub record AreTags (index : Tags) : Type 0 where

@@ -33,7 +33,8 @@ impl<V: Copy, A: Allocator> Model for Chains<V, A> {
 
     ghost view = { λ c. record { lists = rings_from (node_of c.rings) c.values.items (suc c.rings.limit) c.lists; limit = c.rings.limit } };
 
-    ghost invariant = { λ c. IsKept (node_of c.rings) c.values.items c.rings.limit c.lists c.len × Fits c.rings (length c.values.items) (vec_capacity c.values) c.lists };
+    ghost invariant = { λ c. IsKept (node_of c.rings) c.values.items c.rings.limit c.lists c.len
+        × Fits c.rings (length c.values.items) (vec_capacity c.values) c.lists };
 }
 
 impl<V: Copy, A: Allocator + Copy> Chains<V, A> {
@@ -266,9 +267,12 @@ fn slot_at(node: u32, limit: usize) -> Option<usize>
 
 /// Takes a slot that stands in no list, and writes a value there: the last that was given back, or else the next that was never used.
 fn take_slot<V: Copy, A: Allocator>(rings: &mut Rings<A>, values: &mut Vec<V, A>, value: V) -> usize
-    requires room { (room : HasRoom (node_of rings.old) values.old.items rings.old.limit) × Fits rings.old (length values.old.items) (vec_capacity values.old) room.lists }
-    ensures taken { (room : HasRoom (node_of rings.old) values.old.items rings.old.limit) → Takes (node_of rings.old) (node_of rings.new) values.old.items values.new.items rings.old.limit room.lists result value }
-    ensures fits { (lists : ℕ) → Fits rings.old (length values.old.items) (vec_capacity values.old) lists → Fits rings.new (length values.new.items) (vec_capacity values.new) lists }
+    requires room { (room : HasRoom (node_of rings.old) values.old.items rings.old.limit)
+        × Fits rings.old (length values.old.items) (vec_capacity values.old) room.lists }
+    ensures taken { (room : HasRoom (node_of rings.old) values.old.items rings.old.limit)
+        → Takes (node_of rings.old) (node_of rings.new) values.old.items values.new.items rings.old.limit room.lists result value }
+    ensures fits { (lists : ℕ) → Fits rings.old (length values.old.items) (vec_capacity values.old) lists
+        → Fits rings.new (length values.new.items) (vec_capacity values.new) lists }
     ensures limit { rings.new.limit ≡ rings.old.limit }
 {
     let slot = rings.node(rings.limit).next as usize;

@@ -14,4 +14,4 @@ pub use hash::mix;
 pub use order::OrderedMap;
 pub use order::iter::Iter;
 pub use order::ordered::Ordered;
-pub use slots::{SlotIndex, tag_of};
+pub use slots::{MOST_SLOTS, SlotIndex, tag_of};

@@ -19,8 +19,8 @@ use pfl_edits::NoMemory;
 use std::alloc::Allocator;
 use std::marker::Model;
 
-/// The most entries that an index can have.
-const MOST: usize = 1 << 30;
+/// The most slots that an index can have room for, and so the most rows and entries that are found by one.
+pub const MOST_SLOTS: usize = 1 << 30;
 
 /// The tag of a hash: its upper half.
 #[inline]
@@ -61,7 +61,7 @@ impl<A: Allocator + Copy> SlotIndex<A> {
         ensures limit { IfOk result (λ index. index.limit ≡ limit) }
         ensures empty { IfOk result (λ index. index.tags ≡ maps.empty) }
     {
-        if limit > MOST {
+        if limit > MOST_SLOTS {
             return Err(NoMemory);
         }
         let buckets = first_buckets(limit);

@@ -1,5 +1,6 @@
 -- What holding and letting go keep of the held packets.
-use Rattle.std.specs.Prelude.{refl, ◌≡◌, ℕ, zero, suc, List, ◌∷◌, Some, Bool, true, false, [], filter, ◌≤◌, length, map, ◌⊎◌, ◌++◌, not, find, None, ◌||◌, ◌<◌, nat_le}
+use Rattle.std.specs.Prelude.{refl, ◌≡◌, ℕ, zero, suc, List, ◌∷◌, Some, Bool, true, false, [], filter, ◌≤◌, length, map, ◌⊎◌, ◌++◌, not, find, None}
+use Rattle.std.specs.Prelude.{◌||◌, ◌<◌, nat_le}
 use Rattle.std.specs.Cmp.{IsEquivalence}
 use Rattle.std.specs.List.{slice_get, AllByRecursion, IsDistinct, remove, list_any}
 use Rattle.std.specs.Option.{option_map_or}
@@ -23,7 +24,8 @@ names_alike = record {
 
 -- ---- what a filter keeps
 
-at_front : (h k : Held) (kept hs : List Held) → ((j : ℕ) → slice_get kept j ≡ Some k → (m : ℕ) × (slice_get hs m ≡ Some k)) → (j : ℕ) → slice_get (h ∷ kept) j ≡ Some k → (m : ℕ) × (slice_get (h ∷ hs) m ≡ Some k)
+at_front : (h k : Held) (kept hs : List Held) → ((j : ℕ) → slice_get kept j ≡ Some k → (m : ℕ) × (slice_get hs m ≡ Some k)) → (j : ℕ)
+    → slice_get (h ∷ kept) j ≡ Some k → (m : ℕ) × (slice_get (h ∷ hs) m ≡ Some k)
 at_front h k kept hs rest zero e = (0, e)
 at_front h k kept hs rest (suc j) e = let m = rest j e in (suc m.0, m.1)
 
@@ -44,7 +46,8 @@ few_kept p (h ∷ hs) =
       | false ↦ omega (arith, few_kept p hs)
     ]
 
-apart_kept : (P : StateName → Type 0) (p : Held → Bool) (hs : List Held) → AllByRecursion P (map (λ h. h.name) hs) → AllByRecursion P (map (λ h. h.name) (filter p hs))
+apart_kept : (P : StateName → Type 0) (p : Held → Bool) (hs : List Held) → AllByRecursion P (map (λ h. h.name) hs)
+    → AllByRecursion P (map (λ h. h.name) (filter p hs))
 apart_kept P p [] a = tt
 apart_kept P p (h ∷ hs) a =
     elim (p h) as (λ b. AllByRecursion P (map (λ h. h.name) (cond b (h ∷ filter p hs) (filter p hs)))) [
@@ -56,7 +59,8 @@ once_kept : (p : Held → Bool) (hs : List Held) → IsDistinct is_name (map (λ
 once_kept p [] d = d
 once_kept p (h ∷ hs) d =
     elim (p h) as (λ b. IsDistinct is_name (map (λ h. h.name) (cond b (h ∷ filter p hs) (filter p hs)))) [
-      | true ↦ IsDistinct-cons is_name h.name _ (apart_kept (λ n. is_name h.name n ≡ false) p hs (IsDistinct-head is_name h.name _ d)) (once_kept p hs (IsDistinct-tail is_name h.name _ d))
+      | true ↦ IsDistinct-cons is_name h.name _ (apart_kept (λ n. is_name h.name n ≡ false) p hs (IsDistinct-head is_name h.name _ d))
+          (once_kept p hs (IsDistinct-tail is_name h.name _ d))
       | false ↦ once_kept p hs (IsDistinct-tail is_name h.name _ d)
     ]
 
@@ -69,7 +73,8 @@ pub record IsByAge (hs : List Held) : Type 0 where
 behind : (x : Held) (hs : List Held) → IsByAge (x ∷ hs) → IsByAge hs
 behind x hs a = record { by_age = λ i j h k le e f. a.by_age (suc i) (suc j) h k (omega arith) e f }
 
-oldest_first : (x : Held) (hs : List Held) → IsByAge hs → ((j : ℕ) (k : Held) → slice_get hs j ≡ Some k → x.held_at ≤ k.held_at) → (i j : ℕ) (h k : Held) → i ≤ j → slice_get (x ∷ hs) i ≡ Some h → slice_get (x ∷ hs) j ≡ Some k → h.held_at ≤ k.held_at
+oldest_first : (x : Held) (hs : List Held) → IsByAge hs → ((j : ℕ) (k : Held) → slice_get hs j ≡ Some k → x.held_at ≤ k.held_at)
+    → (i j : ℕ) (h k : Held) → i ≤ j → slice_get (x ∷ hs) i ≡ Some h → slice_get (x ∷ hs) j ≡ Some k → h.held_at ≤ k.held_at
 oldest_first x hs a below zero zero h k le e f = let same : h ≡ k = cc in omega (arith, ap (λ (z : Held). z.held_at) same)
 oldest_first x hs a below zero (suc j) h k le e f = let same : x ≡ h = cc in omega (arith, below j k f, ap (λ (z : Held). z.held_at) same)
 oldest_first x hs a below (suc i) zero h k le e f = absurd (omega arith)
@@ -109,38 +114,46 @@ by_age_more (x ∷ hs) y a up = record {
 pub absent_stays : (name : StateName) (hs : List Held) → find (λ h. is_name name h.name) hs ≡ None → filter (λ h. not (is_name name h.name)) hs ≡ hs
 absent_stays name [] e = refl
 absent_stays name (h ∷ hs) e =
-    elim (is_name name h.name) as (λ b. cond b (Some h) (find (λ h. is_name name h.name) hs) ≡ None → cond (not b) (h ∷ filter (λ h. not (is_name name h.name)) hs) (filter (λ h. not (is_name name h.name)) hs) ≡ h ∷ hs) [
+    elim (is_name name h.name) as (λ b. cond b (Some h) (find (λ h. is_name name h.name) hs) ≡ None
+    → cond (not b) (h ∷ filter (λ h. not (is_name name h.name)) hs) (filter (λ h. not (is_name name h.name)) hs) ≡ h ∷ hs) [
       | true ↦ λ t. absurd (cc)
       | false ↦ λ t. ap (λ (ys : List Held). h ∷ ys) (absent_stays name hs t)
     ] e
 
-apart_absent : (name : StateName) (hs : List Held) → AllByRecursion (λ n. is_name name n ≡ false) (map (λ h. h.name) hs) → find (λ h. is_name name h.name) hs ≡ None
+apart_absent : (name : StateName) (hs : List Held) → AllByRecursion (λ n. is_name name n ≡ false) (map (λ h. h.name) hs)
+    → find (λ h. is_name name h.name) hs ≡ None
 apart_absent name [] a = refl
 apart_absent name (h ∷ hs) a = ap (λ b. cond b (Some h) (find (λ h. is_name name h.name) hs)) a.0 ∙ apart_absent name hs a.1
 
-apart_at : (name : StateName) (hs : List Held) (i : ℕ) (h : Held) → AllByRecursion (λ n. is_name name n ≡ false) (map (λ h. h.name) hs) → slice_get hs i ≡ Some h → is_name name h.name ≡ false
+apart_at : (name : StateName) (hs : List Held) (i : ℕ) (h : Held) → AllByRecursion (λ n. is_name name n ≡ false) (map (λ h. h.name) hs)
+    → slice_get hs i ≡ Some h → is_name name h.name ≡ false
 apart_at name [] i h a e = absurd (cc)
 apart_at name (x ∷ hs) zero h a e = let same : x ≡ h = cc in ap (λ (z : Held). is_name name z.name) (sym same) ∙ a.0
 apart_at name (x ∷ hs) (suc i) h a e = apart_at name hs i h a.1 e
 
 -- a packet before that of a name has another name
-other_before : (x : Held) (hs : List Held) (i : ℕ) (h : Held) → IsDistinct is_name (map (λ h. h.name) (x ∷ hs)) → slice_get hs i ≡ Some h → is_name h.name x.name ≡ false
+other_before : (x : Held) (hs : List Held) (i : ℕ) (h : Held) → IsDistinct is_name (map (λ h. h.name) (x ∷ hs)) → slice_get hs i ≡ Some h
+    → is_name h.name x.name ≡ false
 other_before x hs i h d e = names_alike.symm h.name x.name ∙ apart_at x.name hs i h (IsDistinct-head is_name x.name _ d) e
 
 -- to let the packet at a place go is to let that of its name go
-pub let_go_place : (hs : List Held) (i : ℕ) (h : Held) → IsDistinct is_name (map (λ h. h.name) hs) → slice_get hs i ≡ Some h → filter (λ k. not (is_name h.name k.name)) hs ≡ remove hs i
+pub let_go_place : (hs : List Held) (i : ℕ) (h : Held) → IsDistinct is_name (map (λ h. h.name) hs) → slice_get hs i ≡ Some h
+    → filter (λ k. not (is_name h.name k.name)) hs ≡ remove hs i
 let_go_place [] i h d e = absurd (cc)
 let_go_place (x ∷ hs) zero h d e =
     let same : x ≡ h = cc in
     let own : is_name h.name x.name ≡ true = is_name-itself h.name x.name (ap (λ (z : Held). z.name) (sym same)) in
-    let apart : AllByRecursion (λ n. is_name h.name n ≡ false) (map (λ h. h.name) hs) = subst (λ (z : Held). AllByRecursion (λ n. is_name z.name n ≡ false) (map (λ h. h.name) hs)) same (IsDistinct-head is_name x.name _ d) in
-    ap (λ b. cond (not b) (x ∷ filter (λ k. not (is_name h.name k.name)) hs) (filter (λ k. not (is_name h.name k.name)) hs)) own ∙ absent_stays h.name hs (apart_absent h.name hs apart)
+    let apart : AllByRecursion (λ n. is_name h.name n ≡ false) (map (λ h. h.name) hs) =
+    subst (λ (z : Held). AllByRecursion (λ n. is_name z.name n ≡ false) (map (λ h. h.name) hs)) same (IsDistinct-head is_name x.name _ d) in
+    ap (λ b. cond (not b) (x ∷ filter (λ k. not (is_name h.name k.name)) hs) (filter (λ k. not (is_name h.name k.name)) hs)) own
+    ∙ absent_stays h.name hs (apart_absent h.name hs apart)
 let_go_place (x ∷ hs) (suc i) h d e =
     ap (λ b. cond (not b) (x ∷ filter (λ k. not (is_name h.name k.name)) hs) (filter (λ k. not (is_name h.name k.name)) hs)) (other_before x hs i h d e)
     ∙ ap (λ (ys : List Held). x ∷ ys) (let_go_place hs i h (IsDistinct-tail is_name x.name _ d) e)
 
 -- the packet at a place is that of its name
-pub found_place : (hs : List Held) (i : ℕ) (h : Held) → IsDistinct is_name (map (λ h. h.name) hs) → slice_get hs i ≡ Some h → find (λ k. is_name h.name k.name) hs ≡ Some h
+pub found_place : (hs : List Held) (i : ℕ) (h : Held) → IsDistinct is_name (map (λ h. h.name) hs) → slice_get hs i ≡ Some h
+    → find (λ k. is_name h.name k.name) hs ≡ Some h
 found_place [] i h d e = absurd (cc)
 found_place (x ∷ hs) zero h d e =
     let same : x ≡ h = cc in
@@ -149,10 +162,12 @@ found_place (x ∷ hs) (suc i) h d e =
     ap (λ b. cond b (Some x) (find (λ k. is_name h.name k.name) hs)) (other_before x hs i h d e) ∙ found_place hs i h (IsDistinct-tail is_name x.name _ d) e
 
 -- a name that is not held is not held after any was let go
-pub absent_kept : (name : StateName) (p : Held → Bool) (hs : List Held) → find (λ h. is_name name h.name) hs ≡ None → find (λ h. is_name name h.name) (filter p hs) ≡ None
+pub absent_kept : (name : StateName) (p : Held → Bool) (hs : List Held) → find (λ h. is_name name h.name) hs ≡ None
+    → find (λ h. is_name name h.name) (filter p hs) ≡ None
 absent_kept name p [] e = refl
 absent_kept name p (h ∷ hs) e =
-    elim (is_name name h.name) as (λ b. is_name name h.name ≡ b → cond b (Some h) (find (λ h. is_name name h.name) hs) ≡ None → find (λ h. is_name name h.name) (filter p (h ∷ hs)) ≡ None) [
+    elim (is_name name h.name) as (λ b. is_name name h.name ≡ b → cond b (Some h) (find (λ h. is_name name h.name) hs) ≡ None
+    → find (λ h. is_name name h.name) (filter p (h ∷ hs)) ≡ None) [
       | true ↦ λ t f. absurd (cc)
       | false ↦ λ t f. elim (p h) as (λ b. find (λ h. is_name name h.name) (cond b (h ∷ filter p hs) (filter p hs)) ≡ None) [
         | true ↦ ap (λ b. cond b (Some h) (find (λ h. is_name name h.name) (filter p hs))) t ∙ absent_kept name p hs f
@@ -163,7 +178,8 @@ absent_kept name p (h ∷ hs) e =
 absent_any : (name : StateName) (hs : List Held) → find (λ h. is_name name h.name) hs ≡ None → list_any (is_name name) (map (λ h. h.name) hs) ≡ false
 absent_any name [] e = refl
 absent_any name (h ∷ hs) e =
-    elim (is_name name h.name) as (λ b. is_name name h.name ≡ b → cond b (Some h) (find (λ h. is_name name h.name) hs) ≡ None → list_any (is_name name) (map (λ h. h.name) (h ∷ hs)) ≡ false) [
+    elim (is_name name h.name) as (λ b. is_name name h.name ≡ b → cond b (Some h) (find (λ h. is_name name h.name) hs) ≡ None
+    → list_any (is_name name) (map (λ h. h.name) (h ∷ hs)) ≡ false) [
       | true ↦ λ t f. absurd (cc)
       | false ↦ λ t f. ap (λ b. b || list_any (is_name name) (map (λ h. h.name) hs)) t ∙ absent_any name hs f
     ] refl e
@@ -194,13 +210,15 @@ let_go-keeps d name is =
     }
 
 -- a new packet, not older than the others and of a name that is not held, is held where there is room
-pub with_held-keeps : (d : Deferrals) (name : StateName) (packet : Packet) (now : ℕ) → IsDeferrals d → length d.list < d.limit → held_of d name ≡ None → IsUpTo d now → IsDeferrals (with_held d name packet now)
+pub with_held-keeps : (d : Deferrals) (name : StateName) (packet : Packet) (now : ℕ) → IsDeferrals d → length d.list < d.limit
+    → held_of d name ≡ None → IsUpTo d now → IsDeferrals (with_held d name packet now)
 with_held-keeps d name packet now is room fresh up =
     let y : Held = record { name = name; packet = packet; held_at = now } in
     let aged = by_age_more d.list y (by_age_of d is) up in
     record {
       few = omega (arith, room, length-append d.list (y ∷ []));
-      once = subst (IsDistinct is_name) (sym (names_more d.list y)) (IsDistinct-push names_alike (map (λ h. h.name) d.list) name is.once (absent_any name d.list fresh));
+      once = subst (IsDistinct is_name) (sym (names_more d.list y))
+          (IsDistinct-push names_alike (map (λ h. h.name) d.list) name is.once (absent_any name d.list fresh));
       by_age = aged.by_age;
     }
 
@@ -216,7 +234,8 @@ pub record HasRoom (d new : Deferrals) : Type 0 where
   pub fresh : (name : StateName) → held_of d name ≡ None → held_of new name ≡ None
   pub up_to : (now : ℕ) → IsUpTo d now → IsUpTo new now
 
-room_by : (b : Bool) (d : Deferrals) → nat_le d.limit (length d.list) ≡ b → IsDeferrals d → 0 < d.limit → HasRoom d (option_map_or (λ h. let_go d h.name) (cond b (slice_get d.list 0) None) d)
+room_by : (b : Bool) (d : Deferrals) → nat_le d.limit (length d.list) ≡ b → IsDeferrals d → 0 < d.limit
+    → HasRoom d (option_map_or (λ h. let_go d h.name) (cond b (slice_get d.list 0) None) d)
 room_by false d e is some = record { is = is; room = grind (arith, nat_tests); fresh = λ name f. f; up_to = λ now u. u }
 room_by true d e is some = first d.list refl
   where
@@ -227,7 +246,13 @@ room_by true d e is some = first d.list refl
         let gone = let_go_place d.list 0 h is.once stands in
         record {
           is = let_go-keeps d h.name is;
-          room = omega (arith, is.few, ap (λ (ys : List Held). length ys) (gone ∙ ap (λ (ys : List Held). remove ys 0) l), ap (λ (ys : List Held). length ys) l);
+          room = omega (
+            arith,
+            is.few,
+            ap (λ (ys : List Held). length ys) (gone ∙ ap (λ (ys : List Held). remove ys 0) l),
+            ap
+                (λ (ys : List Held). length ys) l,
+          );
           fresh = λ name f. absent_kept name (λ k. not (is_name h.name k.name)) d.list f;
           up_to = λ now u. let_go-up_to d h.name now u;
         }

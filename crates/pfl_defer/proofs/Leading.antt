@@ -19,7 +19,8 @@ removed-leads_back d i h is at =
     LeadsBack-one Finds IsDeferrals put_back (Removed i h) d (let_go d h.name)
     (subst (λ (hs : List Held). i ≤ length hs) (sym gone) (with_position-stands d.list i (Some h) None at))
     is
-    (ap (λ (hs : List Held). record d { list = insert hs i h }) gone ∙ ap (λ (hs : List Held). record d { list = hs }) (with_position-back d.list i (Some h) None at))
+    (ap (λ (hs : List Held). record d { list = insert hs i h }) gone
+    ∙ ap (λ (hs : List Held). record d { list = hs }) (with_position-back d.list i (Some h) None at))
 
 -- a packet that was held after the others is taken out
 pub added-leads_back : (d : Deferrals) (name : StateName) (packet : Packet) (now : ℕ) → IsDeferrals d
@@ -31,4 +32,5 @@ added-leads_back d name packet now is =
     LeadsBack-one Finds IsDeferrals put_back (Added n y) d (with_held d name packet now)
     (subst (λ (hs : List Held). slice_get hs n ≡ Some y) (insert_end d.list y) (with_position-stands d.list n None (Some y) end))
     is
-    (ap (λ (hs : List Held). record d { list = remove hs n }) (sym (insert_end d.list y)) ∙ ap (λ (hs : List Held). record d { list = hs }) (with_position-back d.list n None (Some y) end))
+    (ap (λ (hs : List Held). record d { list = remove hs n }) (sym (insert_end d.list y))
+    ∙ ap (λ (hs : List Held). record d { list = hs }) (with_position-back d.list n None (Some y) end))

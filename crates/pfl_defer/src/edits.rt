@@ -1,9 +1,7 @@
 //! Edits of the held packets.
-ghost use Rattle.std.specs.Prelude.{◌≡◌, ◌+◌, ◌≤◌, ◌++◌, length};
+ghost use Rattle.std.specs.Prelude.{◌≡◌};
 
 use crate::Held;
-use pfl_edits::Change;
-use std::alloc::Allocator;
 
 /// One packet was held or let go, at a place of the list, counted from 0.
 #[derive(Clone, Copy, Debug, PartialEq, Eq)]
@@ -34,22 +32,4 @@ pub struct HoldChange {
     pub released: Option<DeferEdit>,
     /// The packet was held.
     pub held: DeferEdit,
-}
-
-impl HoldChange {
-    ghost use Rattle.pfl_defer.specs.Edits.{edits_of};
-
-    /// Appends the edits to a change that has room for two.
-    pub fn push_on<A: Allocator>(self, change: &mut Change<DeferEdit, A>)
-        requires room { 2 ≤ change.old.spare }
-        ensures list { change.new.list ≡ change.old.list ++ edits_of self }
-        ensures spare { change.new.spare + length (edits_of self) ≡ change.old.spare }
-    {
-        let HoldChange { released, held } = self;
-        match released {
-            Some(edit) => change.push(edit),
-            None => {}
-        }
-        change.push(held);
-    }
 }

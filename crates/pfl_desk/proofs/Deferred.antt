@@ -19,7 +19,8 @@ use Rattle.pfl_desk.specs.Nodes.{Node, AreParts, IsGiven}
 use Rattle.pfl_desk.proofs.Keeps.{keeps_held, state_still}
 
 -- the state of a name that has one waits no more, and else nothing changes
-pub not_waiting-some : (n : Node) (name : StateName) (s : State) → maps.get n.states name ≡ Some s → not_waiting n name ≡ put_state n (record s { ack_wanted = false })
+pub not_waiting-some : (n : Node) (name : StateName) (s : State) → maps.get n.states name ≡ Some s
+    → not_waiting n name ≡ put_state n (record s { ack_wanted = false })
 not_waiting-some n name s e = ap (λ (o : Option State). option_map_or (λ s. put_state n (record s { ack_wanted = false })) o n) e
 
 pub not_waiting-none : (n : Node) (name : StateName) → maps.get n.states name ≡ None → not_waiting n name ≡ n
@@ -34,7 +35,15 @@ wanted-may n s wanted may = record {
   stack = may.stack;
   no_sync = may.no_sync;
   is = record {
-    is = let one = may.is.is in record { src = one.src; dst = one.dst; proto = one.proto; one_proto = one.one_proto; wire_family = one.wire_family; stack_family = one.stack_family; one_family = one.one_family };
+    is = let one = may.is.is in record {
+      src = one.src;
+      dst = one.dst;
+      proto = one.proto;
+      one_proto = one.one_proto;
+      wire_family = one.wire_family;
+      stack_family = one.stack_family;
+      one_family = one.one_family;
+    };
     given = may.is.given;
     rule = may.is.rule;
     last = may.is.last;
@@ -70,7 +79,8 @@ stands-may n name s is at = record {
 }
 
 -- a node with one packet more, which is held from now on
-pub held-node : (n : Node) (name : StateName) (p : Packet) → AreParts n → IsGiven n name → length n.held.list < n.held.limit → held_of n.held name ≡ None → AreParts (record n { held = with_held n.held name p n.clock })
+pub held-node : (n : Node) (name : StateName) (p : Packet) → AreParts n → IsGiven n name → length n.held.list < n.held.limit
+    → held_of n.held name ≡ None → AreParts (record n { held = with_held n.held name p n.clock })
 held-node n name p is given free fresh =
     keeps_held n (with_held n.held name p n.clock) is (with_held-keeps n.held name p n.clock is.deferrals free fresh (λ i h at. (is.held i h at).1)) refl
     (λ i h at. elim (last_cases n.held.list (record { name = name; packet = p; held_at = n.clock }) i h at) [

@@ -16,7 +16,7 @@ use Rattle.pfl_queue.specs.declared.Mark.{Mark}
 use Rattle.pfl_queue.specs.Queues.{Queue, kind_of, unmarked}
 use Rattle.pfl_queue.proofs.ForCallers.{unmarked_kept, unmarked_absent, kept}
 use Rattle.pfl_language.specs.declared.limits.Limits.{Limits}
-use Rattle.pfl_desk.specs.Changes.{without_state, mark, unmark, is_held, is_insert, lost, count_lost, without_held, deleted, deletion_told, forgotten}
+use Rattle.pfl_desk.specs.Changes.{without_state, mark, unmark, is_held, is_insert, lost, count_lost, without_held, deleted, deletion_announced, forgotten}
 use Rattle.pfl_desk.specs.Nodes.{Node, AreParts}
 use Rattle.pfl_desk.proofs.Keeps.{keeps_states, keeps_queue}
 use Rattle.pfl_desk.proofs.Putting.{IsTold, rightly-still}
@@ -37,7 +37,8 @@ less false k l h = h
 without-node : (n : Node) (name : StateName) → AreParts n → maps.get n.queue.marks name ≡ None → AreParts (without_state n name)
 without-node n name is free =
     keeps_states n (maps.remove n.states name) is (AreStates-without n.states name is.states)
-    (subst (λ (k : ℕ). k ≤ n.limits.states) (sym (len-remove names_total n.states name)) (less (maps.contains_key n.states name) (maps.len n.states) n.limits.states is.few))
+    (subst (λ (k : ℕ). k ≤ n.limits.states) (sym (len-remove names_total n.states name))
+    (less (maps.contains_key n.states name) (maps.len n.states) n.limits.states is.few))
     (λ q s at. elim (get-set_at_cases names_total names_exact n.states name None q s at) [
       | inl here ↦ absurd (some_is_none s (sym here.1))
       | inr other ↦ is.each q s other.1
@@ -54,29 +55,35 @@ taken_out-node n name is = without-node (unmark n name) name is (get-set_at_same
 -- ---- what is announced
 
 -- the deletion of a state is announced to the peer
-abbrev pub is_deletion_told : Node → State → Bool
-is_deletion_told n s = not (is_insert (kind_of n.queue s.name)) && not s.no_sync
+abbrev pub is_deletion_announced : Node → State → Bool
+is_deletion_announced n s = not (is_insert (kind_of n.queue s.name)) && not s.no_sync
 
 -- the name ends on the deletions
-pub gone-told : (n : Node) (s : State) → is_deletion_told n s ≡ true → deletion_told (without_state n s.name) s ≡ mark (unmark (without_state n s.name) s.name) s.name Delete
+pub gone-told : (n : Node) (s : State) → is_deletion_announced n s ≡ true
+    → deletion_announced (without_state n s.name) s ≡ mark (unmark (without_state n s.name) s.name) s.name Delete
 gone-told n s told =
     by (is_insert (kind_of n.queue s.name)) s.no_sync (unmark (without_state n s.name) s.name) (without_state n s.name) _ told
-    ∙ ap (λ (m : Map name_cmp Mark). record (without_state n s.name) { queue = record n.queue { next = n.queue.next + 1; marks = m } }) (sym (set_at-set_at names_total names_exact n.queue.marks s.name None (Some (record { name = s.name; kind = Delete; number = n.queue.next }))))
+    ∙ ap (λ (m : Map name_cmp Mark). record (without_state n s.name) { queue = record n.queue { next = n.queue.next + 1; marks = m } })
+    (sym (set_at-set_at names_total names_exact n.queue.marks s.name None
+    (Some (record { name = s.name; kind = Delete; number = n.queue.next }))))
   where
     by : (a b : Bool) (x y z : Node) → (not a && not b) ≡ true → cond a x (cond b y z) ≡ z
     by true b x y z e = absurd (cc)
     by false true x y z e = absurd (cc)
     by false false x y z e = refl
 
-no_mark : (n : Node) (s : State) → AreParts n → maps.get n.states s.name ≡ Some s → s.no_sync ≡ true → (o : Option Mark) → maps.get n.queue.marks s.name ≡ o → o ≡ None
+no_mark : (n : Node) (s : State) → AreParts n → maps.get n.states s.name ≡ Some s → s.no_sync ≡ true → (o : Option Mark)
+    → maps.get n.queue.marks s.name ≡ o → o ≡ None
 no_mark n s is stands quiet None at = refl
 no_mark n s is stands quiet (Some k) at = let told = subst IsTold stands (is.marks s.name k at).1.1 in absurd (cc)
 
 -- or on no queue
-pub gone-untold : (n : Node) (s : State) → AreParts n → maps.get n.states s.name ≡ Some s → is_deletion_told n s ≡ false → deletion_told (without_state n s.name) s ≡ unmark (without_state n s.name) s.name
-gone-untold n s is stands told =
+pub gone-unannounced : (n : Node) (s : State) → AreParts n → maps.get n.states s.name ≡ Some s → is_deletion_announced n s ≡ false
+    → deletion_announced (without_state n s.name) s ≡ unmark (without_state n s.name) s.name
+gone-unannounced n s is stands told =
     by (is_insert (kind_of n.queue s.name)) s.no_sync (unmark (without_state n s.name) s.name) (without_state n s.name) _ told
-    (λ quiet. ap (λ (q : Queue). record (without_state n s.name) { queue = q }) (unmarked_absent n.queue s.name (no_mark n s is stands quiet (maps.get n.queue.marks s.name) refl)))
+    (λ quiet. ap (λ (q : Queue). record (without_state n s.name) { queue = q })
+    (unmarked_absent n.queue s.name (no_mark n s is stands quiet (maps.get n.queue.marks s.name) refl)))
   where
     by : (a b : Bool) (x y z : Node) → (not a && not b) ≡ false → (b ≡ true → y ≡ x) → cond a x (cond b y z) ≡ x
     by true b x y z e f = refl
@@ -99,10 +106,12 @@ rest n = (n.limits, (n.rules, (n.states, (n.clock, (n.creator, n.next_id)))))
 pub deleted-rest : (n : Node) (s : State) → rest (deleted n s) ≡ rest (without_state n s.name)
 unfolding deleted
 deleted-rest n s =
-    let before = field_if (λ (m : Node). rest (without_state m s.name)) (is_held n s.name) (count_lost (without_held n s.name)) n (rest (without_state n s.name)) refl refl in
-    field_if rest (is_insert (kind_of (lost n s.name).queue s.name)) _ _ (rest (without_state n s.name)) before (field_if rest s.no_sync _ _ (rest (without_state n s.name)) before before)
+    let before = field_if (λ (m : Node). rest (without_state m s.name)) (is_held n s.name) (count_lost (without_held n s.name)) n
+    (rest (without_state n s.name)) refl refl in
+    field_if rest (is_insert (kind_of (lost n s.name).queue s.name)) _ _ (rest (without_state n s.name)) before
+    (field_if rest s.no_sync _ _ (rest (without_state n s.name)) before before)
 
-pub deleted-is : (n : Node) (s : State) → deleted n s ≡ deletion_told (without_state (lost n s.name) s.name) s
+pub deleted-is : (n : Node) (s : State) → deleted n s ≡ deletion_announced (without_state (lost n s.name) s.name) s
 unfolding deleted
 deleted-is n s = refl
 

@@ -26,7 +26,8 @@ past_later None t u le h = h
 past_later (Some x) t u le h = omega arith
 
 -- a state of a node is one of the node that goes on
-pub state_later : (n k : Node) (s : State) → k.creator ≡ n.creator → n.next_id ≤ k.next_id → k.rules ≡ n.rules → n.clock ≤ k.clock → IsNodeState n s → IsNodeState k s
+pub state_later : (n k : Node) (s : State) → k.creator ≡ n.creator → n.next_id ≤ k.next_id → k.rules ≡ n.rules → n.clock ≤ k.clock
+    → IsNodeState n s → IsNodeState k s
 state_later n k s creator ids rules clocks is = record {
   is = is.is;
   given = λ own. let below = is.given (own ∙ creator) in omega arith;
@@ -37,8 +38,10 @@ state_later n k s creator ids rules clocks is = record {
 }
 
 -- the same of one with a part replaced that no state asks about
-pub state_still : (n k : Node) (s : State) → k.creator ≡ n.creator → k.next_id ≡ n.next_id → k.rules ≡ n.rules → k.clock ≡ n.clock → IsNodeState n s → IsNodeState k s
-state_still n k s creator ids rules clocks is = state_later n k s creator (subst (λ i. n.next_id ≤ i) (sym ids) (omega arith)) rules (subst (λ c. n.clock ≤ c) (sym clocks) (omega arith)) is
+pub state_still : (n k : Node) (s : State) → k.creator ≡ n.creator → k.next_id ≡ n.next_id → k.rules ≡ n.rules → k.clock ≡ n.clock
+    → IsNodeState n s → IsNodeState k s
+state_still n k s creator ids rules clocks is =
+    state_later n k s creator (subst (λ i. n.next_id ≤ i) (sym ids) (omega arith)) rules (subst (λ c. n.clock ≤ c) (sym clocks) (omega arith)) is
 
 -- other states
 pub keeps_states : (n : Node) (m : States) → AreParts n → AreStates m → maps.len m ≤ n.limits.states
@@ -99,11 +102,23 @@ all_below (x ∷ xs) e =
 
 pub counted_all : (n : Node) → is_overcounted n ≡ false → AreCounted n
 counted_all n e =
-    let all = all_below (n.next_id ∷ n.queue.next ∷ n.counters.passed ∷ n.counters.blocked ∷ n.counters.freed ∷ n.counters.lost ∷ n.counters.bad ∷ n.counters.stale ∷ n.counters.broken ∷ []) e in
-    record { next_id = all.0; next = all.1.0; passed = all.1.1.0; blocked = all.1.1.1.0; freed = all.1.1.1.1.0; lost = all.1.1.1.1.1.0; bad = all.1.1.1.1.1.1.0; stale = all.1.1.1.1.1.1.1.0; broken = all.1.1.1.1.1.1.1.1.0 }
+    let all = all_below (n.next_id ∷ n.queue.next ∷ n.counters.passed ∷ n.counters.blocked ∷ n.counters.freed ∷ n.counters.lost
+    ∷ n.counters.bad ∷ n.counters.stale ∷ n.counters.broken ∷ []) e in
+    record {
+      next_id = all.0;
+      next = all.1.0;
+      passed = all.1.1.0;
+      blocked = all.1.1.1.0;
+      freed = all.1.1.1.1.0;
+      lost = all.1.1.1.1.1.0;
+      bad = all.1.1.1.1.1.1.0;
+      stale = all.1.1.1.1.1.1.1.0;
+      broken = all.1.1.1.1.1.1.1.1.0;
+    }
 
 pub all_counted : (n : Node) → AreCounted n → is_overcounted n ≡ false
-all_counted n c = none_above (n.next_id ∷ n.queue.next ∷ n.counters.passed ∷ n.counters.blocked ∷ n.counters.freed ∷ n.counters.lost ∷ n.counters.bad ∷ n.counters.stale ∷ n.counters.broken ∷ [])
+all_counted n c = none_above (n.next_id ∷ n.queue.next ∷ n.counters.passed ∷ n.counters.blocked ∷ n.counters.freed ∷ n.counters.lost
+    ∷ n.counters.bad ∷ n.counters.stale ∷ n.counters.broken ∷ [])
     (c.next_id, (c.next, (c.passed, (c.blocked, (c.freed, (c.lost, (c.bad, (c.stale, (c.broken, tt)))))))))
 
 -- ---- one place each

@@ -26,7 +26,8 @@ clear-node n creator bound is free = keeps_queue n _ is (clear_kept n.queue is.q
 pub request-node : (n : Node) (name : StateName) → AreParts n → request_fault n.queue name ≡ None → AreParts (list_request n name)
 request-node n name is = by (is_requested n.queue name) refl
   where
-    by : (b : Bool) → is_requested n.queue name ≡ b → (if b then None else list_fault n.queue) ≡ None → AreParts (record n { queue = cond b n.queue (record n.queue { requests = n.queue.requests ++ name ∷ [] }) })
+    by : (b : Bool) → is_requested n.queue name ≡ b → (if b then None else list_fault n.queue) ≡ None
+        → AreParts (record n { queue = cond b n.queue (record n.queue { requests = n.queue.requests ++ name ∷ [] }) })
     by true at free = is
     by false at free = keeps_queue n _ is (request_kept n.queue is.queue free name at) refl is.marks
 
@@ -38,7 +39,8 @@ new-request true o e f is there = absurd (cc)
 new-request false o e f is there = (refl, cc)
 
 -- a new request takes no number
-pub request-next : (q : Queue) (name : StateName) → is_requested q name ≡ false → (if is_requested q name then q else record q { requests = q.requests ++ name ∷ [] }).next ≡ q.next
+pub request-next : (q : Queue) (name : StateName) → is_requested q name ≡ false
+    → (if is_requested q name then q else record q { requests = q.requests ++ name ∷ [] }).next ≡ q.next
 request-next q name new = ap (λ b. (cond b q (record q { requests = q.requests ++ name ∷ [] })).next) new
 
 total-queue : (n : Node) (q : Queue) → q.next ≡ n.queue.next → total (record n { queue = q }) ≤ total n + 1
@@ -46,8 +48,10 @@ unfolding total
 total-queue n q next = omega (arith, next)
 
 -- an edit of what is pending that takes no number
-pub makes_queue : (n : Node) (e : QueueEdit) (q : Queue) → AreParts n → QueueLeadsBack (e ∷ []) n.queue q → NextStays e → q.next ≡ n.queue.next → Makes (OfQueue e ∷ []) n (record n { queue = q })
+pub makes_queue : (n : Node) (e : QueueEdit) (q : Queue) → AreParts n → QueueLeadsBack (e ∷ []) n.queue q → NextStays e
+    → q.next ≡ n.queue.next → Makes (OfQueue e ∷ []) n (record n { queue = q })
 makes_queue n e q is back stays next = record {
-  leads_back = LeadsBack-one Finds AreParts put_back (OfQueue e) n (record n { queue = q }) (back.fits.1, stays) is (ap (λ (r : Queue). record n { queue = r }) back.back);
+  leads_back = LeadsBack-one Finds AreParts put_back (OfQueue e) n (record n { queue = q }) (back.fits.1, stays) is
+      (ap (λ (r : Queue). record n { queue = r }) back.back);
   counted = total-queue n q next;
 }

@@ -26,7 +26,8 @@ abbrev pub IsTold : Option State → Type 0
 IsTold at = IfSome at (λ s. s.no_sync ≡ false)
 
 -- a mark of a name under which the same stands
-pub rightly-still : (n : Node) (m : States) (name : StateName) (k : Mark) → maps.get m name ≡ maps.get n.states name → MarksRightly n name k → MarksRightly (record n { states = m }) name k
+pub rightly-still : (n : Node) (m : States) (name : StateName) (k : Mark) → maps.get m name ≡ maps.get n.states name
+    → MarksRightly n name k → MarksRightly (record n { states = m }) name k
 rightly-still n m name k still rightly =
     ((λ gone. still ∙ rightly.0.0 gone, λ none. rightly.0.1 (sym still ∙ none)), subst IsTold (sym still) rightly.1)
 
@@ -62,16 +63,22 @@ replaced-node n s is may =
 -- ---- marks
 
 -- a name that may be on a queue, and that there is room for, is marked
-pub marked-node : (n : Node) (name : StateName) (kind : Kind) → AreParts n → MayMark n name kind → room_fault n.queue name ≡ None → n.queue.next < most_numbers → AreParts (mark n name kind)
+pub marked-node : (n : Node) (name : StateName) (kind : Kind) → AreParts n → MayMark n name kind → room_fault n.queue name ≡ None
+    → n.queue.next < most_numbers → AreParts (mark n name kind)
 marked-node n name kind is may free number =
     keeps_queue n _ is (marked_kept n.queue is.queue name kind free number) refl
     (λ q k at. elim (get-set_at_cases names_total names_exact n.queue.marks name (Some (record { name = name; kind = kind; number = n.queue.next })) q k at) [
-      | inl here ↦ (subst (IsGiven n) (sym here.0) may.given, subst (λ (o : StateName). MarksRightly n o k) (sym here.0) (subst (MarksRightly n name) (inner _ k here.1) may.rightly))
+      | inl here ↦ (
+        subst (IsGiven n) (sym here.0) may.given,
+        subst (λ (o : StateName). MarksRightly n o k) (sym here.0)
+            (subst (MarksRightly n name) (inner _ k here.1) may.rightly),
+      )
       | inr old ↦ is.marks q k old.1
     ])
 
 -- a name with a state that is announced may be on each queue but that of deletions
-pub told-may : (n : Node) (name : StateName) (kind : Kind) (s : State) → maps.get n.states name ≡ Some s → s.no_sync ≡ false → IsGiven n name → kind ≢ Delete → MayMark n name kind
+pub told-may : (n : Node) (name : StateName) (kind : Kind) (s : State) → maps.get n.states name ≡ Some s → s.no_sync ≡ false
+    → IsGiven n name → kind ≢ Delete → MayMark n name kind
 told-may n name kind s there told given other = record {
   given = given;
   rightly = ((λ gone. absurd (other gone), λ none. absurd (some_is_none s (sym there ∙ none))), subst IsTold (sym there) told);

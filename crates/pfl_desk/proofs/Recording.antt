@@ -1,5 +1,6 @@
 -- An edit that is recorded leads back, and counts at most one more.
-use Rattle.std.specs.Prelude.{◌≡◌, ◌≤◌, ◌<◌, ℕ, ◌+◌, ◌*◌, Bool, true, false, not, ◌&&◌, nat_le, nat_lt, List, [], ◌∷◌, ◌++◌, length, Option, Some, None, is_some, if◌then◌else◌, refl}
+use Rattle.std.specs.Prelude.{◌≡◌, ◌≤◌, ◌<◌, ℕ, ◌+◌, ◌*◌, Bool, true, false, not, ◌&&◌, nat_le, nat_lt, List, [], ◌∷◌, ◌++◌, length, Option, Some}
+use Rattle.std.specs.Prelude.{None, is_some, if◌then◌else◌, refl}
 use Rattle.std.proofs.Common.{cond, ◌∙◌, ap, sym, subst, arith, length-append}
 use Rattle.std.proofs.lemmas.Bool.Decides.{nat_tests}
 use Rattle.pfl_base.specs.declared.state_name.StateName.{StateName}
@@ -54,7 +55,8 @@ writes-more k l d e h w = let few = w.spare in record { spare = omega (arith, fe
 
 -- ---- what was made, recorded
 
-module _ (a b : Node) (x y : Edits NodeEdit) (es : List NodeEdit) (is : IsDraft (draft a x)) (made : Makes es a b) (lists : y.list ≡ x.list ++ es) (spares : y.spare + length es ≡ x.spare) where
+module _ (a b : Node) (x y : Edits NodeEdit) (es : List NodeEdit) (is : IsDraft (draft a x)) (made : Makes es a b)
+    (lists : y.list ≡ x.list ++ es) (spares : y.spare + length es ≡ x.spare) where
   long : length y.list ≡ length x.list + length es
   long = ap (λ (l : List NodeEdit). length l) lists ∙ length-append x.list es
 
@@ -79,7 +81,8 @@ module _ (a b : Node) (x y : Edits NodeEdit) (es : List NodeEdit) (is : IsDraft 
   writes-all = record { spare = omega (arith, spares); room = omega (arith, long, spares); began = leads.back }
 
 -- one edit
-module _ (a b : Node) (x y : Edits NodeEdit) (e : NodeEdit) (is : IsDraft (draft a x)) (made : Makes (e ∷ []) a b) (lists : y.list ≡ x.list ++ e ∷ []) (spares : y.spare + 1 ≡ x.spare) where
+module _ (a b : Node) (x y : Edits NodeEdit) (e : NodeEdit) (is : IsDraft (draft a x)) (made : Makes (e ∷ []) a b)
+    (lists : y.list ≡ x.list ++ e ∷ []) (spares : y.spare + 1 ≡ x.spare) where
   pub draft-one : IsDraft (draft b y)
   draft-one = draft-all a b x y (e ∷ []) is made lists spares
 
@@ -94,7 +97,8 @@ draft-if a b x y None is made wrote = subst (λ (n : Node). IsDraft (draft n y))
 pub writes-if : (a b : Node) (x y : Edits NodeEdit) (o : Option NodeEdit) → IsDraft (draft a x) → MakesIf o a b → Wrote o x y → Writes 1 (draft a x) (draft b y)
 writes-if a b x y (Some e) is made wrote = writes-one a b x y e is made wrote.0 wrote.1
 writes-if a b x y None is made wrote =
-    subst (λ (n : Node). Writes 1 (draft a x) (draft n y)) (sym made) (subst (λ (z : Edits NodeEdit). Writes 1 (draft a x) (draft a z)) (sym wrote) (writes-none 1 (draft a x)))
+    subst (λ (n : Node). Writes 1 (draft a x) (draft n y)) (sym made)
+    (subst (λ (z : Edits NodeEdit). Writes 1 (draft a x) (draft a z)) (sym wrote) (writes-none 1 (draft a x)))
 
 -- what is counted is far from the last number that the code has
 total-small : (n : Node) → is_overcounted n ≡ false → total n ≤ 9 * greatest
@@ -180,7 +184,8 @@ pub makes_held : (n : Node) (e : DeferEdit) (d : Deferrals) → AreParts n → D
 makes_held n e d is back =
     let same = total-held n d in
     record {
-      leads_back = LeadsBack-one Finds AreParts put_back (OfHeld e) n (record n { held = d }) back.fits.1 is (ap (λ (h : Deferrals). record n { held = h }) back.back);
+      leads_back = LeadsBack-one Finds AreParts put_back (OfHeld e) n (record n { held = d }) back.fits.1 is
+          (ap (λ (h : Deferrals). record n { held = h }) back.back);
       counted = omega (arith, same);
     }
 
@@ -195,14 +200,17 @@ without_held-node n name is =
 -- a name that is on no queue is one entry more
 marked-pending : (q : Queue) (name : StateName) (kind : Kind) → maps.get q.marks name ≡ None → pending (marked q name kind) ≡ pending q + 1
 marked-pending q name kind none =
-    let more = len-insert names_total q.marks name (record { name = name; kind = kind; number = q.next }) ∙ ap (λ (o : Option Mark). cond (is_some o) (maps.len q.marks) (maps.len q.marks + 1)) none in
+    let more = len-insert names_total q.marks name (record { name = name; kind = kind; number = q.next })
+    ∙ ap (λ (o : Option Mark). cond (is_some o) (maps.len q.marks) (maps.len q.marks + 1)) none in
     omega (arith, more)
 
 -- where there is no room to mark a name, too much would be pending
 pub full-marked : (n : Node) (name : StateName) (kind : Kind) {f : QueueFault} → room_fault n.queue name ≡ Some f → is_overfull (mark n name kind) ≡ true
 full-marked n name kind {f} e = by (maps.get n.queue.marks name) refl e
   where
-    by : (o : Option Mark) → maps.get n.queue.marks name ≡ o → (if not (is_some o) && nat_le n.queue.limit (pending n.queue) then Some QueueFull else None) ≡ Some f → is_overfull (mark n name kind) ≡ true
+    by : (o : Option Mark) → maps.get n.queue.marks name ≡ o
+        → (if not (is_some o) && nat_le n.queue.limit (pending n.queue) then Some QueueFull else None) ≡ Some f
+        → is_overfull (mark n name kind) ≡ true
     by (Some m) at e = absurd (cc)
     by None at e =
         let full : nat_le n.queue.limit (pending n.queue) ≡ true = tested (nat_le n.queue.limit (pending n.queue)) e in

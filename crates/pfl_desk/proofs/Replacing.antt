@@ -29,26 +29,31 @@ put_again n s there = ap (λ (m : States). record n { states = m }) (sym (set_at
 pub moved_none : (n : Node) (name : StateName) (to : Motion) → maps.get n.states name ≡ None → n ≡ record n { states = moved_at n.states name to }
 moved_none n name to none =
     ap (λ (m : States). record n { states = m })
-    (sym (set_at-same names_total names_exact n.states name (option_map (with_motion to) (maps.get n.states name)) (none ∙ sym (ap (option_map (with_motion to)) none))))
+    (sym (set_at-same names_total names_exact n.states name (option_map (with_motion to) (maps.get n.states name))
+    (none ∙ sym (ap (option_map (with_motion to)) none))))
 
 -- what is recorded where a state takes the place of a former one: nothing where it is that one,
-pub replaced-same : (n : Node) (former s : State) (edit : Option NodeEdit) → maps.get n.states s.name ≡ Some former → MatchOption edit (s ≡ former) (Replaces former s) → IfNone edit (maps.get n.states s.name ≡ Some s)
+pub replaced-same : (n : Node) (former s : State) (edit : Option NodeEdit) → maps.get n.states s.name ≡ Some former
+    → MatchOption edit (s ≡ former) (Replaces former s) → IfNone edit (maps.get n.states s.name ≡ Some s)
 replaced-same n former s None there same = there ∙ ap (λ (t : State). Some t) (sym same)
 replaced-same n former s (Some e) there replaces = tt
 
 -- and else an edit that replaces it
-pub replaced-edit : (n : Node) (former s : State) (edit : Option NodeEdit) → maps.get n.states s.name ≡ Some former → MatchOption edit (s ≡ former) (Replaces former s)
+pub replaced-edit : (n : Node) (former s : State) (edit : Option NodeEdit) → maps.get n.states s.name ≡ Some former
+    → MatchOption edit (s ≡ former) (Replaces former s)
     → IfSome edit (λ e. (was : State) × (maps.get n.states s.name ≡ Some was) × Replaces was s e)
 replaced-edit n former s None there same = tt
 replaced-edit n former s (Some e) there replaces = (former, there, replaces)
 
 -- a state that moved, and how
-pub replaced-moved : (n : Node) (former s : State) (edit : NodeEdit) (e : MotionEdit) → edit ≡ Moved e → Replaces former s edit → maps.get n.states s.name ≡ Some former
+pub replaced-moved : (n : Node) (former s : State) (edit : NodeEdit) (e : MotionEdit) → edit ≡ Moved e → Replaces former s edit
+    → maps.get n.states s.name ≡ Some former
     → record n { states = moved_at n.states s.name e.after } ≡ put_state n s
 replaced-moved n former s edit e is replaces there =
     let how = subst (Replaces former s) is replaces in
     ap (λ (at : Option State). record n { states = set_at n.states s.name at })
-    (ap (option_map (with_motion e.after)) there ∙ (ap (λ (m : Motion). Some (with_motion m former)) (ap (λ (d : MotionEdit). d.after) how.0) ∙ ap (λ (t : State). Some t) (sym how.1)))
+    (ap (option_map (with_motion e.after)) there
+    ∙ (ap (λ (m : Motion). Some (with_motion m former)) (ap (λ (d : MotionEdit). d.after) how.0) ∙ ap (λ (t : State). Some t) (sym how.1)))
 
 -- a state that replaces the one of its name is recorded
 pub replaced-makes : (n : Node) (former s : State) (e : NodeEdit) → Replaces former s e → AreParts n → maps.get n.states s.name ≡ Some former
@@ -59,7 +64,8 @@ replaced-makes n former s (Moved e) is parts there =
     let moved : option_map (with_motion (motion s)) (maps.get n.states s.name) ≡ Some s =
     ap (option_map (with_motion (motion s))) there ∙ ap (λ (t : State). Some t) (sym is.1) in
     subst (λ (at : Option State). Makes (Moved e ∷ []) n (record n { states = set_at n.states s.name at })) moved
-    (makes_as n (Moved e) (Moved (record { name = s.name; slot = e.slot; before = motion former; after = motion s })) (ap Moved is.0) parts (ap (option_map motion) there) tt)
+    (makes_as n (Moved e) (Moved (record { name = s.name; slot = e.slot; before = motion former; after = motion s })) (ap Moved is.0) parts
+    (ap (option_map motion) there) tt)
 replaced-makes n former s (OfQueue e) is parts there = absurd is
 replaced-makes n former s (OfHeld e) is parts there = absurd is
 replaced-makes n former s (Server before after) is parts there = absurd is

@@ -5,7 +5,7 @@ use Rattle.std.proofs.Common.{◌∙◌, ap, sym, subst}
 use Rattle.pfl_base.specs.declared.refusal.Refusal.{Refusal}
 use Rattle.pfl_base.specs.declared.refusal.Refusal.TheVariants.{QueueFull, CountFull}
 use Rattle.pfl_base.specs.Numbers.{greatest}
-use Rattle.pfl_edits.specs.Changes.{Edits, Fits, LeadsBack, back}
+use Rattle.pfl_edits.specs.Changes.{Fits, LeadsBack, back}
 use Rattle.pfl_queue.specs.declared.edits.QueueEdit.TheVariants.{OfMark, OfName, OfRequest, OfStatus, OfClear}
 use Rattle.pfl_desk.specs.declared.edit.Counter.TheVariants.{Passed, Blocked, Freed, Lost, Bad, Stale, Broken}
 use Rattle.pfl_desk.specs.declared.edit.NodeEdit.{NodeEdit}
@@ -24,7 +24,18 @@ stays (OfState e) n f c = c
 stays (Moved e) n f c = c
 stays (OfQueue (OfMark name before after next_before next_after)) n f c =
     let k = counted_all n c in
-    all_counted (put_back (OfQueue (OfMark name before after next_before next_after)) n) (record { next_id = k.next_id; next = f.1 (subst (λ i. i ≤ greatest) f.0.1 k.next); passed = k.passed; blocked = k.blocked; freed = k.freed; lost = k.lost; bad = k.bad; stale = k.stale; broken = k.broken })
+    all_counted (put_back (OfQueue (OfMark name before after next_before next_after)) n)
+    (record {
+      next_id = k.next_id;
+      next = f.1 (subst (λ i. i ≤ greatest) f.0.1 k.next);
+      passed = k.passed;
+      blocked = k.blocked;
+      freed = k.freed;
+      lost = k.lost;
+      bad = k.bad;
+      stale = k.stale;
+      broken = k.broken;
+    })
 stays (OfQueue (OfName name before after)) n f c = c
 stays (OfQueue (OfRequest position before after)) n f c = c
 stays (OfQueue (OfStatus position before after)) n f c = c
@@ -36,30 +47,119 @@ stays (Clock before after) n f c = c
 stays (Push before after) n f c = c
 stays (NextId before after) n f c =
     let k = counted_all n c in
-    all_counted (put_back (NextId before after) n) (record { next_id = f.1 (subst (λ i. i ≤ greatest) f.0 k.next_id); next = k.next; passed = k.passed; blocked = k.blocked; freed = k.freed; lost = k.lost; bad = k.bad; stale = k.stale; broken = k.broken })
+    all_counted (put_back (NextId before after) n)
+    (record {
+      next_id = f.1 (subst (λ i. i ≤ greatest) f.0 k.next_id);
+      next = k.next;
+      passed = k.passed;
+      blocked = k.blocked;
+      freed = k.freed;
+      lost = k.lost;
+      bad = k.bad;
+      stale = k.stale;
+      broken = k.broken;
+    })
 stays (Count Passed before after) n f c =
     let k = counted_all n c in
-    all_counted (put_back (Count Passed before after) n) (record { next_id = k.next_id; next = k.next; passed = f.1 (subst (λ i. i ≤ greatest) f.0 k.passed); blocked = k.blocked; freed = k.freed; lost = k.lost; bad = k.bad; stale = k.stale; broken = k.broken })
+    all_counted (put_back (Count Passed before after) n)
+    (record {
+      next_id = k.next_id;
+      next = k.next;
+      passed = f.1 (subst (λ i. i ≤ greatest) f.0 k.passed);
+      blocked = k.blocked;
+      freed = k.freed;
+      lost = k.lost;
+      bad = k.bad;
+      stale = k.stale;
+      broken = k.broken;
+    })
 stays (Count Blocked before after) n f c =
     let k = counted_all n c in
-    all_counted (put_back (Count Blocked before after) n) (record { next_id = k.next_id; next = k.next; passed = k.passed; blocked = f.1 (subst (λ i. i ≤ greatest) f.0 k.blocked); freed = k.freed; lost = k.lost; bad = k.bad; stale = k.stale; broken = k.broken })
+    all_counted (put_back (Count Blocked before after) n)
+    (record {
+      next_id = k.next_id;
+      next = k.next;
+      passed = k.passed;
+      blocked = f.1 (subst (λ i. i ≤ greatest) f.0 k.blocked);
+      freed = k.freed;
+      lost = k.lost;
+      bad = k.bad;
+      stale = k.stale;
+      broken = k.broken;
+    })
 stays (Count Freed before after) n f c =
     let k = counted_all n c in
-    all_counted (put_back (Count Freed before after) n) (record { next_id = k.next_id; next = k.next; passed = k.passed; blocked = k.blocked; freed = f.1 (subst (λ i. i ≤ greatest) f.0 k.freed); lost = k.lost; bad = k.bad; stale = k.stale; broken = k.broken })
+    all_counted (put_back (Count Freed before after) n)
+    (record {
+      next_id = k.next_id;
+      next = k.next;
+      passed = k.passed;
+      blocked = k.blocked;
+      freed = f.1 (subst (λ i. i ≤ greatest) f.0 k.freed);
+      lost = k.lost;
+      bad = k.bad;
+      stale = k.stale;
+      broken = k.broken;
+    })
 stays (Count Lost before after) n f c =
     let k = counted_all n c in
-    all_counted (put_back (Count Lost before after) n) (record { next_id = k.next_id; next = k.next; passed = k.passed; blocked = k.blocked; freed = k.freed; lost = f.1 (subst (λ i. i ≤ greatest) f.0 k.lost); bad = k.bad; stale = k.stale; broken = k.broken })
+    all_counted (put_back (Count Lost before after) n)
+    (record {
+      next_id = k.next_id;
+      next = k.next;
+      passed = k.passed;
+      blocked = k.blocked;
+      freed = k.freed;
+      lost = f.1 (subst (λ i. i ≤ greatest) f.0 k.lost);
+      bad = k.bad;
+      stale = k.stale;
+      broken = k.broken;
+    })
 stays (Count Bad before after) n f c =
     let k = counted_all n c in
-    all_counted (put_back (Count Bad before after) n) (record { next_id = k.next_id; next = k.next; passed = k.passed; blocked = k.blocked; freed = k.freed; lost = k.lost; bad = f.1 (subst (λ i. i ≤ greatest) f.0 k.bad); stale = k.stale; broken = k.broken })
+    all_counted (put_back (Count Bad before after) n)
+    (record {
+      next_id = k.next_id;
+      next = k.next;
+      passed = k.passed;
+      blocked = k.blocked;
+      freed = k.freed;
+      lost = k.lost;
+      bad = f.1 (subst (λ i. i ≤ greatest) f.0 k.bad);
+      stale = k.stale;
+      broken = k.broken;
+    })
 stays (Count Stale before after) n f c =
     let k = counted_all n c in
-    all_counted (put_back (Count Stale before after) n) (record { next_id = k.next_id; next = k.next; passed = k.passed; blocked = k.blocked; freed = k.freed; lost = k.lost; bad = k.bad; stale = f.1 (subst (λ i. i ≤ greatest) f.0 k.stale); broken = k.broken })
+    all_counted (put_back (Count Stale before after) n)
+    (record {
+      next_id = k.next_id;
+      next = k.next;
+      passed = k.passed;
+      blocked = k.blocked;
+      freed = k.freed;
+      lost = k.lost;
+      bad = k.bad;
+      stale = f.1 (subst (λ i. i ≤ greatest) f.0 k.stale);
+      broken = k.broken;
+    })
 stays (Count Broken before after) n f c =
     let k = counted_all n c in
-    all_counted (put_back (Count Broken before after) n) (record { next_id = k.next_id; next = k.next; passed = k.passed; blocked = k.blocked; freed = k.freed; lost = k.lost; bad = k.bad; stale = k.stale; broken = f.1 (subst (λ i. i ≤ greatest) f.0 k.broken) })
+    all_counted (put_back (Count Broken before after) n)
+    (record {
+      next_id = k.next_id;
+      next = k.next;
+      passed = k.passed;
+      blocked = k.blocked;
+      freed = k.freed;
+      lost = k.lost;
+      bad = k.bad;
+      stale = k.stale;
+      broken = f.1 (subst (λ i. i ≤ greatest) f.0 k.broken);
+    })
 
-through_nodes : (es : List NodeEdit) (n : Node) → Fits Finds AreParts put_back es n → is_overcounted n ≡ false → Fits Finds IsNode put_back es n × (is_overcounted (back put_back es n) ≡ false)
+through_nodes : (es : List NodeEdit) (n : Node) → Fits Finds AreParts put_back es n → is_overcounted n ≡ false
+    → Fits Finds IsNode put_back es n × (is_overcounted (back put_back es n) ≡ false)
 through_nodes [] n f c = (tt, c)
 through_nodes (e ∷ es) n f c =
     let rest = through_nodes es n f.0 c in
@@ -87,12 +187,15 @@ went-refusal (Err e) points w =
     ∙ ap (λ b. if b then Some QueueFull else if list_any is_overcounted points then Some CountFull else None) w
 
 -- where it is not, none was too high
-pub went-counted : {T : Type 0} (r : Result (T × Bool) Overfull) (t : T) (points : List Node) → Went r points → r ≡ Ok (t, false) → list_any is_overcounted points ≡ false
+pub went-counted : {T : Type 0} (r : Result (T × Bool) Overfull) (t : T) (points : List Node) → Went r points → r ≡ Ok (t, false)
+    → list_any is_overcounted points ≡ false
 went-counted {T} r t points w e = let all = subst (λ (q : Result (T × Bool) Overfull). Went q points) e w in sym all.1
 
 -- ---- what stands, or was taken back
 
 -- what was returned of the node that stands
-pub settled-answer : {T : Type 0} (b m : Node) (tried : Result (T × Bool) Overfull) (P : T → Node → Type 0) → IfOk tried (λ r. P r.0 b) → (result : Result (T × Edits NodeEdit) Refusal) → IfOk result (λ r. tried ≡ Ok (r.0, false)) → OnOk result (m ≡ b) → IfOk result (λ r. P r.0 m)
-settled-answer b m tried P answer (Ok r) stands kept = let here = subst (λ (q : Result _ Overfull). IfOk q (λ r. P r.0 b)) stands answer in subst (P r.0) (sym kept) here
+pub settled-answer : {T : Type 0} (b m : Node) (tried : Result (T × Bool) Overfull) (P : T → Node → Type 0) → IfOk tried (λ r. P r.0 b)
+    → (result : Result T Refusal) → IfOk result (λ t. tried ≡ Ok (t, false)) → OnOk result (m ≡ b) → IfOk result (λ t. P t m)
+settled-answer b m tried P answer (Ok t) stands kept = let here = subst (λ (q : Result _ Overfull). IfOk q (λ r. P r.0 b)) stands answer
+    in subst (P t) (sym kept) here
 settled-answer b m tried P answer (Err e) stands kept = tt

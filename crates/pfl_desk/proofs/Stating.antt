@@ -44,14 +44,16 @@ states-with t rules name at row is =
     states_of-with_row t name row ∙ ap (set_at (states_of t) name) (ap (option_map (λ (r : Row). r.state)) is ∙ state_of_row rules at)
 
 -- the table with the row is a table
-pub set-table : (n : Node) (t : Table) (name : StateName) (at : Option State) (row : Option Row) → n.states ≡ states_of t → t.limit ≡ n.limits.states → row ≡ row_by n.rules at
+pub set-table : (n : Node) (t : Table) (name : StateName) (at : Option State) (row : Option Row) → n.states ≡ states_of t
+    → t.limit ≡ n.limits.states → row ≡ row_by n.rules at
     → AreParts (record n { states = set_at n.states name at }) → IsTable (with_row t name row)
 set-table n t name at row states room is whole =
     let now : states_of (with_row t name row) ≡ set_at n.states name at = states-with t n.rules name at row is ∙ ap (λ m. set_at m name at) (sym states) in
     record {
       few =
           let few : maps.len (set_at n.states name at) ≤ n.limits.states = whole.few in
-          subst (λ (k : ℕ). k ≤ t.limit) (ap maps.len (sym now) ∙ len-states_of (with_row t name row)) (subst (λ (k : ℕ). maps.len (set_at n.states name at) ≤ k) (sym room) few);
+          subst (λ (k : ℕ). k ≤ t.limit) (ap maps.len (sym now) ∙ len-states_of (with_row t name row))
+          (subst (λ (k : ℕ). maps.len (set_at n.states name at) ≤ k) (sym room) few);
       states = subst AreStates (sym now) whole.states;
     }
 
@@ -62,7 +64,8 @@ timely_row rules (Some s) row is =
     subst (λ (r : Row). r.timeout ≡ timeout_by rules r.state) same refl
 
 -- each row of it has its timeout
-pub set-timely : (limits : Limits) (rules : Rules) (t : Table) (name : StateName) (at : Option State) (row : Option Row) → IsTimely limits rules t → row ≡ row_by rules at
+pub set-timely : (limits : Limits) (rules : Rules) (t : Table) (name : StateName) (at : Option State) (row : Option Row)
+    → IsTimely limits rules t → row ≡ row_by rules at
     → IsTimely limits rules (with_row t name row)
 set-timely limits rules t name at row timely is = record {
   room = timely.room;
@@ -73,7 +76,8 @@ set-timely limits rules t name at row timely is = record {
 }
 
 -- the states of a table that was written
-pub written-states : (t u : Table) (name : StateName) (at : Option State) (seconds : ℕ) → u ≡ with_row t name (row_with at seconds) → states_of u ≡ set_at (states_of t) name at
+pub written-states : (t u : Table) (name : StateName) (at : Option State) (seconds : ℕ) → u ≡ with_row t name (row_with at seconds)
+    → states_of u ≡ set_at (states_of t) name at
 written-states t u name None seconds is = ap states_of is ∙ states_of-with_row t name None
 written-states t u name (Some s) seconds is = ap states_of is ∙ states_of-with_row t name (Some (timed s seconds))
 
@@ -84,19 +88,22 @@ written-timely limits rules t u name at seconds timely by is =
     subst (λ (v : Table). IsTimely limits rules v) (sym is) (set-timely limits rules t name at (row_with at seconds) timely (row-by rules at seconds by))
 
 -- a row is moved where its state is
-moved_row : (to : Motion) (seconds : ℕ) (at : Option Row) → option_map (λ (r : Row). r.state) (option_map (row_moved to seconds) at) ≡ option_map (with_motion to) (option_map (λ (r : Row). r.state) at)
+moved_row : (to : Motion) (seconds : ℕ) (at : Option Row)
+    → option_map (λ (r : Row). r.state) (option_map (row_moved to seconds) at) ≡ option_map (with_motion to) (option_map (λ (r : Row). r.state) at)
 moved_row to seconds None = refl
 moved_row to seconds (Some r) = refl
 
 -- the states of a table of which one was moved
-pub moved-states : (t u : Table) (name : StateName) (to : Motion) (seconds : ℕ) → u ≡ with_moved t name to seconds → states_of u ≡ moved_at (states_of t) name to
+pub moved-states : (t u : Table) (name : StateName) (to : Motion) (seconds : ℕ) → u ≡ with_moved t name to seconds
+    → states_of u ≡ moved_at (states_of t) name to
 moved-states t u name to seconds is =
     ap states_of is ∙ (states_of-with_row t name (option_map (row_moved to seconds) (maps.get t.rows name))
     ∙ ap (set_at (states_of t) name) (moved_row to seconds (maps.get t.rows name) ∙ ap (option_map (with_motion to)) (sym (get-states_of t name))))
 
 -- where it is moved with the timeout that follows from the rules, each row of it has its timeout
 pub moved-timely : (limits : Limits) (rules : Rules) (t u : Table) (name : StateName) (r : Row) (to : Motion) (seconds : ℕ) → IsTimely limits rules t
-    → Some r ≡ maps.get t.rows name → seconds ≡ timeout_by rules (record r.state { class = to.class }) → u ≡ with_moved t name to seconds → IsTimely limits rules u
+    → Some r ≡ maps.get t.rows name → seconds ≡ timeout_by rules (record r.state { class = to.class }) → u ≡ with_moved t name to seconds
+    → IsTimely limits rules u
 moved-timely limits rules t u name r to seconds timely at by is =
     subst (λ (v : Table). IsTimely limits rules v) (sym is)
     (set-timely limits rules t name (Some (with_motion to r.state)) (option_map (row_moved to seconds) (maps.get t.rows name)) timely

@@ -51,7 +51,8 @@ taken-back (e ∷ es) n is rest turn =
     let m : Node = record n { queue = gone q e } in
     let former : FindsFormer (OfQueue (taking e)) n = (first_found q is.queue e (es ++ rest) (sym turn), taking-stays e) in
     let both = edit-both_ways (OfQueue (taking e)) in
-    let one = LeadsBack-one Finds AreParts put_back (OfQueue (taking e)) n (redone (OfQueue (taking e)) n) (both.redone_finds n former) is (both.put_back_redone n former) in
+    let one = LeadsBack-one Finds AreParts put_back (OfQueue (taking e)) n (redone (OfQueue (taking e)) n) (both.redone_finds n former) is
+    (both.put_back_redone n former) in
     let later = taken-back es m (gone-node n e is) rest (sym (front_gone q is.queue e (es ++ rest) (sym turn))) in
     LeadsBack-append Finds AreParts put_back (OfQueue (taking e) ∷ []) (of_queue (map taking es)) n m (record n { queue = left_by (gone q e) es })
     (subst (λ (p : Queue). LeadsBack Finds AreParts put_back (OfQueue (taking e) ∷ []) n (record n { queue = p })) (redone_gone q e) one)
@@ -63,7 +64,9 @@ left-next (e ∷ es) q = left-next es (gone q e) ∙ next_stays q e
 
 left-total : (n : Node) (q : Queue) → q.next ≡ n.queue.next → total (record n { queue = q }) ≡ total n
 unfolding total
-left-total n q same = ap (λ (k : ℕ). n.next_id + k + n.counters.passed + n.counters.blocked + n.counters.freed + n.counters.lost + n.counters.bad + n.counters.stale + n.counters.broken) same
+left-total n q same = ap (λ
+    (k : ℕ). n.next_id + k + n.counters.passed + n.counters.blocked + n.counters.freed + n.counters.lost + n.counters.bad +
+    n.counters.stale + n.counters.broken) same
 
 -- the entries of a node's next frame
 abbrev pub frame_entries : Node → List Entry

@@ -8,7 +8,7 @@ use Rattle.pfl_track.specs.declared.state.State.{State}
 use Rattle.pfl_desk.specs.declared.counters.Counters.{Counters}
 use Rattle.pfl_desk.specs.inner.Kept.{MayReplace}
 use Rattle.pfl_desk.specs.Nodes.{Node}
-use Rattle.pfl_desk.specs.Changes.{put_state, push_if, told, changed, is_untold, is_recent, is_held, freed, count_freed, without_held}
+use Rattle.pfl_desk.specs.Changes.{put_state, push_if, told, changed, is_unannounced, is_recent, is_held, freed, count_freed, without_held}
 
 -- a state that is not announced is put alone
 pub changed-unsynced : (n : Node) (s : State) → s.no_sync ≡ true → changed n s ≡ put_state n s
@@ -29,7 +29,7 @@ pub changed-counters : (n : Node) (s : State) → (changed n s).counters ≡ n.c
 unfolding changed
 changed-counters n s =
     same_counters s.no_sync _ _ n.counters refl
-    (same_counters (is_untold (kind_of n.queue s.name)) _ _ n.counters refl (same_counters (is_tcp s.wire.proto) _ _ n.counters refl refl))
+    (same_counters (is_unannounced (kind_of n.queue s.name)) _ _ n.counters refl (same_counters (is_tcp s.wire.proto) _ _ n.counters refl refl))
 
 -- a packet that goes out is not passed once more
 pub freed-passed : (n : Node) (name : StateName) → (freed n name).counters.passed ≡ n.counters.passed
@@ -48,7 +48,15 @@ updates-may n s k few may = record {
   stack = may.stack;
   no_sync = may.no_sync;
   is = record {
-    is = let one = may.is.is in record { src = one.src; dst = one.dst; proto = one.proto; one_proto = one.one_proto; wire_family = one.wire_family; stack_family = one.stack_family; one_family = one.one_family };
+    is = let one = may.is.is in record {
+      src = one.src;
+      dst = one.dst;
+      proto = one.proto;
+      one_proto = one.one_proto;
+      wire_family = one.wire_family;
+      stack_family = one.stack_family;
+      one_family = one.one_family;
+    };
     given = may.is.given;
     rule = may.is.rule;
     last = may.is.last;

@@ -80,12 +80,12 @@ abbrev pub ask : Node → StateName → Node
 ask n name = push_if (not (is_requested n.queue name)) (list_request n name)
 
 -- a bulk status is to be sent, soon
-abbrev pub tell_status : Node → BulkStatus → Node
-tell_status n status = push_if true (list_status n status)
+abbrev pub announce_status : Node → BulkStatus → Node
+announce_status n status = push_if true (list_status n status)
 
 -- a clear is to be sent, soon
-abbrev pub tell_clear : Node → ℕ → ℕ → Node
-tell_clear n creator bound = push_if true (list_clear n creator bound)
+abbrev pub announce_clear : Node → ℕ → ℕ → Node
+announce_clear n creator bound = push_if true (list_clear n creator bound)
 
 -- ---- held packets (ifconfig(8), `defer`)
 
@@ -116,10 +116,10 @@ released n name = not_waiting (freed n name) name
 -- ---- local changes (pfsync(4); if_pfsync.c: the queues and the push)
 
 -- on no queue, or only to be acknowledged
-abbrev pub is_untold : Option Kind → Bool
-is_untold None = true
-is_untold (Some InsertAck) = true
-is_untold (Some _) = false
+abbrev pub is_unannounced : Option Kind → Bool
+is_unannounced None = true
+is_unannounced (Some InsertAck) = true
+is_unannounced (Some _) = false
 
 -- the peer changed the state less than two seconds ago
 abbrev pub is_recent : Node → State → Bool
@@ -134,7 +134,7 @@ counted n s =
 
 -- the state is announced to the peer by an update, which stands for all that are not sent yet
 abbrev pub told : Node → State → Node
-told n s = if is_untold (kind_of n.queue s.name) then mark (put_state n (record s { updates = 0 })) s.name UpdateShort else counted n s
+told n s = if is_unannounced (kind_of n.queue s.name) then mark (put_state n (record s { updates = 0 })) s.name UpdateShort else counted n s
 
 -- the node with its state s changed by itself
 unfoldable pub changed : Node → State → Node
@@ -146,12 +146,12 @@ is_insert (Some Insert) = true
 is_insert _ = false
 
 -- what the peer has not heard of is forgotten; else the deletion is announced
-abbrev pub deletion_told : Node → State → Node
-deletion_told n s = if is_insert (kind_of n.queue s.name) then unmark n s.name else if s.no_sync then n else mark n s.name Delete
+abbrev pub deletion_announced : Node → State → Node
+deletion_announced n s = if is_insert (kind_of n.queue s.name) then unmark n s.name else if s.no_sync then n else mark n s.name Delete
 
 -- the node without its state s, by itself
 unfoldable pub deleted : Node → State → Node
-deleted n s = deletion_told (without_state (lost n s.name) s.name) s
+deleted n s = deletion_announced (without_state (lost n s.name) s.name) s
 
 -- the node without the state of the name, unannounced
 unfoldable pub forgotten : Node → StateName → Node

@@ -4,6 +4,7 @@ use Rattle.std.specs.Option.{option_map}
 use Rattle.pfl_base.specs.declared.state_name.StateName.{StateName}
 use Rattle.pfl_base.specs.Numbers.{greatest}
 use Rattle.pfl_edits.specs.Changes.{LeadsBack}
+use Rattle.pfl_edits.specs.Recorders.{Recorded}
 use Rattle.pfl_edits.specs.Maps as maps
 use Rattle.pfl_edits.specs.Maps.{set_at}
 use Rattle.pfl_track.specs.declared.motion.Motion.{Motion}
@@ -110,6 +111,11 @@ redone (Count counter before after) n = record n { counters = with_count counter
 abbrev pub NodeLeadsBack : List NodeEdit → Node → Node → Type 0
 NodeLeadsBack = LeadsBack Finds IsNode put_back
 
+-- at most so many edits, which lead a node back, were recorded, each as the edit of a whole that `of` says
+abbrev pub NodeRecorded : {W : Type 0} → (NodeEdit → W) → ℕ → Node → Node → List W → List W → Type 0
+NodeRecorded of = Recorded Finds IsNode put_back of
+
 -- all that a node counts, added up
 unfoldable pub total : Node → ℕ
-total n = n.next_id + n.queue.next + n.counters.passed + n.counters.blocked + n.counters.freed + n.counters.lost + n.counters.bad + n.counters.stale + n.counters.broken
+total n = n.next_id + n.queue.next + n.counters.passed + n.counters.blocked + n.counters.freed + n.counters.lost + n.counters.bad +
+    n.counters.stale + n.counters.broken

@@ -89,7 +89,8 @@ is_overfull n = nat_lt n.queue.limit (pending n.queue)
 -- the next id, the next queueing number or a counter is past the greatest
 abbrev pub is_overcounted : Node → Bool
 is_overcounted n = list_any (nat_lt greatest)
-    (n.next_id ∷ n.queue.next ∷ n.counters.passed ∷ n.counters.blocked ∷ n.counters.freed ∷ n.counters.lost ∷ n.counters.bad ∷ n.counters.stale ∷ n.counters.broken ∷ [])
+    (n.next_id ∷ n.queue.next ∷ n.counters.passed ∷ n.counters.blocked ∷ n.counters.freed ∷ n.counters.lost ∷ n.counters.bad
+    ∷ n.counters.stale ∷ n.counters.broken ∷ [])
 
 -- an event refused for the points that it would go through: at one of them too much would be pending, or a number too high
 abbrev pub full_tests : List Node → List (Bool × Refusal)

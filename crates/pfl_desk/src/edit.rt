@@ -3,6 +3,7 @@
 use pfl_base::{Millis, StateName};
 use pfl_bulk::{BulkClient, BulkServer};
 use pfl_defer::DeferEdit;
+use pfl_edits::OfPart;
 use pfl_queue::QueueEdit;
 use pfl_table::Slot;
 use pfl_track::{Motion, State};
@@ -68,4 +69,15 @@ pub enum NodeEdit {
         before: u64,
         after: u64,
     },
+}
+
+/// A node by itself is the whole, and an edit of it is recorded as it is.
+impl OfPart<NodeEdit> for NodeEdit {
+    type Part = ();
+
+    ghost of = { λ _ edit. edit };
+
+    fn of_part(_part: (), edit: NodeEdit) -> NodeEdit {
+        edit
+    }
 }

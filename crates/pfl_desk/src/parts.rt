@@ -74,7 +74,8 @@ impl<A: Allocator> Model for Parts<A> {
 
     ghost view = { λ n. node_of n.limits n.rules n.table n.queue n.held n.server n.client n.clock n.creator n.next_id n.push n.counters };
 
-    ghost invariant = { λ n. IsTimely n.limits n.rules n.table × AreParts (node_of n.limits n.rules n.table n.queue n.held n.server n.client n.clock n.creator n.next_id n.push n.counters) };
+    ghost invariant = { λ n. IsTimely n.limits n.rules n.table
+        × AreParts (node_of n.limits n.rules n.table n.queue n.held n.server n.client n.clock n.creator n.next_id n.push n.counters) };
 }
 
 impl<A: Allocator + Copy> Parts<A> {

@@ -25,20 +25,24 @@ module _ {S E : Type 0} (turns : List Bool) (small : List S) (large : List E) (h
     of_large = omega (arith, length-take-le (mark - n) large few_others, of_both);
   }
 
-  pub all_edits-front : (whole : S → E) → all_edits whole (take mark turns) (take n small) (take (mark - n) large) ≡ take mark (all_edits whole turns small large)
+  pub all_edits-front : (whole : S → E)
+      → all_edits whole (take mark turns) (take n small) (take (mark - n) large) ≡ take mark (all_edits whole turns small large)
   all_edits-front whole =
       let front : List E = all_edits whole (take mark turns) (take n small) (take (mark - n) large) in
       let rest : List E = all_edits whole (drop mark turns) (drop n small) (drop (mark - n) large) in
-      let long : length front ≡ mark = length-all_edits whole (take mark turns) (take n small) (take (mark - n) large) HaveTurns-front ∙ length-take-le mark turns within in
+      let long : length front ≡ mark = length-all_edits whole (take mark turns) (take n small) (take (mark - n) large) HaveTurns-front
+      ∙ length-take-le mark turns within in
       let both : all_edits whole turns small large ≡ front ++ rest =
       ap (λ (bs : List Bool). all_edits whole bs small large) (sym (take-append-drop mark turns))
       ∙ ap (λ (ss : List S). all_edits whole (take mark turns ++ drop mark turns) ss large) (sym (take-append-drop n small))
       ∙ ap (λ (es : List E). all_edits whole (take mark turns ++ drop mark turns) (take n small ++ drop n small) es) (sym (take-append-drop (mark - n) large))
-      ∙ all_edits-append whole (take mark turns) (take n small) (take (mark - n) large) (drop mark turns) (drop n small) (drop (mark - n) large) HaveTurns-front in
+      ∙ all_edits-append whole (take mark turns) (take n small) (take (mark - n) large) (drop mark turns) (drop n small)
+      (drop (mark - n) large) HaveTurns-front in
       sym (ap (take mark) both ∙ ap (λ m. take m (front ++ rest)) (sym long) ∙ take-append_seam front rest)
 
 -- Both levels of a tape below a mark.
-module _ {S M E : Type 0} (whole_small : S → E) (whole_middle : M → E) (turns : List Bool) (small : List S) (larger_turns : List Bool) (middle : List M) (large : List E)
+module _ {S M E : Type 0} (whole_small : S → E) (whole_middle : M
+    → E) (turns : List Bool) (small : List S) (larger_turns : List Bool) (middle : List M) (large : List E)
     (outer : HaveTurns turns small (all_edits whole_middle larger_turns middle large)) (inner : HaveTurns larger_turns middle large)
     (mark : ℕ) (within : mark ≤ length (all_edits whole_small turns small (all_edits whole_middle larger_turns middle large))) where
   abbrev larger : List E
@@ -66,14 +70,16 @@ module _ {S M E : Type 0} (whole_small : S → E) (whole_middle : M → E) (turn
       larger_front : all_edits whole_middle (take (mark - n) larger_turns) (take i middle) (take (mark - n - i) large) ≡ take (mark - n) larger
       larger_front = all_edits-front larger_turns middle large inner (mark - n) in_larger i of_middle whole_middle
 
-      pub turns_front : HaveTurns (take mark turns) (take n small) (all_edits whole_middle (take (mark - n) larger_turns) (take i middle) (take (mark - n - i) large))
+      pub turns_front : HaveTurns (take mark turns) (take n small)
+          (all_edits whole_middle (take (mark - n) larger_turns) (take i middle) (take (mark - n - i) large))
           × HaveTurns (take (mark - n) larger_turns) (take i middle) (take (mark - n - i) large)
       turns_front = (
         subst (HaveTurns (take mark turns) (take n small)) (sym larger_front) (HaveTurns-front turns small larger outer mark in_turns n of_small),
         HaveTurns-front larger_turns middle large inner (mark - n) in_larger i of_middle,
       )
 
-      pub edits_front : all_edits whole_small (take mark turns) (take n small) (all_edits whole_middle (take (mark - n) larger_turns) (take i middle) (take (mark - n - i) large))
+      pub edits_front : all_edits whole_small (take mark turns) (take n small)
+          (all_edits whole_middle (take (mark - n) larger_turns) (take i middle) (take (mark - n - i) large))
           ≡ take mark (all_edits whole_small turns small (all_edits whole_middle larger_turns middle large))
       edits_front =
           ap (all_edits whole_small (take mark turns) (take n small)) larger_front

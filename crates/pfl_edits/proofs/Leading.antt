@@ -10,7 +10,8 @@ module _ {S E : Type 0} (finds : E → S → Type 0) (allows : S → Type 0) (pu
   back-append (x ∷ xs) ys s = ap (put_back x) (back-append xs ys s)
 
   -- edits fit after those that fit where they end
-  pub Fits-append : (xs ys : List E) (s : S) → Fits finds allows put_back xs (back put_back ys s) → Fits finds allows put_back ys s → Fits finds allows put_back (xs ++ ys) s
+  pub Fits-append : (xs ys : List E) (s : S) → Fits finds allows put_back xs (back put_back ys s) → Fits finds allows put_back ys s
+      → Fits finds allows put_back (xs ++ ys) s
   Fits-append [] ys s f g = g
   Fits-append (x ∷ xs) ys s f g =
       let e = sym (back-append xs ys s) in
@@ -33,7 +34,8 @@ module _ {S E : Type 0} (finds : E → S → Type 0) (allows : S → Type 0) (pu
   LeadsBack-none s = record { fits = tt; back = refl }
 
   -- one way after another
-  pub LeadsBack-append : (xs ys : List E) (a b c : S) → LeadsBack finds allows put_back xs a b → LeadsBack finds allows put_back ys b c → LeadsBack finds allows put_back (xs ++ ys) a c
+  pub LeadsBack-append : (xs ys : List E) (a b c : S) → LeadsBack finds allows put_back xs a b → LeadsBack finds allows put_back ys b c
+      → LeadsBack finds allows put_back (xs ++ ys) a c
   LeadsBack-append xs ys a b c f g = record {
     fits = Fits-append xs ys c (subst (Fits finds allows put_back xs) (sym g.back) f.fits) g.fits;
     back = back-append xs ys c ∙ (ap (back put_back xs) g.back ∙ f.back);
@@ -44,7 +46,8 @@ module _ {S E : Type 0} (finds : E → S → Type 0) (allows : S → Type 0) (pu
   LeadsBack-one e b c found allowed is = record { fits = (tt, found, subst allows (sym is) allowed); back = is }
 
   -- one edit more
-  pub LeadsBack-push : (xs : List E) (e : E) (a b c : S) → LeadsBack finds allows put_back xs a b → finds e c → allows b → put_back e c ≡ b → LeadsBack finds allows put_back (xs ++ e ∷ []) a c
+  pub LeadsBack-push : (xs : List E) (e : E) (a b c : S) → LeadsBack finds allows put_back xs a b → finds e c → allows b → put_back e c ≡ b
+      → LeadsBack finds allows put_back (xs ++ e ∷ []) a c
   LeadsBack-push xs e a b c f found allowed is = LeadsBack-append xs (e ∷ []) a b c f (LeadsBack-one e b c found allowed is)
 
 -- Edits of a part are edits of the whole: `at s` is the whole with the part s, and `inj e` the edit e as one of the whole.

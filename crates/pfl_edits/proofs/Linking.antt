@@ -11,7 +11,8 @@ module _ {X : Type 0} (nodes : List Node) (values : List X) where
       let less : n ≡ suc n - 1 = omega arith in
       ap (λ m. entry_then (slice_get values i) (entries_from nodes values m (next_of nodes i))) less
 
-  pub entries-first : (n i : ℕ) (x : X) → 0 < n → slice_get values i ≡ Some x → entries_from nodes values n i ≡ x ∷ entries_from nodes values (n - 1) (next_of nodes i)
+  pub entries-first : (n i : ℕ) (x : X) → 0 < n → slice_get values i ≡ Some x
+      → entries_from nodes values n i ≡ x ∷ entries_from nodes values (n - 1) (next_of nodes i)
   entries-first n i x h is = entries-step n i h ∙ ap (λ at. entry_then at (entries_from nodes values (n - 1) (next_of nodes i))) is
 
   pub entries-end : (n i : ℕ) → slice_get values i ≡ None → entries_from nodes values n i ≡ []

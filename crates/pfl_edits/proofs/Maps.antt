@@ -10,7 +10,8 @@ use Rattle.std.specs.Ordering.{eq_by_cmp, is_eq}
 use Rattle.std.specs.declared.cmp.Ordering.{Ordering}
 use Rattle.std.specs.declared.cmp.Ordering.TheVariants.{Equal}
 use Rattle.std.proofs.Common.{arith, T, cond, ◌∙◌, ap, sym}
-use Rattle.pfl_edits.specs.Maps.{Map, entries, checked, get, len, same_entries_map, empty, contains_key, keys, retain_keys, from_sorted, entries_sorted, insert, remove}
+use Rattle.pfl_edits.specs.Maps.{Map, entries, checked, get, len, same_entries_map, empty, contains_key, keys, retain_keys, from_sorted}
+use Rattle.pfl_edits.specs.Maps.{entries_sorted, insert, remove}
 
 no_length : {A : Type 0} (es : List A) → length es ≡ 0 → es ≡ []
 no_length [] e = refl

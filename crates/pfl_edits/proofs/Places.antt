@@ -1,6 +1,7 @@
 -- The places that an edit may name: a value itself, a part of a whole, a position of a list and a key of a map.
 -- Each leads both ways.
-use Rattle.std.specs.Prelude.{◌≡◌, refl, ◌≤◌, ℕ, zero, suc, List, [], ◌∷◌, length, Some, slice_get, slice_set, Option, None, true, Bool, false, ◌≢◌, ◌⊎◌, IfSome}
+use Rattle.std.specs.Prelude.{◌≡◌, refl, ◌≤◌, ℕ, zero, suc, List, [], ◌∷◌, length, Some, slice_get, slice_set, Option, None, true, Bool, false, ◌≢◌}
+use Rattle.std.specs.Prelude.{◌⊎◌, IfSome}
 use Rattle.std.specs.Cmp.{IsTotalOrder, eq_by_cmp_equiv}
 use Rattle.std.specs.FinMap.{IsAntisymmetric}
 use Rattle.std.specs.List.{insert, remove}
@@ -139,7 +140,8 @@ module _ {K X : Type 0} {R : K → K → Ordering} (o : IsTotalOrder R) (exact :
   get-set_at_same m k at = get-set_at m k at k ∙ ap (λ b. cond b at (maps.get m k)) ((eq_by_cmp_equiv o).refl k)
 
   -- what is found after a setting was set, at that key, or was there, at another
-  pub get-set_at_cases : (m : Map R X) (k : K) (at : Option X) (q : K) (v : X) → maps.get (set_at m k at) q ≡ Some v → ((q ≡ k) × (at ≡ Some v)) ⊎ ((q ≢ k) × (maps.get m q ≡ Some v))
+  pub get-set_at_cases : (m : Map R X) (k : K) (at : Option X) (q : K) (v : X) → maps.get (set_at m k at) q ≡ Some v
+      → ((q ≡ k) × (at ≡ Some v)) ⊎ ((q ≢ k) × (maps.get m q ≡ Some v))
   get-set_at_cases m k at q v is = through (eq_by_cmp R q k) refl (sym (get-set_at m k at q) ∙ is)
     where
       through : (b : Bool) → eq_by_cmp R q k ≡ b → cond b at (maps.get m q) ≡ Some v → ((q ≡ k) × (at ≡ Some v)) ⊎ ((q ≢ k) × (maps.get m q ≡ Some v))
@@ -155,7 +157,8 @@ module _ {K X : Type 0} {R : K → K → Ordering} (o : IsTotalOrder R) (exact :
       through false t = refl
 
   -- where each value of a map stands under its own key, so does the one that is set
-  pub set_at-keyed : (key : X → K) (m : Map R X) (k : K) (at : Option X) → ((q : K) (x : X) → maps.get (set_at m k at) q ≡ Some x → key x ≡ q) → IfSome at (λ x. key x ≡ k)
+  pub set_at-keyed : (key : X → K) (m : Map R X) (k : K) (at : Option X)
+      → ((q : K) (x : X) → maps.get (set_at m k at) q ≡ Some x → key x ≡ q) → IfSome at (λ x. key x ≡ k)
   set_at-keyed key m k None filed = tt
   set_at-keyed key m k (Some x) filed = filed k x (get-set_at_same m k (Some x))
 

@@ -31,7 +31,8 @@ module _ {S E U : Type 0} (finds_former finds : E → S → Type 0) (allows : S 
     pub edits : of.edits ≡ one.edit ∷ later.edits
     pub led_to : later.led_to ≡ of.led_to
 
-  pub oldest : (kept : List U) (s : S) (of : AreUndone finds allows put_back undone kept s) (rest : List U) (u : U) → kept ≡ rest ++ u ∷ [] → Oldest kept s of rest u
+  pub oldest : (kept : List U) (s : S) (of : AreUndone finds allows put_back undone kept s) (rest : List U) (u : U) → kept ≡ rest ++ u ∷ []
+      → Oldest kept s of rest u
   oldest kept s of rest u is = oldest-of of.edits refl
     where
       oldest-of : (es : List E) → of.edits ≡ es → Oldest kept s of rest u
@@ -69,8 +70,10 @@ module _ {S E U : Type 0} (finds_former finds : E → S → Type 0) (allows : S 
       no_edits (e ∷ es) same = absurd (omega (arith, ap length same, length_push (set_aside undone es) (undone e)))
 
   -- one step forward: what is kept of the others leads on to the same value, and the tape has the edit
-  pub one_redone : (kept : List U) (s : S) (of : AreUndone finds allows put_back undone kept s) (rest : List U) (u : U) → kept ≡ rest ++ u ∷ [] → (next : S) (e : E)
-      → ((one : IsUndone finds_former allows redone undone u s) → next ≡ redone one.edit s) → ((one : IsUndone finds_former allows redone undone u s) → e ≡ one.edit) → (tape longer : List E) → longer ≡ tape ++ e ∷ []
+  pub one_redone : (kept : List U) (s : S) (of : AreUndone finds allows put_back undone kept s) (rest : List U) (u : U)
+      → kept ≡ rest ++ u ∷ [] → (next : S) (e : E)
+      → ((one : IsUndone finds_former allows redone undone u s) → next ≡ redone one.edit s)
+      → ((one : IsUndone finds_former allows redone undone u s) → e ≡ one.edit) → (tape longer : List E) → longer ≡ tape ++ e ∷ []
       → (left : AreUndone finds allows put_back undone rest next) × (left.led_to ≡ of.led_to) × (longer ++ left.edits ≡ tape ++ of.edits)
   one_redone kept s of rest u is next e value edit tape longer more =
       let o = oldest kept s of rest u is in
@@ -78,5 +81,6 @@ module _ {S E U : Type 0} (finds_former finds : E → S → Type 0) (allows : S 
       let l = o.later in (
         record { edits = l.edits; led_to = l.led_to; kept_of = l.kept_of; fits = l.fits; back = l.back ∙ sym here; allowed = l.allowed },
         o.led_to,
-        ap (λ xs. xs ++ l.edits) (more ∙ ap (λ x. tape ++ x ∷ []) (edit o.one)) ∙ (append_assoc tape (o.one.edit ∷ []) l.edits ∙ ap (λ xs. tape ++ xs) (sym o.edits)),
+        ap (λ xs. xs ++ l.edits) (more ∙ ap (λ x. tape ++ x ∷ []) (edit o.one))
+            ∙ (append_assoc tape (o.one.edit ∷ []) l.edits ∙ ap (λ xs. tape ++ xs) (sym o.edits)),
       )

@@ -58,15 +58,18 @@ module _ {K X : Type 0} {R : K → K → Ordering} (o : IsTotalOrder R) (exact :
   not_later x xs q none = ap (λ b. cond b (Some x) (row_at R key xs q)) (sym (not_same x xs q none)) ∙ none
 
   -- what a row between others adds
-  pub row_at-between : (front : List X) (y : X) (rest : List X) (q : K) → row_at R key (front ++ rest) (key y) ≡ None → row_at R key (front ++ y ∷ rest) q ≡ cond (eq_by_cmp R q (key y)) (Some y) (row_at R key (front ++ rest) q)
+  pub row_at-between : (front : List X) (y : X) (rest : List X) (q : K) → row_at R key (front ++ rest) (key y) ≡ None
+      → row_at R key (front ++ y ∷ rest) q ≡ cond (eq_by_cmp R q (key y)) (Some y) (row_at R key (front ++ rest) q)
   row_at-between [] y rest q none = refl
   row_at-between (x ∷ front) y rest q none =
       ap (cond (eq_by_cmp R q (key x)) (Some x)) (row_at-between front y rest q (not_later x (front ++ rest) (key y) none))
       ∙ swapped (eq_by_cmp R q (key x)) (eq_by_cmp R q (key y)) (Some x) (Some y) (row_at R key (front ++ rest) q)
-      (λ a b. absurd (subst T (sym (own_key (key y)) ∙ (ap (λ k. eq_by_cmp R (key y) k) (sym (same_key q (key y) b) ∙ same_key q (key x) a) ∙ not_same x (front ++ rest) (key y) none)) tt))
+      (λ a b. absurd (subst T (sym (own_key (key y))
+      ∙ (ap (λ k. eq_by_cmp R (key y) k) (sym (same_key q (key y) b) ∙ same_key q (key x) a) ∙ not_same x (front ++ rest) (key y) none)) tt))
 
   -- a new row between others is an entry more
-  pub map_of-between : (front : List X) (y : X) (rest : List X) → row_at R key (front ++ rest) (key y) ≡ None → map_of R key (front ++ y ∷ rest) ≡ maps.insert (map_of R key (front ++ rest)) (key y) y
+  pub map_of-between : (front : List X) (y : X) (rest : List X) → row_at R key (front ++ rest) (key y) ≡ None
+      → map_of R key (front ++ y ∷ rest) ≡ maps.insert (map_of R key (front ++ rest)) (key y) y
   map_of-between front y rest none = same_map o exact _ _ (λ q.
       get-map_of (front ++ y ∷ rest) q ∙ row_at-between front y rest q none
       ∙ sym (get-insert o (map_of R key (front ++ rest)) (key y) y q ∙ ap (cond (eq_by_cmp R q (key y)) (Some y)) (get-map_of (front ++ rest) q)))
@@ -76,7 +79,8 @@ module _ {K X : Type 0} {R : K → K → Ordering} (o : IsTotalOrder R) (exact :
   hidden false x z h = refl
 
   -- and without it that entry is gone
-  pub map_of-without : (front : List X) (y : X) (rest : List X) → row_at R key (front ++ rest) (key y) ≡ None → map_of R key (front ++ rest) ≡ maps.remove (map_of R key (front ++ y ∷ rest)) (key y)
+  pub map_of-without : (front : List X) (y : X) (rest : List X) → row_at R key (front ++ rest) (key y) ≡ None
+      → map_of R key (front ++ rest) ≡ maps.remove (map_of R key (front ++ y ∷ rest)) (key y)
   map_of-without front y rest none = same_map o exact _ _ (λ q.
       get-map_of (front ++ rest) q
       ∙ hidden (eq_by_cmp R q (key y)) y _ (λ t. ap (row_at R key (front ++ rest)) (same_key q (key y) t) ∙ none)
@@ -84,7 +88,8 @@ module _ {K X : Type 0} {R : K → K → Ordering} (o : IsTotalOrder R) (exact :
       ∙ sym (get-remove o (map_of R key (front ++ y ∷ rest)) (key y) q))
 
   -- and so does a row less, whose key no row has then
-  pub Distinct-without : (front : List X) (y : X) (rest : List X) → Distinct R key (front ++ y ∷ rest) → (row_at R key (front ++ rest) (key y) ≡ None) × Distinct R key (front ++ rest)
+  pub Distinct-without : (front : List X) (y : X) (rest : List X) → Distinct R key (front ++ y ∷ rest)
+      → (row_at R key (front ++ rest) (key y) ≡ None) × Distinct R key (front ++ rest)
   Distinct-without [] y rest d = d
   Distinct-without (x ∷ front) y rest d =
       let later = Distinct-without front y rest d.1 in

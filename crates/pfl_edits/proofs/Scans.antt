@@ -41,7 +41,8 @@ module _ {K X : Type 0} {R : K → K → Ordering} (o : IsTotalOrder R) (exact :
     lifted : (e : K × X) (es : List (K × X)) → T (is_sorted R (e ∷ es)) → (q : K) (v : X) → ordered.find R q es ≡ Some v → ordered.find R q (e ∷ es) ≡ Some v
     lifted e es s q v is =
         elim (eq_by_cmp R q e.0) as (λ b. eq_by_cmp R q e.0 ≡ b → cond b (Some e.1) (ordered.find R q es) ≡ Some v) [
-          | true ↦ λ t. absurd (some_is_none v (sym is ∙ (ap (λ k. ordered.find R k es) (same_key o exact (λ k. k) q e.0 t) ∙ absent_below e.0 es (left _ _ s))))
+          | true ↦ λ t. absurd (some_is_none v
+              (sym is ∙ (ap (λ k. ordered.find R k es) (same_key o exact (λ k. k) q e.0 t) ∙ absent_below e.0 es (left _ _ s))))
           | false ↦ λ t. is
         ] refl
 

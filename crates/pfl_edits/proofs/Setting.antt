@@ -1,5 +1,6 @@
 -- What setting a place among rows does to the map that they stand for.
-use Rattle.std.proofs.Common.{◌≡◌, ◌+◌, ◌-◌, ◌≤◌, ◌<◌, ℕ, suc, Bool, true, false, cond, List, ◌++◌, length, take, drop, set, get_or, Option, Some, None, IfSome, is_some, sym, ◌∙◌, ap, subst, arith}
+use Rattle.std.proofs.Common.{◌≡◌, ◌+◌, ◌-◌, ◌≤◌, ◌<◌, ℕ, suc, Bool, true, false, cond, List, ◌++◌, length, take, drop, set, get_or, Option, Some}
+use Rattle.std.proofs.Common.{None, IfSome, is_some, sym, ◌∙◌, ap, subst, arith}
 use Rattle.std.specs.List.{insert, remove}
 use Rattle.std.proofs.lemmas.List.{set_split, take-append-drop}
 use Rattle.std.specs.declared.cmp.Ordering.{Ordering}
@@ -59,17 +60,22 @@ module _ {K X : Type 0} {R : K → K → Ordering} (o : IsTotalOrder R) (exact :
         row_changed y at_is =
             let split = set_split rows i y here.within in
             rows_set (set rows i y)
-            (subst (IsRising R key) (sym split) (rising-changed o exact key (take i rows) here.row y (drop (suc i) rows) (its_key y at_is ∙ sym here.named) (subst (IsRising R key) here.split rising)))
+            (subst (IsRising R key) (sym split)
+            (rising-changed o exact key (take i rows) here.row y (drop (suc i) rows) (its_key y at_is ∙ sym here.named)
+            (subst (IsRising R key) here.split rising)))
             (ap (map_of R key) split
-            ∙ (map_with o exact key rows i here.row q here.split here.named (Distinct-rising R key rows rising) y (its_key y at_is) ∙ ap (set_at (map_of R key rows) q) (sym at_is)))
+            ∙ (map_with o exact key rows i here.row q here.split here.named (Distinct-rising R key rows rising) y (its_key y at_is)
+            ∙ ap (set_at (map_of R key rows) q) (sym at_is)))
 
         -- the row taken out
         pub row_removed : at ≡ None → (new : List X) → new ≡ remove rows i → SetsRow R key limit rows new q at
         row_removed at_is new left =
             rows_set new
-            (subst (IsRising R key) (sym left) (rising-without o exact key (take i rows) here.row (drop (suc i) rows) (subst (IsRising R key) here.split rising)))
+            (subst (IsRising R key) (sym left)
+            (rising-without o exact key (take i rows) here.row (drop (suc i) rows) (subst (IsRising R key) here.split rising)))
             (ap (map_of R key) left
-            ∙ (map_without o exact key rows i here.row q here.split here.named (Distinct-rising R key rows rising) ∙ ap (set_at (map_of R key rows) q) (sym at_is)))
+            ∙ (map_without o exact key rows i here.row q here.split here.named (Distinct-rising R key rows rising)
+            ∙ ap (set_at (map_of R key rows) q) (sym at_is)))
 
       module _ (place : IsGap R key xs q i) where
         gap : IsGap R key rows q i
@@ -83,7 +89,8 @@ module _ {K X : Type 0} {R : K → K → Ordering} (o : IsTotalOrder R) (exact :
         row_added y at_is new more =
             let same = its_key y at_is in
             let joined = take-append-drop i rows in
-            let free : row_at R key (take i rows ++ drop i rows) (key y) ≡ None = ap (λ (ys : List X). row_at R key ys (key y)) joined ∙ (ap (row_at R key rows) same ∙ none) in
+            let free : row_at R key (take i rows ++ drop i rows) (key y) ≡ None = ap (λ (ys : List X). row_at R key ys (key y)) joined
+            ∙ (ap (row_at R key rows) same ∙ none) in
             rows_set new
             (subst (IsRising R key) (sym more) (rising-between o exact key (take i rows) y (drop i rows)
             (subst (λ (k : K). IsAbove R key k (take i rows)) (sym same) gap.before) (subst (λ (k : K). IsBelow R key k (drop i rows)) (sym same) gap.behind)
@@ -96,8 +103,11 @@ module _ {K X : Type 0} {R : K → K → Ordering} (o : IsTotalOrder R) (exact :
         -- there is room for it
         pub room_left : (y : X) → at ≡ Some y → length rows < limit
         room_left y at_is =
-            let more : maps.len (maps.insert (map_of R key rows) q y) ≤ limit = subst (λ (a : Option X). maps.len (set_at (map_of R key rows) q a) ≤ limit) at_is room in
-            let grows = len-insert o (map_of R key rows) q y ∙ ap (λ (a : Option X). cond (is_some a) (maps.len (map_of R key rows)) (maps.len (map_of R key rows) + 1)) (get-map_of o exact key rows q ∙ none) in
+            let more : maps.len (maps.insert (map_of R key rows) q y) ≤ limit =
+            subst (λ (a : Option X). maps.len (set_at (map_of R key rows) q a) ≤ limit) at_is room in
+            let grows = len-insert o (map_of R key rows) q y
+            ∙ ap (λ (a : Option X). cond (is_some a) (maps.len (map_of R key rows)) (maps.len (map_of R key rows) + 1))
+            (get-map_of o exact key rows q ∙ none) in
             omega (arith, grows, more, len-map_of o exact key rows (Distinct-rising R key rows rising))
 
         -- nothing stood there, and nothing does

@@ -1,5 +1,6 @@
 -- Rows in the order of their keys: the search for a key, and what a row set, added or removed keeps.
-use Rattle.std.proofs.Common.{◌≡◌, ◌+◌, ◌-◌, ◌<◌, ℕ, zero, suc, true, false, cond, List, [], ◌∷◌, ◌++◌, length, take, drop, get_or, Some, None, filter, refl, sym, ◌∙◌, ap, subst, arith, add-one, drop-cons}
+use Rattle.std.proofs.Common.{◌≡◌, ◌+◌, ◌-◌, ◌<◌, ℕ, zero, suc, true, false, cond, List, [], ◌∷◌, ◌++◌, length, take, drop, get_or, Some, None}
+use Rattle.std.proofs.Common.{filter, refl, sym, ◌∙◌, ap, subst, arith, add-one, drop-cons}
 use Rattle.std.proofs.lemmas.List.{take-append-drop, get_or_default, length-drop}
 use Rattle.std.proofs.Math.Seq.{take-length}
 use Rattle.std.proofs.lemmas.List.Elements.{filter-append}
@@ -36,7 +37,8 @@ module _ {K X : Type 0} {R : K → K → Ordering} (o : IsTotalOrder R) (exact :
   below_drop q (x ∷ xs) (suc i) b = below_drop q xs i b.1
 
   -- where a row is below a key, so are those before it
-  pub above_through : (q : K) (xs : List X) (i : ℕ) (d : X) → IsRising R key xs → i < length xs → R (key (get_or xs i d)) q ≡ Less → IsAbove R key q (take (suc i) xs)
+  pub above_through : (q : K) (xs : List X) (i : ℕ) (d : X) → IsRising R key xs → i < length xs → R (key (get_or xs i d)) q ≡ Less
+      → IsAbove R key q (take (suc i) xs)
   above_through q [] i d r h l = absurd (omega arith)
   above_through q (x ∷ xs) zero d r h l = (l, tt)
   above_through q (x ∷ xs) (suc i) d r h l =
@@ -86,20 +88,24 @@ module _ {K X : Type 0} {R : K → K → Ordering} (o : IsTotalOrder R) (exact :
   )
 
   -- a row more, between those below its key and those above
-  pub rising-between : (front : List X) (y : X) (rest : List X) → IsAbove R key (key y) front → IsBelow R key (key y) rest → IsRising R key (front ++ rest) → IsRising R key (front ++ y ∷ rest)
+  pub rising-between : (front : List X) (y : X) (rest : List X) → IsAbove R key (key y) front → IsBelow R key (key y) rest
+      → IsRising R key (front ++ rest) → IsRising R key (front ++ y ∷ rest)
   rising-between [] y rest a b r = (b, r)
   rising-between (z ∷ front) y rest a b r = (below-with (key z) front y rest r.0 a.0, rising-between front y rest a.1 b r.1)
 
   none_above : (q : K) (xs : List X) → IsAbove R key q xs → filter (λ x. is_lt (R q (key x))) xs ≡ []
   none_above q [] a = refl
-  none_above q (x ∷ xs) a = ap (λ t. cond t (x ∷ filter (λ x. is_lt (R q (key x))) xs) (filter (λ x. is_lt (R q (key x))) xs)) (ap is_lt (above_is q (key x) a.0)) ∙ none_above q xs a.1
+  none_above q (x ∷ xs) a = ap (λ t. cond t (x ∷ filter (λ x. is_lt (R q (key x))) xs) (filter (λ x. is_lt (R q (key x))) xs))
+      (ap is_lt (above_is q (key x) a.0)) ∙ none_above q xs a.1
 
   all_below : (q : K) (xs : List X) → IsBelow R key q xs → filter (λ x. is_lt (R q (key x))) xs ≡ xs
   all_below q [] b = refl
-  all_below q (x ∷ xs) b = ap (λ t. cond t (x ∷ filter (λ x. is_lt (R q (key x))) xs) (filter (λ x. is_lt (R q (key x))) xs)) (ap is_lt b.0) ∙ ap (λ (ys : List X). x ∷ ys) (all_below q xs b.1)
+  all_below q (x ∷ xs) b = ap (λ t. cond t (x ∷ filter (λ x. is_lt (R q (key x))) xs) (filter (λ x. is_lt (R q (key x))) xs))
+      (ap is_lt b.0) ∙ ap (λ (ys : List X). x ∷ ys) (all_below q xs b.1)
 
   -- What one comparison in the search for the key q shows. The row x stands at place i, and its key is k.
-  module _ (rows : List X) (rising : IsRising R key rows) (i : ℕ) (within : i < length rows) (x : X) (is : x ≡ get_or rows i x) (q k : K) (named : k ≡ key x) where
+  module _ (rows : List X) (rising : IsRising R key rows) (i : ℕ) (within : i < length rows) (x : X) (is : x ≡ get_or rows i x) (q k : K)
+      (named : k ≡ key x) where
     its_key : key (get_or rows i x) ≡ k
     its_key = sym (named ∙ ap key is)
 
@@ -115,7 +121,8 @@ module _ {K X : Type 0} {R : K → K → Ordering} (o : IsTotalOrder R) (exact :
     pub search_here : Equal ≡ R k q → StandsIn key rows q i
     search_here l = record {
       row = x;
-      split = sym (take-append-drop i rows) ∙ (ap (λ (rest : List X). take i rows ++ rest) (drop-cons rows i x within) ∙ ap (λ (y : X). take i rows ++ y ∷ drop (suc i) rows) (sym is));
+      split = sym (take-append-drop i rows)
+          ∙ (ap (λ (rest : List X). take i rows ++ rest) (drop-cons rows i x within) ∙ ap (λ (y : X). take i rows ++ y ∷ drop (suc i) rows) (sym is));
       within = within;
       at = λ e. get_or_default rows i e x within ∙ sym is;
       named = sym named ∙ exact k q (sym l);
@@ -124,7 +131,9 @@ module _ {K X : Type 0} {R : K → K → Ordering} (o : IsTotalOrder R) (exact :
   -- what stands under a key where a row does
   pub row_at-here : (rows : List X) (rising : IsRising R key rows) (q : K) (i : ℕ) (s : StandsIn key rows q i) → row_at R key rows q ≡ Some s.row
   row_at-here rows rising q i s =
-      let above : IsAbove R key q (take i rows) = subst (λ (k : K). IsAbove R key k (take i rows)) s.named (above_front (take i rows) s.row (drop (suc i) rows) (subst (IsRising R key) s.split rising)) in
+      let above : IsAbove R key q (take i rows) =
+      subst (λ (k : K). IsAbove R key k (take i rows)) s.named
+      (above_front (take i rows) s.row (drop (suc i) rows) (subst (IsRising R key) s.split rising)) in
       ap (λ (ys : List X). row_at R key ys q) s.split
       ∙ (row_at-above q (take i rows) (s.row ∷ drop (suc i) rows) above
       ∙ ap (λ t. cond t (Some s.row) (row_at R key (drop (suc i) rows) q)) (ap (eq_by_cmp R q) s.named ∙ (eq_by_cmp_equiv o).refl q))
@@ -134,12 +143,15 @@ module _ {K X : Type 0} {R : K → K → Ordering} (o : IsTotalOrder R) (exact :
       above_front (z ∷ front) y rest r = (below-row (key z) front y rest r.0, above_front front y rest r.1)
 
   -- the rows above a key, where a row has it
-  pub filter-here : (rows : List X) (rising : IsRising R key rows) (q : K) (i : ℕ) (s : StandsIn key rows q i) → filter (λ x. is_lt (R q (key x))) rows ≡ drop (i + 1) rows
+  pub filter-here : (rows : List X) (rising : IsRising R key rows) (q : K) (i : ℕ) (s : StandsIn key rows q i)
+      → filter (λ x. is_lt (R q (key x))) rows ≡ drop (i + 1) rows
   filter-here rows rising q i s =
-      let parts : IsAbove R key (key s.row) (take i rows) × IsBelow R key (key s.row) (drop (suc i) rows) = sides (take i rows) s.row (drop (suc i) rows) (subst (IsRising R key) s.split rising) in
+      let parts : IsAbove R key (key s.row) (take i rows) × IsBelow R key (key s.row) (drop (suc i) rows) =
+      sides (take i rows) s.row (drop (suc i) rows) (subst (IsRising R key) s.split rising) in
       ap (filter (λ x. is_lt (R q (key x)))) s.split
       ∙ (filter-append (λ x. is_lt (R q (key x))) (take i rows) (s.row ∷ drop (suc i) rows)
-      ∙ (ap (λ (ys : List X). ys ++ filter (λ x. is_lt (R q (key x))) (s.row ∷ drop (suc i) rows)) (none_above q (take i rows) (subst (λ (k : K). IsAbove R key k (take i rows)) s.named parts.0))
+      ∙ (ap (λ (ys : List X). ys ++ filter (λ x. is_lt (R q (key x))) (s.row ∷ drop (suc i) rows))
+      (none_above q (take i rows) (subst (λ (k : K). IsAbove R key k (take i rows)) s.named parts.0))
       ∙ (ap (λ t. cond t (s.row ∷ filter (λ x. is_lt (R q (key x))) (drop (suc i) rows)) (filter (λ x. is_lt (R q (key x))) (drop (suc i) rows))) own
       ∙ (all_below q (drop (suc i) rows) (subst (λ (k : K). IsBelow R key k (drop (suc i) rows)) s.named parts.1) ∙ ap (λ n. drop n rows) (sym (add-one i))))))
     where
@@ -158,7 +170,8 @@ module _ {K X : Type 0} {R : K → K → Ordering} (o : IsTotalOrder R) (exact :
   filter-gap rows q i gap =
       ap (filter (λ x. is_lt (R q (key x)))) (sym (take-append-drop i rows))
       ∙ (filter-append (λ x. is_lt (R q (key x))) (take i rows) (drop i rows)
-      ∙ (ap (λ (ys : List X). ys ++ filter (λ x. is_lt (R q (key x))) (drop i rows)) (none_above q (take i rows) gap.before) ∙ all_below q (drop i rows) gap.behind))
+      ∙ (ap (λ (ys : List X). ys ++ filter (λ x. is_lt (R q (key x))) (drop i rows)) (none_above q (take i rows) gap.before)
+      ∙ all_below q (drop i rows) gap.behind))
 
   slice_from : (rows : List X) (i : ℕ) → take (length rows - i) (drop i rows) ≡ drop i rows
   slice_from rows i = ap (λ n. take n (drop i rows)) (sym (length-drop i rows)) ∙ take-length (drop i rows)

@@ -1,6 +1,7 @@
 pub mod Maps
 pub mod Changes
 pub mod Tapes
+pub mod Recorders
 pub mod Redoing
 pub mod Packings
 pub mod Places

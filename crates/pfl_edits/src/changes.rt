@@ -1,14 +1,15 @@
 //! Lists of edits whose room is made beforehand.
-ghost use Rattle.std.specs.Prelude.{◌≡◌, ℕ, ◌+◌, ◌<◌, ◌≤◌, List, [], ◌∷◌, ◌++◌, length, OnOk, OnErr, IfOk, IsOk, IsTrue, ◌↔◌, MatchOption};
+ghost use Rattle.std.specs.Prelude.{◌≡◌, ℕ, ◌+◌, ◌<◌, ◌≤◌, List, [], ◌∷◌, ◌++◌, length, map, OnOk, OnErr, IfOk, IsOk, IsTrue, ◌↔◌, MatchOption};
 ghost use Rattle.pfl_edits.specs.Changes.{Edits};
 
 use crate::no_memory::NoMemory;
+use crate::recorder::{OfPart, Recorder};
 use std::alloc::Allocator;
 use std::marker::Model;
 
 /// The edits of one value, the oldest first, and room for `spare` more.
 ///
-/// Room is made before the value is changed, so that recording an edit cannot fail half way through an event.
+/// Room is made before an edit is recorded, so that recording one cannot fail.
 #[derive(Drop)]
 pub struct Change<E, A: Allocator> {
     edits: Vec<E, A>,
@@ -98,20 +99,6 @@ impl<E, A: Allocator> Change<E, A> {
         Some(edit)
     }
 
-    /// Hands the edits out as a change of their own, if there is memory for that. The room that they had is given back.
-    pub fn hand_out(&mut self, alloc: A) -> Result<Self, NoMemory>
-        ensures edits { IfOk result (λ c. c.list ≡ self.old.list) }
-        ensures none_left { OnOk result (self.new.list ≡ []) }
-        ensures room { OnOk result (self.new.spare ≡ self.old.spare + length self.old.list) }
-        ensures unchanged { OnErr result (self.new ≡ self.old) }
-    {
-        let count = self.len();
-        let mut edits = Vec::with_capacity(alloc, count)?;
-        edits.append(&mut self.edits).unwrap();
-        self.spare += count;
-        Ok(Change { edits, spare: 0 })
-    }
-
     /// The edits, the oldest first.
     pub fn into_edits(self) -> Vec<E, A>
         ensures edits { result.items ≡ self.list }
@@ -136,5 +123,18 @@ impl<E: Drop, A: Allocator> Change<E, A> {
     {
         self.spare += self.edits.len();
         self.edits.truncate(0);
+    }
+}
+
+impl<E: Copy, A: Allocator> Change<E, A> {
+    /// Records the edits elsewhere too, as edits of a part, in room that was made there.
+    pub fn record_in<W: OfPart<E>, R: Recorder<W>>(&self, part: W::Part, to: &mut R)
+        requires room { length self.now.list ≤ R.spare to.old }
+        ensures list { R.list to.new ≡ R.list to.old ++ map (W.of part) self.now.list }
+        ensures spare { R.spare to.new + length self.now.list ≡ R.spare to.old }
+    {
+        for edit in &self.edits {
+            to.push(W::of_part(part, *edit));
+        }
     }
 }

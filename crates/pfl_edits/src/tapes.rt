@@ -114,19 +114,6 @@ impl<E: Packed, A: Allocator> Tape<E, A> {
         }
     }
 
-    /// Appends the edits of a change, in room that was made.
-    pub fn append(&mut self, change: Change<E, A>)
-        requires room { length change.list ≤ self.old.spare }
-        ensures list { self.new.list ≡ self.old.list ++ change.list }
-        ensures spare { self.new.spare + length change.list ≡ self.old.spare }
-    {
-        let mut edits = change.into_edits().into_iter();
-        while let Some(edit) = edits.next() {
-            self.push(edit);
-        }
-        edits.destroy_empty();
-    }
-
     /// How many edits there are.
     pub fn len(&self) -> usize
         ensures length { result ≡ length self.now.list }
@@ -213,6 +200,7 @@ pub fn set_aside_to<T: Redoable<Edit: Packed>, A: Allocator>(
     ensures list { tape.new.list ≡ below mark tape.old.list }
     ensures tape_room { tape.new.spare ≡ tape.old.spare }
     ensures kept { undone.new.list ≡ undone.old.list ++ set_aside T.undone (above mark tape.old.list) }
+    ensures left { undone.new.spare + length (above mark tape.old.list) ≡ undone.old.spare }
 {
     while mark < tape.len() {
         if let Some(edit) = tape.pop() {
@@ -231,6 +219,7 @@ pub fn redo_all<T: Redoable<Edit: Packed>, A: Allocator>(
     requires undone { AreUndone T.finds T.allows T.put_back T.undone undone.list value.old }
     ensures value { (of : AreUndone T.finds T.allows T.put_back T.undone undone.list value.old) → value.new ≡ of.led_to }
     ensures list { (of : AreUndone T.finds T.allows T.put_back T.undone undone.list value.old) → tape.new.list ≡ tape.old.list ++ of.edits }
+    ensures tape_room { tape.new.spare + length undone.list ≡ tape.old.spare }
 {
     while let Some(kept) = undone.pop() {
         tape.push(value.redo(kept));

@@ -1,5 +1,6 @@
 -- Events that are kept beside their packets, put after others and cut to the first of them.
-use Rattle.std.specs.Prelude.{◌≡◌, ◌<◌, ◌≤◌, ◌+◌, ◌-◌, ℕ, zero, suc, List, [], ◌∷◌, ◌++◌, length, filter, map, take, drop, get_or, slice_get, Option, Some, refl}
+use Rattle.std.specs.Prelude.{◌≡◌, ◌<◌, ◌≤◌, ◌+◌, ◌-◌, ℕ, zero, suc, List, [], ◌∷◌, ◌++◌, length, filter, map, take, drop, get_or, slice_get, Option}
+use Rattle.std.specs.Prelude.{Some, refl}
 use Rattle.std.specs.Option.{option_to_list}
 use Rattle.std.proofs.Common.{◌∙◌, ap, sym, subst, arith, length-append}
 use Rattle.std.proofs.lemmas.List.{length-map, length-take-le, map-append, take-append-drop, take-map, take_more, take_rest}
@@ -43,7 +44,8 @@ order-front n (kept.Packet node dir index ∷ ks) more are = (are.0, order-front
 order-front n (kept.Plain e ∷ ks) more are = order-front n ks more are
 
 -- each index is below how many there are
-pub index-within : (n : ℕ) (ks : List KeptEvent) (i : ℕ) (node : NodeId) (dir : Dir) (index : ℕ) → LieInOrder n ks → slice_get ks i ≡ Some (kept.Packet node dir index) → index < n + packets_among ks
+pub index-within : (n : ℕ) (ks : List KeptEvent) (i : ℕ) (node : NodeId) (dir : Dir) (index : ℕ) → LieInOrder n ks
+    → slice_get ks i ≡ Some (kept.Packet node dir index) → index < n + packets_among ks
 index-within n [] i node dir index are is = absurd (cc)
 index-within n (kept.Packet m d j ∷ ks) zero node dir index are is =
     let same : j ≡ index = cc in
@@ -59,7 +61,8 @@ order-more n (kept.Packet node dir index ∷ ks) k are lies = (are.0, order-more
 order-more n (kept.Plain e ∷ ks) k are lies = order-more n ks k are lies
 
 -- packets that no event refers to add nothing
-same-events : (n : ℕ) (ks : List KeptEvent) (ps more : List PacketFields) → LieInOrder n ks → n + packets_among ks ≤ length ps → events_of ks (ps ++ more) ≡ events_of ks ps
+same-events : (n : ℕ) (ks : List KeptEvent) (ps more : List PacketFields) → LieInOrder n ks → n + packets_among ks ≤ length ps
+    → events_of ks (ps ++ more) ≡ events_of ks ps
 same-events n [] ps more are enough = refl
 same-events n (kept.Packet node dir index ∷ ks) ps more are enough =
     let first = are.0 in
@@ -75,7 +78,8 @@ get-map h (y ∷ xs) zero x is = let same : y ≡ x = cc in ap (λ (z : _). Some
 get-map h (y ∷ xs) (suc i) x is = get-map h xs i x is
 
 -- the event that is kept at the index
-module _ (ks : List KeptEvent) (ps : List PacketFields) (are : AreKept ks ps) (i : ℕ) (k : KeptEvent) (within : i < length (events_of ks ps)) (is : k ≡ get_or ks i k) where
+module _ (ks : List KeptEvent) (ps : List PacketFields) (are : AreKept ks ps) (i : ℕ) (k : KeptEvent)
+    (within : i < length (events_of ks ps)) (is : k ≡ get_or ks i k) where
   among : i < length ks
   among = let long : length (events_of ks ps) ≡ length ks = length-map ks (whole ps) in omega arith
 
@@ -177,7 +181,8 @@ module _ (ks : List KeptEvent) (ps : List PacketFields) (are : AreKept ks ps) wh
     events-more =
         let all = are.each in
         map-append (whole (ps ++ option_to_list (packet_of e))) ks (kept_of e (length ps) ∷ [])
-        ∙ ap (λ (es : List Event). es ++ whole (ps ++ option_to_list (packet_of e)) (kept_of e (length ps)) ∷ []) (same-events 0 ks ps (option_to_list (packet_of e)) are.in_order (omega arith))
+        ∙ ap (λ (es : List Event). es ++ whole (ps ++ option_to_list (packet_of e)) (kept_of e (length ps)) ∷ [])
+        (same-events 0 ks ps (option_to_list (packet_of e)) are.in_order (omega arith))
         ∙ ap (λ (x : Event). events_of ks ps ++ x ∷ []) (there e ps)
 
 -- after the first n events another one is put, in place of those after them: i packets are left, and its own comes after these
@@ -209,7 +214,8 @@ module _ (ks : List KeptEvent) (ps : List PacketFields) (are : AreKept ks ps) (n
       same = events_are ∙ ap (λ (x : KeptEvent). take n ks ++ x ∷ []) (kept_as ∙ ap (kept_of e) (sym (front-length ks ps are n i left-are)))
 
       pub kept-put : AreKept ks' ps'
-      kept-put = subst (λ (xs : List KeptEvent). AreKept xs ps') (sym same) (subst (AreKept (take n ks ++ kept_of e (length (take i ps)) ∷ [])) (sym packets_are) (kept-more (take n ks) (take i ps) first e))
+      kept-put = subst (λ (xs : List KeptEvent). AreKept xs ps') (sym same)
+          (subst (AreKept (take n ks ++ kept_of e (length (take i ps)) ∷ [])) (sym packets_are) (kept-more (take n ks) (take i ps) first e))
 
       pub events-put : events_of ks' ps' ≡ take n (events_of ks ps) ++ e ∷ []
       events-put =

@@ -8,7 +8,7 @@ use pfl_language::{Event, FrameEvent, NodeEvent};
 use std::mem::size_of;
 
 /// An event without a packet. The name of a state is kept as its two numbers, which take fewer bytes side by side.
-#[derive(Clone, Copy, Debug)]
+#[derive(Clone, Copy)]
 pub(crate) enum PlainEvent {
     Tick { node: NodeId, ms: Millis },
     Purge { node: NodeId },
@@ -23,7 +23,7 @@ pub(crate) enum PlainEvent {
 }
 
 /// An event as it is kept. Of one with a packet it is kept where among the packets that one lies.
-#[derive(Clone, Copy, Debug)]
+#[derive(Clone, Copy)]
 pub(crate) enum KeptEvent {
     Packet {
         node: NodeId,

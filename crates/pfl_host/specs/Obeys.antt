@@ -6,7 +6,7 @@ use Rattle.clap.specs.Simple.{subcommand_of}
 use Rattle.clap.specs.Values.{kind_of}
 use Rattle.clap.specs.declared.error.kind.ErrorKind.{ErrorKind}
 use Rattle.clap.specs.declared.error.kind.ErrorKind.TheVariants.{DisplayHelp, DisplayVersion}
-use Rattle.pfl_run.specs.declared.fault.LabFault.TheVariants as lab
+use Rattle.pfl_run.specs.declared.fault.RunFault.TheVariants as lab
 use Rattle.pfl_run.specs.declared.mode.Mode.{Mode}
 use Rattle.pfl_run.specs.declared.mode.Mode.TheVariants.{Run, Check, Serve}
 use Rattle.pfl_run.specs.declared.mode.WordsFault.{WordsFault}
@@ -14,7 +14,7 @@ use Rattle.pfl_run.specs.declared.mode.WordsFault.TheVariants as fault
 use Rattle.pfl_run.specs.Checks.{ChecksToEnd, IsCheckStop}
 use Rattle.pfl_run.specs.Faults.{fault_text}
 use Rattle.pfl_run.specs.Modes.{lab_app, mode_word, subcommand_name, words_status, HasNumbers, IsWordsFault}
-use Rattle.pfl_run.specs.Runs.{Ends, HasFailed, IsStop, IsTold, RunsToEnd, Stops}
+use Rattle.pfl_run.specs.Runs.{Ends, HasFailed, IsStop, IsPrinted, RunsToEnd, Stops}
 use Rattle.pfl_host.specs.Servers.{IsServeStop, HostServes, ServesFromDevice}
 
 -- a device that is read from, before and after; what it had left to read, and has left; its calls of `read`; whether one has failed
@@ -61,23 +61,23 @@ abbrev pub IsUntouched : {D : Type 0} → Device D → Type 0
 IsUntouched d = d.new ≡ d.old
 
 -- some text was written, and not an empty one: whole, unless the device has failed, and else in part
-abbrev pub TellsText : {D : Type 0} → Device D → Type 0
-TellsText d = (text : List ℕ) × (0 < length text) × IsTold text d.before d.after d.failed
+abbrev pub PrintsText : {D : Type 0} → Device D → Type 0
+PrintsText d = (text : List ℕ) × (0 < length text) × IsPrinted text d.before d.after d.failed
 
 -- want of memory was reported
-abbrev pub TellsNoMemory : {D : Type 0} → Device D → Type 0
-TellsNoMemory d = IsTold (fault_text lab.NoMemory) d.before d.after d.failed
+abbrev pub ReportsNoMemory : {D : Type 0} → Device D → Type 0
+ReportsNoMemory d = IsPrinted (fault_text lab.NoMemory) d.before d.after d.failed
 
 -- a text was written for an error of this kind: to the writer where the words call for help or for the version, else to faults
-abbrev pub TellsKind : {W F : Type 0} → ErrorKind → Device W → Device F → Type 0
-TellsKind DisplayHelp writer faults = TellsText writer × IsUntouched faults
-TellsKind DisplayVersion writer faults = TellsText writer × IsUntouched faults
-TellsKind _ writer faults = IsUntouched writer × TellsText faults
+abbrev pub ReportsKind : {W F : Type 0} → ErrorKind → Device W → Device F → Type 0
+ReportsKind DisplayHelp writer faults = PrintsText writer × IsUntouched faults
+ReportsKind DisplayVersion writer faults = PrintsText writer × IsUntouched faults
+ReportsKind _ writer faults = IsUntouched writer × PrintsText faults
 
 -- the reason why words ask for no mode was reported, or else that there was no memory for that
-abbrev pub TellsWords : {W F : Type 0} → WordsFault → Device W → Device F → Type 0
-TellsWords (fault.Words e) writer faults = TellsKind (kind_of e) writer faults ⊎ (IsUntouched writer × TellsNoMemory faults)
-TellsWords fault.NoMemory writer faults = IsUntouched writer × TellsNoMemory faults
+abbrev pub ReportsWords : {W F : Type 0} → WordsFault → Device W → Device F → Type 0
+ReportsWords (fault.Words e) writer faults = ReportsKind (kind_of e) writer faults ⊎ (IsUntouched writer × ReportsNoMemory faults)
+ReportsWords fault.NoMemory writer faults = IsUntouched writer × ReportsNoMemory faults
 
 -- words are taken so: as a mode, which they name without a fault, with its numbers; or as none, for this reason
 abbrev pub IsTaken : List (List ℕ) → Result Mode WordsFault → Type 0
@@ -115,7 +115,7 @@ abbrev pub Does : {R W F : Type 0} → Result Mode WordsFault → Reader R → D
 Does (Ok Run) reader writer faults status = CallsAtMost (2 * 16777216) reader × Runs reader writer faults status
 Does (Ok Check) reader writer faults status = CallsAtMost (2 * 16777216) reader × Checks reader writer faults status
 Does (Ok (Serve port sessions)) reader writer faults status = CallsAtMost 16777216 reader × ServesLab port sessions reader writer faults status
-Does (Err why) reader writer faults status = (reader.new ≡ reader.old) × TellsWords why writer faults × (status ≡ words_status why)
+Does (Err why) reader writer faults status = (reader.new ≡ reader.old) × ReportsWords why writer faults × (status ≡ words_status why)
 
 -- the program does what its words ask for
 pub record Obeys {R W F : Type 0} (words : List (List ℕ)) (reader : Reader R) (writer : Device W) (faults : Device F) (status : ℕ) : Type 0 where

@@ -23,12 +23,12 @@ use Rattle.pfl_serve.specs.declared.closing.EndedSeat.{EndedSeat}
 use Rattle.pfl_serve.specs.declared.seat.Seat.{Seat}
 use Rattle.pfl_serve.specs.declared.seat.ServeFault.{ServeFault}
 use Rattle.pfl_serve.specs.declared.seat.ServeFault.TheVariants as serve
-use Rattle.pfl_run.specs.declared.fault.LabFault.{LabFault}
-use Rattle.pfl_run.specs.declared.fault.LabFault.TheVariants as fault
+use Rattle.pfl_run.specs.declared.fault.RunFault.{RunFault}
+use Rattle.pfl_run.specs.declared.fault.RunFault.TheVariants as fault
 use Rattle.pfl_run.specs.Faults.{fault_status, fault_text, of_engine}
 use Rattle.pfl_run.specs.reader.Readers.{Releases}
 use Rattle.pfl_run.specs.script.Setups.{IsSetupText}
-use Rattle.pfl_run.specs.Runs.{IsSetupStop, IsTold, SetsUp}
+use Rattle.pfl_run.specs.Runs.{IsSetupStop, IsPrinted, SetsUp}
 
 -- the port is listened on
 abbrev pub listening_text : ℕ → List ℕ
@@ -72,7 +72,8 @@ pub record IsUnused {A I D : Type 0} (seat : Seat A I (Std D)) : Type 0 where
   pub reader : seat.reader.failed ≡ false
   pub writer : has_failed seat.writer ≡ false
 
--- there are seats of the lab's sessions, of a new pass and an unused connection each, that were served, after which the lab was closed: the first fault of a session's end is this one, and this is the number of the journal's entries
+-- there are seats of the lab's sessions, of a new pass and an unused connection each, that were served, after which the lab was closed:
+-- the first fault of a session's end is this one, and this is the number of the journal's entries
 pub record ServesAll {K : Type 0} (j : Which.Ghosts K) (first : Option EngineFault) (entries : ℕ) : Type 0 where
   pub seats : List (Seat Global Connection Connection)
   pub new : AreNewPasses j.publisher (revisions_of j.opening []) 1 j.tallies (map (λ s. s.pass) seats)
@@ -106,7 +107,7 @@ pub record Closes (base : Base) (n : ℕ) (first : Option EngineFault) (entries 
   pub serves : ServesAll (lab_over base publisher tallies) first entries
 
 -- n sessions have ended, and that was reported
-pub record ClosesTold (base : Base) (n : ℕ) (first : Option EngineFault) (w v : Option (List ℕ)) : Type 0 where
+pub record PrintsClosed (base : Base) (n : ℕ) (first : Option EngineFault) (w v : Option (List ℕ)) : Type 0 where
   pub entries : ℕ
   pub closes : Closes base n first entries
   pub written : Appends w v (closed_text entries)
@@ -120,12 +121,12 @@ pub record ClosesPart (base : Base) (n : ℕ) (w v : Option (List ℕ)) : Type 0
   pub written : Appends w v (take part (closed_text entries))
 
 -- why sessions were not served, as a fault of the run
-abbrev pub of_serve : ServeFault → LabFault
+abbrev pub of_serve : ServeFault → RunFault
 of_serve serve.NoThread = fault.NoThread
 of_serve serve.NoMemory = fault.NoMemory
 
 -- why it was not reported that n sessions have ended: they could not begin, or the writer failed
-abbrev pub IsCloseStop : LabFault → Base → ℕ → Option (List ℕ) → Option (List ℕ) → Type 0
+abbrev pub IsCloseStop : RunFault → Base → ℕ → Option (List ℕ) → Option (List ℕ) → Type 0
 IsCloseStop fault.NoThread base n w v = Keeps w v
 IsCloseStop fault.NoMemory base n w v = Keeps w v
 IsCloseStop fault.Write base n w v = ClosesPart base n w v
@@ -135,21 +136,21 @@ IsCloseStop _ base n w v = ⊥
 pub record HostServesWhole (base : Base) (port n : ℕ) (first : Option EngineFault) (w v : Option (List ℕ)) : Type 0 where
   pub mid : Option (List ℕ)
   pub listens : Appends w mid (listening_text port)
-  pub closes : ClosesTold base n first mid v
+  pub closes : PrintsClosed base n first mid v
 
 -- why no connections came: the port was not listened on, or that was reported, whole or in part
-abbrev pub IsAwaitStop : LabFault → ℕ → Option (List ℕ) → Option (List ℕ) → Type 0
+abbrev pub IsAwaitStop : RunFault → ℕ → Option (List ℕ) → Option (List ℕ) → Type 0
 IsAwaitStop fault.Network port w v = Keeps w v ⊎ Appends w v (listening_text port)
 IsAwaitStop fault.NoMemory port w v = Appends w v (listening_text port)
 IsAwaitStop fault.Write port w v = (part : ℕ) × Appends w v (take part (listening_text port))
 IsAwaitStop _ port w v = ⊥
 
 -- the port was listened on and that was reported, and then it stopped
-abbrev pub StopsListening : LabFault → Base → ℕ → ℕ → Option (List ℕ) → Option (List ℕ) → Type 0
+abbrev pub StopsListening : RunFault → Base → ℕ → ℕ → Option (List ℕ) → Option (List ℕ) → Type 0
 StopsListening why base port n w v = (mid : Option (List ℕ)) × Appends w mid (listening_text port) × IsCloseStop why base n mid v
 
 -- why serving a lab over the base stopped: there was no memory for it, no connections came, or it stopped after that
-abbrev pub IsLabStop : LabFault → Base → ℕ → ℕ → Option (List ℕ) → Option (List ℕ) → Type 0
+abbrev pub IsLabStop : RunFault → Base → ℕ → ℕ → Option (List ℕ) → Option (List ℕ) → Type 0
 IsLabStop why base port n w v = ((why ≡ fault.NoMemory) × Keeps w v) ⊎ (IsAwaitStop why port w v ⊎ StopsListening why base port n w v)
 
 -- a pair was set up by the first lines, and a lab over it was served to its end; the other lines are left
@@ -166,7 +167,7 @@ pub record ServesFromDevice (old new : Option (List ℕ)) (port n : ℕ) (w v : 
   pub releases : Releases rest new
 
 -- a pair was set up, and then serving stopped
-pub record StopsServing (fault : LabFault) (old : Option (List ℕ)) (port n : ℕ) (w v : Option (List ℕ)) : Type 0 where
+pub record StopsServing (fault : RunFault) (old : Option (List ℕ)) (port n : ℕ) (w v : Option (List ℕ)) : Type 0 where
   pub mid : Option (List ℕ)
   pub number : ℕ
   pub base : Base
@@ -174,16 +175,16 @@ pub record StopsServing (fault : LabFault) (old : Option (List ℕ)) (port n : �
   pub stop : IsLabStop fault base port n w v
 
 -- why serving stopped: no pair was set up, and nothing was written; or it stopped after the setup
-abbrev pub IsServeStop : LabFault → Option (List ℕ) → ℕ → ℕ → Option (List ℕ) → Option (List ℕ) → Type 0
+abbrev pub IsServeStop : RunFault → Option (List ℕ) → ℕ → ℕ → Option (List ℕ) → Option (List ℕ) → Type 0
 IsServeStop fault old port n w v = (IsSetupStop fault old × Keeps w v) ⊎ StopsServing fault old port n w v
 
 -- what is reported of the first fault of the sessions, and the exit status
-abbrev pub TellsFirst : Option EngineFault → Option (List ℕ) → Option (List ℕ) → Bool → ℕ → Type 0
-TellsFirst None f g failed status = Keeps f g × (status ≡ 0)
-TellsFirst (Some why) f g failed status = IsTold (fault_text (of_engine why)) f g failed × (status ≡ fault_status (of_engine why))
+abbrev pub ReportsFirst : Option EngineFault → Option (List ℕ) → Option (List ℕ) → Bool → ℕ → Type 0
+ReportsFirst None f g failed status = Keeps f g × (status ≡ 0)
+ReportsFirst (Some why) f g failed status = IsPrinted (fault_text (of_engine why)) f g failed × (status ≡ fault_status (of_engine why))
 
 -- all sessions have ended, and the first fault of theirs is reported
 pub record HostServes (IsEnd : Option EngineFault → Type 0) (f g : Option (List ℕ)) (failed : Bool) (status : ℕ) : Type 0 where
   pub first : Option EngineFault
   pub end : IsEnd first
-  pub tells : TellsFirst first f g failed status
+  pub reports : ReportsFirst first f g failed status

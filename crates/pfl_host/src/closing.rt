@@ -1,14 +1,14 @@
 //! The outcome of sessions that are served over connections.
 
 ghost use Rattle.std.specs.Prelude.{◌≡◌, ◌⊎◌, length, map, IfOk, IfErr};
-ghost use Rattle.pfl_run.specs.declared.fault.LabFault.TheVariants as fault;
+ghost use Rattle.pfl_run.specs.declared.fault.RunFault.TheVariants as fault;
 ghost use Rattle.pfl_host.specs.Servers.{fault_in, first_fault, first_of, of_serve, ServesAll};
 
 use crate::doors::Doors;
 use crate::network::seats;
 use crate::server::Server;
 use pfl_base::{Input, Output};
-use pfl_run::{Ended, EngineFault, LabFault};
+use pfl_run::{Ended, EngineFault, RunFault};
 use pfl_serve::{Closing, EndedSeat, Gate, Opened, ServeFault, Service, Which};
 use std::alloc::Global;
 use std::net::TcpStream;
@@ -17,7 +17,7 @@ use std::thread::Threads;
 
 /// How the sessions of a lab ended.
 #[derive(Clone, Copy, Debug, PartialEq, Eq)]
-pub(crate) struct Outcome {
+pub(crate) struct ServedSessions {
     /// The entries of the journal.
     pub(crate) entries: usize,
     /// The fault of the first session that had one.
@@ -49,24 +49,24 @@ fn first_fault<I: Input + Drop, O: Output + Drop>(
 }
 
 /// The outcome of sessions that have been served.
-fn outcome_of<I: Input + Drop, O: Output + Drop>(closing: Closing<Global, I, O>) -> Outcome
+fn outcome_of<I: Input + Drop, O: Output + Drop>(closing: Closing<Global, I, O>) -> ServedSessions
     ensures entries { result.entries ≡ length closing.closed.journal.items }
     ensures fault { result.fault ≡ first_fault (map (λ e. e.result) closing.ended.items) }
 {
     let Closing { closed, ended } = closing;
-    Outcome {
+    ServedSessions {
         entries: closed.journal.len(),
         fault: first_fault(ended),
     }
 }
 
 /// Why the sessions were not served, as a fault of the run.
-fn lab_fault(why: ServeFault) -> LabFault
+fn lab_fault(why: ServeFault) -> RunFault
     ensures { result ≡ of_serve why }
 {
     match why {
-        ServeFault::NoThread => LabFault::NoThread,
-        ServeFault::NoMemory => LabFault::NoMemory,
+        ServeFault::NoThread => RunFault::NoThread,
+        ServeFault::NoMemory => RunFault::NoMemory,
     }
 }
 
@@ -76,7 +76,7 @@ impl<G: Gate + Sync, R: Threads + Wait + Sync> Server<'_, G, R> {
         &self,
         opened: Opened<Global>,
         streams: &[TcpStream],
-    ) -> Result<Outcome, LabFault>
+    ) -> Result<ServedSessions, RunFault>
         requires tables { (opened.publisher ≡ J.publisher) × (opened.tallies ≡ J.tallies) }
         requires opening { (opened.opening ≡ J.opening) × (opened.setup ≡ J.setup) × (opened.limit ≡ J.limit) }
         requires all { length streams.now ≡ length J.tallies }

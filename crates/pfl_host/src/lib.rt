@@ -9,7 +9,7 @@ mod program;
 mod report;
 mod server;
 
-pub use pfl_run::{LabFault, tell};
+pub use pfl_run::{RunFault, report_fault};
 pub use pfl_serve::{Gate, Open};
 pub use program::Program;
 pub use server::Server;

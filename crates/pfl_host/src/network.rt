@@ -5,11 +5,11 @@ ghost use Rattle.std.specs.List.{AllByRecursion};
 ghost use Rattle.std.specs.Net.Socket.{socket_ip, socket_port};
 ghost use Rattle.std.specs.declared.net.ip_addr.IpAddr.TheVariants as ip;
 ghost use Rattle.pfl_base.specs.Devices.{device_of};
-ghost use Rattle.pfl_run.specs.declared.fault.LabFault.TheVariants as fault;
+ghost use Rattle.pfl_run.specs.declared.fault.RunFault.TheVariants as fault;
 ghost use Rattle.pfl_host.specs.Servers.{stream_of, IsUnused};
 
 use pfl_base::Std;
-use pfl_run::{LabFault, LineReader};
+use pfl_run::{LineReader, RunFault};
 use pfl_serve::{Pass, Seat};
 use std::alloc::{Allocator, Global};
 use std::io::{Read, Write};
@@ -30,17 +30,17 @@ fn local(port: u16) -> SocketAddr
 pub(crate) fn listen<R: Net<Listener = TcpListener, Stream = TcpStream>>(
     rt: &R,
     port: u16,
-) -> Result<TcpListener, LabFault>
+) -> Result<TcpListener, RunFault>
     ensures fault { IfErr result (λ f. f ≡ fault.Network) }
 {
     match rt.bind(local(port)) {
         Ok(listener) => Ok(listener),
-        Err(_) => Err(LabFault::Network),
+        Err(_) => Err(RunFault::Network),
     }
 }
 
 /// Accepts the next connection. Its replies are sent at once, where the system can.
-fn accept(listener: &TcpListener) -> Result<TcpStream, LabFault>
+fn accept(listener: &TcpListener) -> Result<TcpStream, RunFault>
     ensures fault { IfErr result (λ f. f ≡ fault.Network) }
 {
     match listener.accept() {
@@ -48,7 +48,7 @@ fn accept(listener: &TcpListener) -> Result<TcpStream, LabFault>
             let _ = stream.set_nodelay(true);
             Ok(stream)
         }
-        Err(_) => Err(LabFault::Network),
+        Err(_) => Err(RunFault::Network),
     }
 }
 
@@ -57,12 +57,12 @@ pub(crate) fn accept_all<A: Allocator>(
     alloc: A,
     listener: TcpListener,
     count: u32,
-) -> Result<Vec<TcpStream, A>, LabFault>
+) -> Result<Vec<TcpStream, A>, RunFault>
     ensures count { IfOk result (λ streams. length streams.items ≡ count) }
     ensures fault { IfErr result (λ f. (f ≡ fault.Network) ⊎ (f ≡ fault.NoMemory)) }
 {
     let Ok(mut streams) = Vec::with_capacity(alloc, count as usize) else {
-        return Err(LabFault::NoMemory);
+        return Err(RunFault::NoMemory);
     };
     for _ in 0..count {
         streams.push_reserved(accept(&listener)?);
@@ -91,7 +91,7 @@ pub(crate) fn seats<'a>(
     alloc: Global,
     passes: Vec<Pass<Global>>,
     streams: &'a [TcpStream],
-) -> Result<Vec<Seat<Global, Side<'a>, Side<'a>>>, LabFault>
+) -> Result<Vec<Seat<Global, Side<'a>, Side<'a>>>, RunFault>
     requires as_many { length streams.now ≡ length passes.items }
     ensures passes { IfOk result (λ seats. map (λ s. s.pass) seats.items ≡ passes.items) }
     ensures streams { IfOk result (λ seats. map stream_of seats.items ≡ streams.now) }
@@ -99,7 +99,7 @@ pub(crate) fn seats<'a>(
     ensures fault { IfErr result (λ f. f ≡ fault.NoMemory) }
 {
     let Ok(mut seats) = Vec::with_capacity(alloc, passes.len()) else {
-        return Err(LabFault::NoMemory);
+        return Err(RunFault::NoMemory);
     };
     for pass in passes {
         let stream = &streams[seats.len()];

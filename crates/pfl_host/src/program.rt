@@ -3,7 +3,7 @@
 ghost use Rattle.std.specs.Prelude.{map};
 ghost use Rattle.pfl_host.specs.Obeys.{seen, seen_reader, Obeys};
 
-use crate::report::tell_words;
+use crate::report::report_words;
 use crate::server::Server;
 use pfl_base::{Input, Output};
 use pfl_run::{Mode, check_lab, mode_of, run_lab};
@@ -53,7 +53,7 @@ impl<
                 };
                 server.serve_lab(reader, writer, faults)
             }
-            Err(fault) => tell_words(*alloc, &fault, writer, faults),
+            Err(fault) => report_words(*alloc, &fault, writer, faults),
         }
     }
 }

@@ -6,24 +6,22 @@ ghost use Rattle.std.specs.Io.KnownBytes.{Appends};
 ghost use Rattle.pfl_base.specs.Counts.{Counts, CountsWithin};
 ghost use Rattle.pfl_serve.specs.session.Totals.{HasFewEvents};
 ghost use Rattle.pfl_run.specs.Runs.{HasFailed, IsDeviceFault, IsSetupStop, Stops};
-ghost use Rattle.pfl_run.specs.declared.fault.LabFault.TheVariants as fault;
-ghost use Rattle.pfl_host.specs.Servers.{closed_text, listening_text, ClosesTold, IsAwaitStop, IsCloseStop, IsLabStop, IsServeStop, HostServes, ServesFromDevice, ServesToEnd, SetsUpBase, HostServesWhole, TellsFirst};
+ghost use Rattle.pfl_run.specs.declared.fault.RunFault.TheVariants as fault;
+ghost use Rattle.pfl_host.specs.Servers.{closed_text, listening_text, PrintsClosed, IsAwaitStop, IsCloseStop, IsLabStop, IsServeStop, HostServes};
+ghost use Rattle.pfl_host.specs.Servers.{ServesFromDevice, ServesToEnd, SetsUpBase, HostServesWhole, ReportsFirst};
 
 use crate::network::{accept_all, listen};
 use pfl_base::{Input, Output};
 use pfl_run::{
-    EngineFault, LabFault, LineReader, Opening, ShortLine, Timeline, open_pair, plain_line,
-    push_number, tell, write_text,
+    EngineFault, LineReader, Opening, RunFault, ShortLine, Timeline, open_pair, plain_line,
+    push_number, report_fault, write_text,
 };
-use pfl_serve::{Gate, Opened};
+use pfl_serve::{Gate, MOST_ENTRIES, Opened};
 use std::alloc::Global;
 use std::marker::Brand;
 use std::net::{Net, TcpListener, TcpStream};
 use std::sync::Wait;
 use std::thread::Threads;
-
-/// The most entries of a journal.
-const MOST_ENTRIES: usize = 1_000_000;
 
 /// A text with a number after it, as a line.
 fn number_line(text: &str, number: u64) -> ShortLine
@@ -37,7 +35,7 @@ fn number_line(text: &str, number: u64) -> ShortLine
 }
 
 /// Writes a text with a number after it as a line.
-fn write_number<W: Output>(writer: &mut W, text: &str, number: u64) -> Result<(), LabFault>
+fn write_number<W: Output>(writer: &mut W, text: &str, number: u64) -> Result<(), RunFault>
     requires short { length text.now ≤ 59 }
     ensures whole { OnOk result (Appends (W.written writer.old) (W.written writer.new) (text.now ++ decimal number ++ codes "\n")) }
     ensures part { OnErr result ((n : ℕ) × Appends (W.written writer.old) (W.written writer.new) (take n (text.now ++ decimal number ++ codes "\n"))) }
@@ -47,7 +45,7 @@ fn write_number<W: Output>(writer: &mut W, text: &str, number: u64) -> Result<()
     let line = number_line(text, number);
     match write_text(writer, line.as_str().as_bytes()) {
         Ok(()) => Ok(()),
-        Err(_) => Err(LabFault::Write),
+        Err(_) => Err(RunFault::Write),
     }
 }
 
@@ -70,7 +68,7 @@ pub struct Server<'a, G: Gate, R> {
 }
 
 /// Reports that the port is listened on.
-fn tell_listening<O: Output>(writer: &mut O, port: u16) -> Result<(), LabFault>
+fn print_listening<O: Output>(writer: &mut O, port: u16) -> Result<(), RunFault>
     ensures whole { OnOk result (Appends (O.written writer.old) (O.written writer.new) (listening_text port)) }
     ensures part { OnErr result ((part : ℕ) × Appends (O.written writer.old) (O.written writer.new) (take part (listening_text port))) }
     ensures fails { OnErr result (O.has_failed writer.new ≡ true) }
@@ -80,7 +78,7 @@ fn tell_listening<O: Output>(writer: &mut O, port: u16) -> Result<(), LabFault>
 }
 
 /// Reports that all sessions have ended, and how many entries the journal has.
-fn tell_closed<O: Output>(writer: &mut O, entries: usize) -> Result<(), LabFault>
+fn print_closed<O: Output>(writer: &mut O, entries: usize) -> Result<(), RunFault>
     ensures whole { OnOk result (Appends (O.written writer.old) (O.written writer.new) (closed_text entries)) }
     ensures part { OnErr result ((part : ℕ) × Appends (O.written writer.old) (O.written writer.new) (take part (closed_text entries))) }
     ensures fails { OnErr result (O.has_failed writer.new ≡ true) }
@@ -91,16 +89,16 @@ fn tell_closed<O: Output>(writer: &mut O, entries: usize) -> Result<(), LabFault
 
 /// Reports the first fault of the sessions, if one had any, and returns the exit status.
 fn conclude<F: Output>(first: Option<EngineFault>, faults: &mut F) -> u8
-    ensures { TellsFirst first (F.written faults.old) (F.written faults.new) (F.has_failed faults.new) result }
+    ensures { ReportsFirst first (F.written faults.old) (F.written faults.new) (F.has_failed faults.new) result }
 {
     match first {
-        Some(fault) => tell(LabFault::from(fault), faults),
+        Some(fault) => report_fault(RunFault::from(fault), faults),
         None => 0,
     }
 }
 
 /// Sets a pair up by the first lines that the reader has, up to `open`. There is none without memory for these lines.
-fn read_pair<I: Input>(alloc: Global, reader: &mut LineReader<I>) -> Result<Pair, LabFault>
+fn read_pair<I: Input>(alloc: Global, reader: &mut LineReader<I>) -> Result<Pair, RunFault>
     requires fresh { reader.old.lines ≡ 0 }
     ensures sets_up { IfOk result (λ p. SetsUpBase reader.old.left reader.new.left reader.new.lines (record { opening = p.timeline; setup = p.setup.items })) }
     ensures stop { IfErr result (λ f. IsSetupStop f reader.old.left) }
@@ -113,7 +111,7 @@ fn read_pair<I: Input>(alloc: Global, reader: &mut LineReader<I>) -> Result<Pair
             let Opening { timeline, text } = opening;
             match text {
                 Some(setup) => Ok(Pair { timeline, setup }),
-                None => Err(LabFault::NoMemory),
+                None => Err(RunFault::NoMemory),
             }
         }
         Err(fault) => Err(fault),
@@ -125,16 +123,17 @@ impl<
     R: Net<Listener = TcpListener, Stream = TcpStream> + Threads + Wait + Sync,
 > Server<'_, G, R> {
     /// Opens a lab over the pair, with a session for each.
-    fn open_lab(&self, pair: Pair) -> Result<Opened<Global>, LabFault>
+    fn open_lab(&self, pair: Pair) -> Result<Opened<Global>, RunFault>
         requires few { HasFewEvents 4294967295 pair.timeline }
         requires sessions { (1 ≤ self.now.sessions) × (self.now.sessions ≤ 8) }
-        ensures opened { IfOk result (λ o. (o.opening ≡ pair.timeline) × (o.setup ≡ pair.setup.items) × (o.limit ≡ 1000000) × (length o.tallies ≡ self.now.sessions)) }
+        ensures opened { IfOk result (λ o. (o.opening ≡ pair.timeline) × (o.setup ≡ pair.setup.items) × (o.limit ≡ 1000000)
+            × (length o.tallies ≡ self.now.sessions)) }
         ensures fault { IfErr result (λ f. f ≡ fault.NoMemory) }
     {
         let Pair { timeline, setup } = pair;
         match Opened::new(self.alloc, timeline, self.sessions, MOST_ENTRIES) {
             Ok(opened) => Ok(opened.with_setup(setup)),
-            Err(_) => Err(LabFault::NoMemory),
+            Err(_) => Err(RunFault::NoMemory),
         }
     }
 
@@ -143,20 +142,20 @@ impl<
         &self,
         listener: TcpListener,
         writer: &mut O,
-    ) -> Result<Vec<TcpStream>, LabFault>
+    ) -> Result<Vec<TcpStream>, RunFault>
         ensures all { IfOk result (λ streams. length streams.items ≡ self.now.sessions) }
         ensures written { OnOk result (Appends (O.written writer.old) (O.written writer.new) (listening_text self.now.port)) }
         ensures stop { IfErr result (λ f. IsAwaitStop f self.now.port (O.written writer.old) (O.written writer.new)) }
         ensures device { IfErr result (λ f. f ≡ fault.Write → O.has_failed writer.new ≡ true) }
     {
-        match tell_listening(writer, self.port) {
+        match print_listening(writer, self.port) {
             Ok(()) => accept_all(self.alloc, listener, self.sessions),
             Err(fault) => Err(fault),
         }
     }
 
     /// Listens, writes that it does, and accepts a connection for each session.
-    fn await_sessions<O: Output>(&self, writer: &mut O) -> Result<Vec<TcpStream>, LabFault>
+    fn await_sessions<O: Output>(&self, writer: &mut O) -> Result<Vec<TcpStream>, RunFault>
         ensures all { IfOk result (λ streams. length streams.items ≡ self.now.sessions) }
         ensures written { OnOk result (Appends (O.written writer.old) (O.written writer.new) (listening_text self.now.port)) }
         ensures stop { IfErr result (λ f. IsAwaitStop f self.now.port (O.written writer.old) (O.written writer.new)) }
@@ -174,15 +173,18 @@ impl<
         opened: Opened<Global>,
         streams: &[TcpStream],
         writer: &mut O,
-    ) -> Result<Option<EngineFault>, LabFault>
+    ) -> Result<Option<EngineFault>, RunFault>
         requires all { length streams.now ≡ length opened.tallies }
         requires limit { opened.limit ≡ 1000000 }
-        ensures closes { IfOk result (λ first. ClosesTold (record { opening = opened.opening; setup = opened.setup }) (length opened.tallies) first (O.written writer.old) (O.written writer.new)) }
-        ensures stop { IfErr result (λ f. IsCloseStop f (record { opening = opened.opening; setup = opened.setup }) (length opened.tallies) (O.written writer.old) (O.written writer.new)) }
+        ensures closes { IfOk result (λ first.
+            PrintsClosed (record { opening = opened.opening; setup = opened.setup }) (length opened.tallies) first
+            (O.written writer.old) (O.written writer.new)) }
+        ensures stop { IfErr result (λ f. IsCloseStop f (record { opening = opened.opening; setup = opened.setup }) (length opened.tallies)
+            (O.written writer.old) (O.written writer.new)) }
         ensures device { IfErr result (λ f. f ≡ fault.Write → O.has_failed writer.new ≡ true) }
     {
         match self.serve_streams::<Brand>(opened, streams) {
-            Ok(outcome) => match tell_closed(writer, outcome.entries) {
+            Ok(outcome) => match print_closed(writer, outcome.entries) {
                 Ok(()) => Ok(outcome.fault),
                 Err(fault) => Err(fault),
             },
@@ -195,11 +197,15 @@ impl<
         &self,
         opened: Opened<Global>,
         writer: &mut O,
-    ) -> Result<Option<EngineFault>, LabFault>
+    ) -> Result<Option<EngineFault>, RunFault>
         requires sessions { length opened.tallies ≡ self.now.sessions }
         requires limit { opened.limit ≡ 1000000 }
-        ensures serves { IfOk result (λ first. HostServesWhole (record { opening = opened.opening; setup = opened.setup }) self.now.port self.now.sessions first (O.written writer.old) (O.written writer.new)) }
-        ensures stop { IfErr result (λ f. IsLabStop f (record { opening = opened.opening; setup = opened.setup }) self.now.port self.now.sessions (O.written writer.old) (O.written writer.new)) }
+        ensures serves { IfOk result (λ first.
+            HostServesWhole (record { opening = opened.opening; setup = opened.setup }) self.now.port self.now.sessions first
+            (O.written writer.old) (O.written writer.new)) }
+        ensures stop { IfErr result (λ f.
+            IsLabStop f (record { opening = opened.opening; setup = opened.setup }) self.now.port self.now.sessions
+            (O.written writer.old) (O.written writer.new)) }
         ensures device { IfErr result (λ f. f ≡ fault.Write → O.has_failed writer.new ≡ true) }
     {
         match self.await_sessions(writer) {
@@ -213,11 +219,15 @@ impl<
         &self,
         pair: Pair,
         writer: &mut O,
-    ) -> Result<Option<EngineFault>, LabFault>
+    ) -> Result<Option<EngineFault>, RunFault>
         requires few { HasFewEvents 4294967295 pair.timeline }
         requires sessions { (1 ≤ self.now.sessions) × (self.now.sessions ≤ 8) }
-        ensures serves { IfOk result (λ first. HostServesWhole (record { opening = pair.timeline; setup = pair.setup.items }) self.now.port self.now.sessions first (O.written writer.old) (O.written writer.new)) }
-        ensures stop { IfErr result (λ f. IsLabStop f (record { opening = pair.timeline; setup = pair.setup.items }) self.now.port self.now.sessions (O.written writer.old) (O.written writer.new)) }
+        ensures serves { IfOk result (λ first.
+            HostServesWhole (record { opening = pair.timeline; setup = pair.setup.items }) self.now.port self.now.sessions first
+            (O.written writer.old) (O.written writer.new)) }
+        ensures stop { IfErr result (λ f.
+            IsLabStop f (record { opening = pair.timeline; setup = pair.setup.items }) self.now.port self.now.sessions
+            (O.written writer.old) (O.written writer.new)) }
         ensures device { IfErr result (λ f. f ≡ fault.Write → O.has_failed writer.new ≡ true) }
     {
         match self.open_lab(pair) {
@@ -231,10 +241,11 @@ impl<
         &self,
         reader: &mut LineReader<I>,
         writer: &mut O,
-    ) -> Result<Option<EngineFault>, LabFault>
+    ) -> Result<Option<EngineFault>, RunFault>
         requires fresh { reader.old.lines ≡ 0 }
         requires sessions { (1 ≤ self.now.sessions) × (self.now.sessions ≤ 8) }
-        ensures serves { IfOk result (λ first. ServesToEnd reader.old.left reader.new.left self.now.port self.now.sessions (O.written writer.old) (O.written writer.new) first) }
+        ensures serves { IfOk result (λ first. ServesToEnd reader.old.left reader.new.left self.now.port self.now.sessions
+            (O.written writer.old) (O.written writer.new) first) }
         ensures stop { IfErr result (λ f. IsServeStop f reader.old.left self.now.port self.now.sessions (O.written writer.old) (O.written writer.new)) }
         ensures device { IfErr result (λ f. IsDeviceFault f reader.new.failed (reader.new.turns ≡ 16777216) (O.has_failed writer.new)) }
         ensures reads { Counts reader.old.reads reader.new.reads reader.new.turns }
@@ -260,7 +271,8 @@ impl<
     ) -> u8
         requires sessions { (1 ≤ self.now.sessions) × (self.now.sessions ≤ 8) }
         ensures reads { CountsWithin 0 16777216 (I.reads reader.old) (I.reads reader.new) }
-        ensures serves { HostServes (ServesFromDevice (I.left reader.old) (I.left reader.new) self.now.port self.now.sessions (O.written writer.old) (O.written writer.new))
+        ensures serves { HostServes (ServesFromDevice (I.left reader.old) (I.left reader.new) self.now.port self.now.sessions
+            (O.written writer.old) (O.written writer.new))
             (F.written faults.old) (F.written faults.new) (F.has_failed faults.new) result
             ⊎ Stops (λ f. IsServeStop f (I.left reader.old) self.now.port self.now.sessions (O.written writer.old) (O.written writer.new))
             (λ f. HasFailed f (I.has_failed reader.new) (I.reads reader.old) (I.reads reader.new) (O.has_failed writer.new))
@@ -272,7 +284,7 @@ impl<
         lines.into_inner();
         match whole {
             Ok(first) => conclude(first, faults),
-            Err(fault) => tell(fault, faults),
+            Err(fault) => report_fault(fault, faults),
         }
     }
 }

@@ -5,7 +5,7 @@
 ghost use Rattle.std.specs.Prelude.{◌≡◌};
 
 use pfl_base::Std;
-use pfl_host::{LabFault, Open, Program, tell};
+use pfl_host::{Open, Program, RunFault, report_fault};
 use std::env;
 use std::io::{self, ErrorKind};
 use std::process::ExitCode;
@@ -19,10 +19,10 @@ fn words_of(rt: &HostRuntime) -> io::Result<Vec<String>> {
 }
 
 /// Reports want of memory, and returns the exit status.
-fn tell_no_memory(rt: &HostRuntime) -> u8
+fn report_no_memory(rt: &HostRuntime) -> u8
     ensures { result ≡ 3 }
 {
-    tell(LabFault::NoMemory, &mut Std::new(rt.stderr()))
+    report_fault(RunFault::NoMemory, &mut Std::new(rt.stderr()))
 }
 
 fn main(rt: HostRuntime) -> ExitCode {
@@ -38,7 +38,7 @@ fn main(rt: HostRuntime) -> ExitCode {
             &mut Std::new(rt.stdout()),
             &mut Std::new(rt.stderr()),
         ),
-        Err(error) if error.kind() == ErrorKind::OutOfMemory => tell_no_memory(&rt),
+        Err(error) if error.kind() == ErrorKind::OutOfMemory => report_no_memory(&rt),
         Err(error) => match eprintln!(rt; "pfl_lab: words: {error}") {
             Ok(()) | Err(_) => BAD_WORDS,
         },

@@ -4,7 +4,8 @@ use Rattle.std.specs.List.{AllByRecursion, list_any}
 use Rattle.pfl_base.specs.Numbers.{greatest}
 use Rattle.pfl_rules.specs.declared.adaptive.Adaptive.{Adaptive}
 use Rattle.pfl_language.specs.declared.limits.Limit.{Limit}
-use Rattle.pfl_language.specs.declared.limits.Limit.TheVariants.{States, Queue, Frames, Mtu, Held, Defer, DeferMs, MaxUpdates, Batch, BulkMs, AdaptiveStart, AdaptiveEnd}
+use Rattle.pfl_language.specs.declared.limits.Limit.TheVariants.{States, Queue, Frames, Mtu, Held, Defer, DeferMs, MaxUpdates, Batch, BulkMs}
+use Rattle.pfl_language.specs.declared.limits.Limit.TheVariants.{AdaptiveStart, AdaptiveEnd}
 use Rattle.pfl_language.specs.declared.limits.LimitFault.{LimitFault}
 use Rattle.pfl_language.specs.declared.limits.LimitFault.TheVariants.{TooSmall, TooLarge}
 use Rattle.pfl_language.specs.declared.limits.Limits.{Limits}

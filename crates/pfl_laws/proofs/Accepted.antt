@@ -1,5 +1,6 @@
 -- What the events of a run that were accepted say of it, and what one that is refused does.
-use Rattle.std.specs.Prelude.{◌≡◌, ◌≤◌, ◌<◌, ◌+◌, ◌++◌, ℕ, List, [], ◌∷◌, length, drop, Option, Some, Result, Ok, IsOkAnd, IsSome, IsSomeAnd, is_some, fold, option_and_then, refl}
+use Rattle.std.specs.Prelude.{◌≡◌, ◌≤◌, ◌<◌, ◌+◌, ◌++◌, ℕ, List, [], ◌∷◌, length, drop, Option, Some, Result, Ok, IsOkAnd, IsSome, IsSomeAnd, is_some}
+use Rattle.std.specs.Prelude.{fold, option_and_then, refl}
 use Rattle.std.proofs.Common.{◌∙◌, ap, sym, subst, inr, get_or}
 use Rattle.std.proofs.lemmas.List.{drop_all, drop_more}
 use Rattle.pfl_base.specs.declared.refusal.Refusal.{Refusal}
@@ -52,7 +53,8 @@ left-from events i e within is = drop_more events i e within ∙ ap (λ (x : Eve
 
 -- one event more
 pub along-next : {M : Type 0} (w : World) (events : List Event) (i : ℕ) (v : World) (edits : List (WorldEdit M)) → Along w events i v edits
-    → (e : Event) → i < length events → e ≡ get_or events i e → (u : World) (later : List (WorldEdit M)) → world_after (step v e) ≡ Some u → LeadsOn edits later v u → Along w events (i + 1) u later
+    → (e : Event) → i < length events → e ≡ get_or events i e → (u : World) (later : List (WorldEdit M)) → world_after (step v e) ≡ Some u
+    → LeadsOn edits later v u → Along w events (i + 1) u later
 along-next w events i v edits a e within here u later is on =
     let cut = left-from events i e within here in
     record {
@@ -64,11 +66,13 @@ along-next w events i v edits a e within here u later is on =
     }
 
 -- all were accepted
-pub along-all : {M : Type 0} (w : World) (events : List Event) (i : ℕ) (v : World) (edits : List (WorldEdit M)) → Along w events i v edits → length events ≤ i → IsSome (run w events)
+pub along-all : {M : Type 0} (w : World) (events : List Event) (i : ℕ) (v : World) (edits : List (WorldEdit M)) → Along w events i v edits
+    → length events ≤ i → IsSome (run w events)
 along-all w events i v edits a all = ap is_some (a.ran ∙ ap (run v) (drop_all i events all)) ∙ run-none v
 
 -- edits that lead back, after others
-pub leads-on : {M : Type 0} (former mid later added : List (WorldEdit M)) (w v : World) → later ≡ mid ++ added → mid ≡ former → Fits Finds IsWorld put_back added v → back put_back added v ≡ w → LeadsOn former later w v
+pub leads-on : {M : Type 0} (former mid later added : List (WorldEdit M)) (w v : World) → later ≡ mid ++ added → mid ≡ former
+    → Fits Finds IsWorld put_back added v → back put_back added v ≡ w → LeadsOn former later w v
 leads-on {M = M} former mid later added w v lists same fits is origin before =
     subst (λ (es : List (WorldEdit M)). WorldLeadsBack es origin v) (sym (lists ∙ ap (λ (xs : List (WorldEdit M)). xs ++ added) same))
     (LeadsBack-append Finds IsWorld put_back former added origin w v before (record { fits = fits; back = is }))

@@ -49,7 +49,11 @@ retried-basis n = by (asks_again n.client)
 pub basis-keeps : (q : StateName) (n m : Node) → basis m ≡ basis n → Keeps Alike q n m
 basis-keeps q n m e =
     let next : m.next_id ≡ n.next_id = ap (λ (b : Basis). b.1.1.1) e in
-    record { creator = ap (λ (b : Basis). b.1.1.0) e; next = omega arith; comes = comes-same Alike n.states m.states q Alike-itself (ap (λ (b : Basis). b.0) e) }
+    record {
+      creator = ap (λ (b : Basis). b.1.1.0) e;
+      next = omega arith;
+      comes = comes-same Alike n.states m.states q Alike-itself (ap (λ (b : Basis). b.0) e);
+    }
 
 pub basis-apart : (n m : Node) → basis m ≡ basis n → AreStates n.states → AreStates m.states
 basis-apart n m e are = subst AreStates (sym (ap (λ (b : Basis). b.0) e)) are

@@ -54,7 +54,8 @@ pub killed-tied : (n : Node) (name : StateName) → IsTied n → IsTied (killed 
 killed-tied n name tied = tied-some (maps.get n.states name) (deleted n) n (λ s at. tied-deleted n s tied) tied
 
 -- a packet is let go with the state of its own name alone
-pub killed-lets : (n : Node) (name : StateName) (h : Held) → Filed n.states → Holds n h → Holds (killed n name) h ⊎ ((name ≡ h.name) × (maps.get (killed n name).states h.name ≡ None))
+pub killed-lets : (n : Node) (name : StateName) (h : Held) → Filed n.states → Holds n h → Holds (killed n name) h
+    ⊎ ((name ≡ h.name) × (maps.get (killed n name).states h.name ≡ None))
 killed-lets n name h filed holds = by (maps.get n.states name) refl
   where
     by : (o : Option State) → maps.get n.states name ≡ o

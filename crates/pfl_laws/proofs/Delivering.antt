@@ -1,5 +1,6 @@
 -- What the records of a frame do to a node, one after another, and what a frame does that cannot be read.
-use Rattle.std.specs.Prelude.{◌≡◌, ◌≤◌, ◌⊎◌, ◌==◌, ℕ, Bool, true, false, not, ◌&&◌, ◌||◌, nat_le, List, [], ◌∷◌, All, filter, Option, Some, None, is_some, IsOkAnd, Result, Ok, Err, refl}
+use Rattle.std.specs.Prelude.{◌≡◌, ◌≤◌, ◌⊎◌, ◌==◌, ℕ, Bool, true, false, not, ◌&&◌, ◌||◌, nat_le, List, [], ◌∷◌, All, filter, Option, Some, None}
+use Rattle.std.specs.Prelude.{is_some, IsOkAnd, Result, Ok, Err, refl}
 use Rattle.std.specs.List.{fold}
 use Rattle.std.specs.Option.{option_map_or}
 use Rattle.std.proofs.Common.{◌∙◌, T, cond, ap, sym, subst, arith, inl, inr}
@@ -28,8 +29,10 @@ use Rattle.pfl_world.specs.queue.Queues.{kind_of}
 use Rattle.pfl_world.specs.bulk.Bulk.{no_name}
 use Rattle.pfl_world.specs.defer.declared.Held.{Held}
 use Rattle.pfl_world.specs.desk.Nodes.{Node, timeout_at}
-use Rattle.pfl_world.specs.desk.Changes.{put_state, mark, push_if, count_bad, count_broken, count_stale, count_freed, count_lost, without_held, is_held, is_untold, freed, lost, released, changed, forgotten, ask}
-use Rattle.pfl_world.specs.receive.Receiving.{taken, insert_taken, can_import, merge_taken, merged_into, bulk_taken, state_answered, is_partly_told, ack_taken, delete_taken, is_known, cleared_names, of_state, of_update}
+use Rattle.pfl_world.specs.desk.Changes.{put_state, mark, push_if, count_bad, count_broken, count_stale, count_freed, count_lost, without_held}
+use Rattle.pfl_world.specs.desk.Changes.{is_held, is_unannounced, freed, lost, released, changed, forgotten, ask}
+use Rattle.pfl_world.specs.receive.Receiving.{taken, insert_taken, can_import, merge_taken, merged_into, bulk_taken, state_answered}
+use Rattle.pfl_world.specs.receive.Receiving.{is_partly_announced, ack_taken, delete_taken, is_known, cleared_names, of_state, of_update}
 use Rattle.pfl_world.proofs.ForCallers.node.{taken-apart}
 use Rattle.pfl_world.specs.receive.Delivering.{same_rules}
 use Rattle.pfl_laws.specs.Laws.{HasRisen, HasState, IsTied, Holds, LetsOut, OneLetsOut, RecordsLetGoOnlySo}
@@ -80,7 +83,7 @@ changed-ids : (n : Node) (s : State) → ids (changed n s) ≡ ids n
 unfolding changed
 changed-ids n s =
     ids-either (ids n) s.no_sync _ _ refl
-    (ids-either (ids n) (is_untold (kind_of n.queue s.name)) _ _ refl
+    (ids-either (ids n) (is_unannounced (kind_of n.queue s.name)) _ _ refl
     (ids-either (ids n) (is_tcp s.wire.proto) _ _ refl refl))
 
 merged-ids : (n : Node) (x : Merged) → ids (merged_into n x) ≡ ids n
@@ -98,14 +101,18 @@ pub taken-ids : (n : Node) (b : Bool) (m : Message) → ids (taken n b m) ≡ id
 unfolding taken
 taken-ids n b (message.Clear creator bound) = all-ids (cleared_names n creator bound) n
 taken-ids n b (message.Insert r) = insert-ids n b r r.ack_wanted
-taken-ids n b (message.InsertAck name) = ids-some (ids n) (maps.get n.states name) (ack_taken n) n (λ s. ids-either (ids n) s.ack_wanted (released n s.name) n (released-ids n s.name) refl) refl
+taken-ids n b (message.InsertAck name) =
+    ids-some (ids n) (maps.get n.states name) (ack_taken n) n
+    (λ s. ids-either (ids n) s.ack_wanted (released n s.name) n (released-ids n s.name) refl) refl
 taken-ids n b (message.Update r) =
-    ids-some (ids n) (maps.get n.states r.name) (λ s. merge_taken n s (of_state r)) (insert_taken n b r false) (λ s. merge-ids n s (of_state r)) (insert-ids n b r false)
-taken-ids n b (message.UpdateShort u) = ids-some (ids n) (maps.get n.states u.name) (λ s. merge_taken n s (of_update u)) (ask n u.name) (λ s. merge-ids n s (of_update u)) refl
+    ids-some (ids n) (maps.get n.states r.name) (λ s. merge_taken n s (of_state r)) (insert_taken n b r false)
+    (λ s. merge-ids n s (of_state r)) (insert-ids n b r false)
+taken-ids n b (message.UpdateShort u) = ids-some (ids n) (maps.get n.states u.name) (λ s. merge_taken n s (of_update u)) (ask n u.name)
+    (λ s. merge-ids n s (of_update u)) refl
 taken-ids n b (message.UpdateRequest name) =
     ids-either (ids n) (is_name no_name name) (bulk_taken n) (option_map_or (state_answered n) (maps.get n.states name) (count_bad n)) refl
     (ids-some (ids n) (maps.get n.states name) (state_answered n) (count_bad n)
-    (λ s. ids-either (ids n) (not s.no_sync && is_partly_told (kind_of n.queue s.name)) (push_if true (mark n s.name Update)) n refl refl) refl)
+    (λ s. ids-either (ids n) (not s.no_sync && is_partly_announced (kind_of n.queue s.name)) (push_if true (mark n s.name Update)) n refl refl) refl)
 taken-ids n b (message.Delete r) = ids-either (ids n) (is_known n r.name) (forgotten n r.name) (count_bad n) (forgotten-ids n r.name) refl
 taken-ids n b (message.DeleteShort name) = ids-either (ids n) (is_known n name) (forgotten n name) (count_bad n) (forgotten-ids n name) refl
 taken-ids n b (message.Bulk creator status) = refl
@@ -120,7 +127,8 @@ stays-either : (n : Node) (m : Message) (h : Held) (b : Bool) (x y : Node) → S
 stays-either n m h true x y k l = k
 stays-either n m h false x y k l = l
 
-stays-some : {X : Type 0} (n : Node) (m : Message) (h : Held) (o : Option X) (f : X → Node) (d : Node) → ((x : X) → o ≡ Some x → Stays n m h (f x)) → Stays n m h d → Stays n m h (option_map_or f o d)
+stays-some : {X : Type 0} (n : Node) (m : Message) (h : Held) (o : Option X) (f : X → Node) (d : Node)
+    → ((x : X) → o ≡ Some x → Stays n m h (f x)) → Stays n m h d → Stays n m h (option_map_or f o d)
 stays-some n m h None f d k l = l
 stays-some n m h (Some x) f d k l = k x refl
 
@@ -131,7 +139,8 @@ out n k m name h held reason holds = elim (key_cases names_total names_exact h.n
   | inr other ↦ inl (other-holds h n k name held other holds)
 ]
 
-merge-stays : (n : Node) (m : Message) (s : State) (r : Received) (h : Held) → (h.name ≡ s.name → LetsOut m h.name) → Holds n h → Stays n m h (merge_taken n s r)
+merge-stays : (n : Node) (m : Message) (s : State) (r : Received) (h : Held) → (h.name ≡ s.name → LetsOut m h.name) → Holds n h
+    → Stays n m h (merge_taken n s r)
 merge-stays n m s r h reason holds =
     let x = merged s r (timeout_at n s.rule r.class) n.clock in
     let l = lost n s.name in
@@ -146,7 +155,8 @@ insert-stays n m b r ack h holds = stays-either n m h (not (can_import n r)) _ _
 
 delete-stays : (n : Node) (m : Message) (name : StateName) (h : Held) → (h.name ≡ name → LetsOut m h.name) → Holds n h → Stays n m h (delete_taken n name)
 delete-stays n m name h reason holds =
-    stays-either n m h (is_known n name) (forgotten n name) (count_bad n) (out n (forgotten n name) m name h (forgotten-held n name ∙ lost-held n name) reason holds) (inl holds)
+    stays-either n m h (is_known n name) (forgotten n name) (count_bad n)
+    (out n (forgotten n name) m name h (forgotten-held n name ∙ lost-held n name) reason holds) (inl holds)
 
 -- a clear takes out states of its creator up to its bound
 passes : (name : StateName) (creator bound : ℕ) → ((name.creator == creator) && nat_le name.id bound) ≡ true → (name.creator ≡ creator) × (name.id ≤ bound)
@@ -157,9 +167,11 @@ passes name creator bound e = by (name.creator == creator) refl e
     by false is low = absurd (subst T (sym low) tt)
 
 clear-stays : (creator bound : ℕ) (names : List StateName) (n : Node) (h : Held)
-    → Holds n h → Holds (fold forgotten n (filter (λ name. (name.creator == creator) && nat_le name.id bound) names)) h ⊎ ((h.name.creator ≡ creator) × (h.name.id ≤ bound))
+    → Holds n h → Holds (fold forgotten n (filter (λ name. (name.creator == creator) && nat_le name.id bound) names)) h
+    ⊎ ((h.name.creator ≡ creator) × (h.name.id ≤ bound))
 clear-stays creator bound [] n h holds = inl holds
-clear-stays creator bound (name ∷ names) n h holds = by ((name.creator == creator) && nat_le name.id bound) refl (λ m held. clear-stays creator bound names m h held)
+clear-stays creator bound (name ∷ names) n h holds =
+    by ((name.creator == creator) && nat_le name.id bound) refl (λ m held. clear-stays creator bound names m h held)
   where
     test : StateName → Bool
     test = λ k. (k.creator == creator) && nat_le k.id bound
@@ -180,10 +192,12 @@ record-stays n b (message.Insert r) are h holds = insert-stays n (message.Insert
 record-stays n b (message.InsertAck name) are h holds =
     stays-some n (message.InsertAck name) h (maps.get n.states name) (ack_taken n) n
     (λ s at. stays-either n (message.InsertAck name) h s.ack_wanted (released n s.name) n
-    (out n (released n s.name) (message.InsertAck name) s.name h (released-held n s.name) (λ same. sym (same ∙ are.filed name s at)) holds) (inl holds)) (inl holds)
+    (out n (released n s.name) (message.InsertAck name) s.name h (released-held n s.name) (λ same. sym (same ∙ are.filed name s at)) holds)
+    (inl holds)) (inl holds)
 record-stays n b (message.Update r) are h holds =
     stays-some n (message.Update r) h (maps.get n.states r.name) (λ s. merge_taken n s (of_state r)) (insert_taken n b r false)
-    (λ s at. merge-stays n (message.Update r) s (of_state r) h (λ same. sym (same ∙ are.filed r.name s at)) holds) (insert-stays n (message.Update r) b r false h holds)
+    (λ s at. merge-stays n (message.Update r) s (of_state r) h (λ same. sym (same ∙ are.filed r.name s at)) holds)
+    (insert-stays n (message.Update r) b r false h holds)
 record-stays n b (message.UpdateShort u) are h holds =
     stays-some n (message.UpdateShort u) h (maps.get n.states u.name) (λ s. merge_taken n s (of_update u)) (ask n u.name)
     (λ s at. merge-stays n (message.UpdateShort u) s (of_update u) h (λ same. sym (same ∙ are.filed u.name s at)) holds) (inl holds)
@@ -191,7 +205,8 @@ record-stays n b (message.UpdateRequest name) are h holds =
     let m = message.UpdateRequest name in
     stays-either n m h (is_name no_name name) (bulk_taken n) (option_map_or (state_answered n) (maps.get n.states name) (count_bad n)) (inl holds)
     (stays-some n m h (maps.get n.states name) (state_answered n) (count_bad n)
-    (λ s at. stays-either n m h (not s.no_sync && is_partly_told (kind_of n.queue s.name)) (push_if true (mark n s.name Update)) n (inl holds) (inl holds)) (inl holds))
+    (λ s at. stays-either n m h (not s.no_sync && is_partly_announced (kind_of n.queue s.name)) (push_if true (mark n s.name Update)) n
+    (inl holds) (inl holds)) (inl holds))
 record-stays n b (message.Delete r) are h holds = delete-stays n (message.Delete r) r.name h (λ same. sym same) holds
 record-stays n b (message.DeleteShort name) are h holds = delete-stays n (message.DeleteShort name) name h (λ same. sym same) holds
 record-stays n b (message.Bulk creator status) are h holds = inl holds
@@ -228,21 +243,24 @@ module _ (b : Bool) where
     | inr lets ↦ inr (inl lets)
   ]
 
-  all-rightly : (q : StateName) (ms : List Message) (n : Node) → AreStates n.states → AreRecords ms → StandsRightly q n → StandsRightly q (fold (λ k m. taken k b m) n ms)
+  all-rightly : (q : StateName) (ms : List Message) (n : Node) → AreStates n.states → AreRecords ms → StandsRightly q n
+      → StandsRightly q (fold (λ k m. taken k b m) n ms)
   all-rightly q [] n are fit each = each
   all-rightly q (m ∷ ms) n are fit each = all-rightly q ms (taken n b m) (taken-apart n b m are) fit.1 (taken-rightly q n b m are.filed fit.0 each)
 
   -- a state that stands after each of them has risen
   all-rise : (q : StateName) (ms : List Message) (n : Node) → AreStates n.states → All (HasState q) (folds (λ k m. taken k b m) n ms)
       → (s t : State) → maps.get n.states q ≡ Some s → maps.get (fold (λ k m. taken k b m) n ms).states q ≡ Some t → HasRisen s t
-  all-rise q [] n are stand s t before later = let same : s ≡ t = inner s t (sym before ∙ later) in subst (HasRisen s) same (record { src = omega arith; dst = omega arith })
+  all-rise q [] n are stand s t before later = let same : s ≡ t = inner s t (sym before ∙ later)
+      in subst (HasRisen s) same (record { src = omega arith; dst = omega arith })
   all-rise q (m ∷ ms) n are stand s t before later =
       let k = taken n b m in
       let points = folds (λ k m. taken k b m) k ms in
       by (maps.get k.states q) refl (All-head (HasState q) k points stand)
       (λ u e. all-rise q ms k (taken-apart n b m are) (All-tail (HasState q) k points stand) u t e later)
     where
-      by : (o : Option State) → maps.get (taken n b m).states q ≡ o → is_some o ≡ true → ((u : State) → maps.get (taken n b m).states q ≡ Some u → HasRisen u t) → HasRisen s t
+      by : (o : Option State) → maps.get (taken n b m).states q ≡ o → is_some o ≡ true
+          → ((u : State) → maps.get (taken n b m).states q ≡ Some u → HasRisen u t) → HasRisen s t
       by None e some rest = absurd (subst T (sym some) tt)
       by (Some u) e some rest =
           let first = levels-record n b m are q s u before e in
@@ -276,11 +294,13 @@ pub received-tied : (n : Node) (r : Result Frame BadFrame) → AreStates n.state
 received-tied n (Ok f) are tied = all-tied (same_rules n f) (records_of f) n are tied
 received-tied n (Err why) are tied = tied-same n (count_broken n) tied refl refl
 
-pub received-stays : (n : Node) (r : Result Frame BadFrame) (h : Held) → AreStates n.states → Holds n h → Holds (received n r) h ⊎ IsOkAnd r (λ f. OneLetsOut (records_of f) h.name)
+pub received-stays : (n : Node) (r : Result Frame BadFrame) (h : Held) → AreStates n.states → Holds n h → Holds (received n r) h
+    ⊎ IsOkAnd r (λ f. OneLetsOut (records_of f) h.name)
 received-stays n (Ok f) h are holds = all-stays (same_rules n f) (records_of f) n h are holds
 received-stays n (Err why) h are holds = inl holds
 
-pub received-rightly : (q : StateName) (n : Node) (bytes : List ℕ) (r : Result Frame BadFrame) → reading bytes ≡ r → AreStates n.states → StandsRightly q n → StandsRightly q (received n r)
+pub received-rightly : (q : StateName) (n : Node) (bytes : List ℕ) (r : Result Frame BadFrame) → reading bytes ≡ r → AreStates n.states
+    → StandsRightly q n → StandsRightly q (received n r)
 received-rightly q n bytes (Ok f) e are each = all-rightly (same_rules n f) q (records_of f) n are (frame-is bytes f e) each
 received-rightly q n bytes (Err why) e are each = each
 

@@ -25,7 +25,9 @@ use Rattle.pfl_world.specs.queue.Queues.{kind_of}
 use Rattle.pfl_world.specs.bulk.Bulk.{no_name}
 use Rattle.pfl_world.specs.desk.Nodes.{Node, timeout_at}
 use Rattle.pfl_world.specs.desk.Changes.{put_state, mark, push_if, count_bad, lost, released, changed, forgotten, count_stale, ask}
-use Rattle.pfl_world.specs.receive.Receiving.{taken, insert_taken, can_import, imported, merge_taken, merged_into, bulk_taken, state_answered, is_partly_told, request_taken, ack_taken, delete_taken, is_known, cleared_names, of_state, of_update}
+use Rattle.pfl_world.specs.receive.Receiving.{taken, insert_taken, can_import, imported, merge_taken, merged_into, bulk_taken, state_answered}
+use Rattle.pfl_world.specs.receive.Receiving.{is_partly_announced, request_taken, ack_taken, delete_taken, is_known, cleared_names, of_state}
+use Rattle.pfl_world.specs.receive.Receiving.{of_update}
 use Rattle.pfl_world.proofs.ForCallers.receive.{may-import}
 use Rattle.pfl_laws.proofs.Following.{Alike, Filed, inner, waiting-is}
 use Rattle.pfl_laws.proofs.Keeping.{Keeps, released-keeps}
@@ -75,7 +77,8 @@ module _ (P : State → Type 0) (still : (s : State) (ack : Bool) (updates : ℕ
   each-by true x y k l = k refl
   each-by false x y k l = l refl
 
-  each-some : {X : Type 0} (o : Option X) (f : X → Node) (d : Node) → ((x : X) → o ≡ Some x → Each (f x).states) → Each d.states → Each (option_map_or f o d).states
+  each-some : {X : Type 0} (o : Option X) (f : X → Node) (d : Node) → ((x : X) → o ≡ Some x → Each (f x).states) → Each d.states
+      → Each (option_map_or f o d).states
   each-some None f d k l = l
   each-some (Some x) f d k l = k x refl
 
@@ -101,7 +104,8 @@ module _ (P : State → Type 0) (still : (s : State) (ack : Bool) (updates : ℕ
       (is (timeout_at n s.rule r.class) n.clock)
 
   -- a state that is taken over
-  each-insert : (n : Node) (b : Bool) (r : StateRecord) (ack : Bool) → (can_import n r ≡ true → P (imported n b r)) → Each n.states → Each (insert_taken n b r ack).states
+  each-insert : (n : Node) (b : Bool) (r : StateRecord) (ack : Bool) → (can_import n r ≡ true → P (imported n b r)) → Each n.states
+      → Each (insert_taken n b r ack).states
   each-insert n b r ack is each =
       let new = put_state n (imported n b r) in
       let told = push_if true (mark new r.name InsertAck) in
@@ -113,7 +117,7 @@ module _ (P : State → Type 0) (still : (s : State) (ack : Bool) (updates : ℕ
   each-request n name each =
       each-either (is_name no_name name) (bulk_taken n) (option_map_or (state_answered n) (maps.get n.states name) (count_bad n)) each
       (each-some (maps.get n.states name) (state_answered n) (count_bad n) (λ s at.
-      each-either (not s.no_sync && is_partly_told (kind_of n.queue s.name)) (push_if true (mark n s.name Update)) n each each) each)
+      each-either (not s.no_sync && is_partly_announced (kind_of n.queue s.name)) (push_if true (mark n s.name Update)) n each each) each)
 
   each-delete : (n : Node) (name : StateName) → Each n.states → Each (delete_taken n name).states
   each-delete n name each = each-either (is_known n name) (forgotten n name) (count_bad n) (each-forgotten n name each) each
@@ -121,14 +125,16 @@ module _ (P : State → Type 0) (still : (s : State) (ack : Bool) (updates : ℕ
   -- what a record has to bring
   abbrev pub Brings : Node → Bool → Message → Type 0
   Brings n b (message.Insert r) = can_import n r ≡ true → P (imported n b r)
-  Brings n b (message.Update r) = (can_import n r ≡ true → P (imported n b r)) × ((s : State) (seconds now : ℕ) → P s → P (merged s (of_state r) seconds now).state)
+  Brings n b (message.Update r) = (can_import n r ≡ true → P (imported n b r))
+      × ((s : State) (seconds now : ℕ) → P s → P (merged s (of_state r) seconds now).state)
   Brings n b (message.UpdateShort u) = (s : State) (seconds now : ℕ) → P s → P (merged s (of_update u) seconds now).state
   Brings n b _ = Unit {0}
 
   pub each-record : (n : Node) (b : Bool) (m : Message) → Filed n.states → Brings n b m → Each n.states → Each (taken n b m).states
   unfolding taken
   each-record n b (message.Clear creator bound) filed is each =
-      each-kept n (fold forgotten n (cleared_names n creator bound)) (λ q. all-keep forgotten (λ (name : StateName). name) forgotten-removes q (cleared_names n creator bound) n) each
+      each-kept n (fold forgotten n (cleared_names n creator bound))
+      (λ q. all-keep forgotten (λ (name : StateName). name) forgotten-removes q (cleared_names n creator bound) n) each
   each-record n b (message.Insert r) filed is each = each-insert n b r r.ack_wanted is each
   each-record n b (message.InsertAck name) filed is each =
       each-some (maps.get n.states name) (ack_taken n) n
@@ -250,7 +256,8 @@ low-brings n b (message.DeleteShort name) = tt
 low-brings n b (message.Bulk creator status) = tt
 
 -- the node gives no name by a record
-pub taken-given : (n : Node) (b : Bool) (m : Message) → Filed n.states → Filed (taken n b m).states → (taken n b m).creator ≡ n.creator → (taken n b m).next_id ≡ n.next_id → AreGiven n → AreGiven (taken n b m)
+pub taken-given : (n : Node) (b : Bool) (m : Message) → Filed n.states → Filed (taken n b m).states → (taken n b m).creator ≡ n.creator
+    → (taken n b m).next_id ≡ n.next_id → AreGiven n → AreGiven (taken n b m)
 taken-given n b m filed filed_on creator next given q t at =
     let all = each-record (Low n.creator n.next_id) (low-still n.creator n.next_id) n b m filed (low-brings n b m)
     (λ name s stands. subst (λ (k : StateName). k.creator ≡ n.creator → k.id < n.next_id) (sym (filed name s stands)) (given name s stands)) in

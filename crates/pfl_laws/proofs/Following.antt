@@ -63,12 +63,14 @@ pub alike-follows-then : (C : Type 0) (s t u : State) → Alike s t → Follows 
 alike-follows-then C s t u e f =
     let on : Follows C (record s { ack_wanted = t.ack_wanted; updates = t.updates }) u = subst (λ (v : State). Follows C v u) e f in
     record {
-      rises = λ is. let r = on.rises (waiting-is s t.ack_wanted t.updates is) in record { src = r.src; dst = r.dst; src_most = r.src_most; dst_most = r.dst_most };
+      rises = λ is. let r = on.rises (waiting-is s t.ack_wanted t.updates is)
+          in record { src = r.src; dst = r.dst; src_most = r.src_most; dst_most = r.dst_most };
       is = λ holds is. on.is holds (waiting-is s t.ack_wanted t.updates is);
     }
 
 -- a state that a packet moved follows too
-pub moved-follows : (s : State) (p : Packet) (dir : Dir) (now : ℕ) (t : State) (ack : Bool) (updates : ℕ) → tracked s p dir now ≡ Moved t → Follows (IsPacket p) s (record t { ack_wanted = ack; updates = updates })
+pub moved-follows : (s : State) (p : Packet) (dir : Dir) (now : ℕ) (t : State) (ack : Bool) (updates : ℕ) → tracked s p dir now ≡ Moved t
+    → Follows (IsPacket p) s (record t { ack_wanted = ack; updates = updates })
 moved-follows s p dir now t ack updates e = record {
   rises = λ is. waiting-rises s t ack updates (tracked-rises s p dir now t is e);
   is = λ packet is. waiting-is t ack updates (tracked-is s p dir now t is packet e);
@@ -89,7 +91,8 @@ pub record From (R : State → State → Type 0) (m : States) (q : StateName) (t
 abbrev pub Comes : (State → State → Type 0) → States → States → StateName → Type 0
 Comes R m k q = (t : State) → maps.get k q ≡ Some t → From R m q t
 
-pub comes-then : (R S T : State → State → Type 0) (m k l : States) (q : StateName) → ((s t u : State) → R s t → S t u → T s u) → Comes R m k q → Comes S k l q → Comes T m l q
+pub comes-then : (R S T : State → State → Type 0) (m k l : States) (q : StateName) → ((s t u : State) → R s t → S t u → T s u)
+    → Comes R m k q → Comes S k l q → Comes T m l q
 comes-then R S T m k l q on first next u at =
     let late = next u at in
     let early = first late.state late.at in
@@ -100,7 +103,8 @@ pub comes-same : (R : State → State → Type 0) (m k : States) (q : StateName)
 comes-same R m k q itself e t at = record { state = t; at = ap (λ (l : States). maps.get l q) (sym e) ∙ at; so = itself t }
 
 -- a state is put
-pub comes-put : (R : State → State → Type 0) (m : States) (u : State) (q : StateName) → ((s : State) → R s s) → (q ≡ u.name → From R m q u) → Comes R m (maps.insert m u.name u) q
+pub comes-put : (R : State → State → Type 0) (m : States) (u : State) (q : StateName) → ((s : State) → R s s) → (q ≡ u.name → From R m q u)
+    → Comes R m (maps.insert m u.name u) q
 comes-put R m u q itself here t at = elim (get-set_at_cases names_total names_exact m u.name (Some u) q t at) [
   | inl own ↦ subst (From R m q) (inner u t own.1) (here own.0)
   | inr other ↦ record { state = t; at = other.1; so = itself t }

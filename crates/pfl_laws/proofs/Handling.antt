@@ -26,15 +26,18 @@ use Rattle.pfl_world.specs.desk.Changes.{mark, freed, changed, deleted}
 use Rattle.pfl_world.specs.node.Starting.{Handled, started, judged, by_rule, announced, hold, with_room, with_new, new_state, next_name, is_at_max, is_deferred}
 use Rattle.pfl_world.specs.node.Packets.{handled, handled_by, followed, accepted}
 use Rattle.pfl_laws.proofs.Following.{Alike, Alike-itself, Follows, alike-follows, alike-follows-then, moved-follows, comes-removed, Filed, filed-put}
-use Rattle.pfl_laws.proofs.Keeping.{Keeps, keeps-then, alike-then, keeps-as, keeps-itself, keeps-given, on_some, put_other-keeps, freed-states, freed-keeps, released-keeps, changed-keeps, deleted-states, deleted-keeps}
+use Rattle.pfl_laws.proofs.Keeping.{Keeps, keeps-then, alike-then, keeps-as, keeps-itself, keeps-given, on_some, put_other-keeps, freed-states}
+use Rattle.pfl_laws.proofs.Keeping.{freed-keeps, released-keeps, changed-keeps, deleted-states, deleted-keeps}
 
 -- ---- choices
 
-one_of : (R : State → State → Type 0) (q : StateName) (n : Node) (b : Bool) (x y : Handled) → Keeps R q n x.node → Keeps R q n y.node → Keeps R q n (cond b x y).node
+one_of : (R : State → State → Type 0) (q : StateName) (n : Node) (b : Bool) (x y : Handled) → Keeps R q n x.node → Keeps R q n y.node
+    → Keeps R q n (cond b x y).node
 one_of R q n true x y k l = k
 one_of R q n false x y k l = l
 
-of_some : {X : Type 0} (R : State → State → Type 0) (q : StateName) (n : Node) (o : Option X) (f : X → Handled) (d : Handled) → ((x : X) → Keeps R q n (f x).node) → Keeps R q n d.node → Keeps R q n (option_map_or f o d).node
+of_some : {X : Type 0} (R : State → State → Type 0) (q : StateName) (n : Node) (o : Option X) (f : X → Handled) (d : Handled)
+    → ((x : X) → Keeps R q n (f x).node) → Keeps R q n d.node → Keeps R q n (option_map_or f o d).node
 of_some R q n None f d k l = l
 of_some R q n (Some x) f d k l = k x
 
@@ -65,10 +68,12 @@ announced-keeps q n s dir p filed other =
     let room : Keeps Alike q n (with_room (mark n s.name Insert)) = room-keeps q (mark n s.name Insert) filed in
     one_of Alike q n s.no_sync _ _ still
     (one_of Alike q n (is_deferred n dir) _ _
-    (alike-then q n (with_room (mark n s.name Insert)) (hold (with_room (mark n s.name Insert)) s p).node room (hold-keeps q (with_room (mark n s.name Insert)) s p other))
+    (alike-then q n (with_room (mark n s.name Insert)) (hold (with_room (mark n s.name Insert)) s p).node room
+    (hold-keeps q (with_room (mark n s.name Insert)) s p other))
     still)
 
-started-keeps : (q : StateName) (n : Node) (dir : Dir) (p : Packet) (number : ℕ) (r : Rule) → Filed n.states → IsGiven n q → Keeps Alike q n (started n dir p number r).node
+started-keeps : (q : StateName) (n : Node) (dir : Dir) (p : Packet) (number : ℕ) (r : Rule) → Filed n.states → IsGiven n q
+    → Keeps Alike q n (started n dir p number r).node
 unfolding started
 started-keeps q n dir p number r filed given =
     let still : Keeps Alike q n n = keeps-itself Alike q n Alike-itself in
@@ -89,7 +94,8 @@ judged-keeps q n dir p filed given = one_of Alike q n (verdict n.rules.list p di
 
     by_number : (rule : Option ℕ) → Keeps Alike q n (by_rule n dir p rule).node
     by_number None = still
-    by_number (Some number) = of_some Alike q n (rule_at n.rules.list (Some number)) (started n dir p number) _ (λ r. started-keeps q n dir p number r filed given) still
+    by_number (Some number) = of_some Alike q n (rule_at n.rules.list (Some number)) (started n dir p number) _
+        (λ r. started-keeps q n dir p number r filed given) still
 
 -- ---- a packet of a state
 
@@ -102,9 +108,11 @@ follows-itself : (C : Type 0) (s : State) → Follows C s s
 follows-itself C s = alike-follows C s s refl
 
 -- the state s moved to t
-pub accepted-keeps : (q : StateName) (n : Node) (dir : Dir) (p : Packet) (s t : State) → maps.get n.states s.name ≡ Some s → t.name ≡ s.name → tracked s p dir n.clock ≡ Moved t → Keeps (Follows (IsPacket p)) q n (accepted n t).node
+pub accepted-keeps : (q : StateName) (n : Node) (dir : Dir) (p : Packet) (s t : State) → maps.get n.states s.name ≡ Some s
+    → t.name ≡ s.name → tracked s p dir n.clock ≡ Moved t → Keeps (Follows (IsPacket p)) q n (accepted n t).node
 accepted-keeps q n dir p s t at named e =
-    keeps-then Alike (Follows (IsPacket p)) (Follows (IsPacket p)) q n (freed n t.name) (changed (freed n t.name) (record t { ack_wanted = false })) (alike-follows-then (IsPacket p))
+    keeps-then Alike (Follows (IsPacket p)) (Follows (IsPacket p)) q n (freed n t.name)
+    (changed (freed n t.name) (record t { ack_wanted = false })) (alike-follows-then (IsPacket p))
     (freed-keeps q n t.name)
     (changed-keeps (Follows (IsPacket p)) q (freed n t.name) (record t { ack_wanted = false }) (follows-itself (IsPacket p)) (λ same updates. record {
       state = s;
@@ -112,7 +120,8 @@ accepted-keeps q n dir p s t at named e =
       so = moved-follows s p dir n.clock t false updates e;
     }))
 
-followed-keeps : (q : StateName) (n : Node) (dir : Dir) (p : Packet) (s : State) (x : Tracked) → Filed n.states → IsGiven n q → maps.get n.states s.name ≡ Some s → Stays s x → tracked s p dir n.clock ≡ x → Keeps (Follows (IsPacket p)) q n (followed n dir p s x).node
+followed-keeps : (q : StateName) (n : Node) (dir : Dir) (p : Packet) (s : State) (x : Tracked) → Filed n.states → IsGiven n q
+    → maps.get n.states s.name ≡ Some s → Stays s x → tracked s p dir n.clock ≡ x → Keeps (Follows (IsPacket p)) q n (followed n dir p s x).node
 followed-keeps q n dir p s (Moved t) filed given at stays e = accepted-keeps q n dir p s t at stays.name e
 followed-keeps q n dir p s OutOfWindow filed given at stays e = keeps-itself (Follows (IsPacket p)) q n (follows-itself (IsPacket p))
 followed-keeps q n dir p s Reused filed given at stays e =
@@ -122,10 +131,12 @@ followed-keeps q n dir p s Reused filed given at stays e =
     (judged-keeps q (deleted n s) dir p (filed-without n s filed) (keeps-given Alike q n (deleted n s) gone given)))
 
 -- whatever packet comes
-pub handled-keeps : (q : StateName) (n : Node) (dir : Dir) (p : Packet) → AreStates n.states → IsGiven n q → Keeps (Follows (IsPacket p)) q n (handled n dir p).node
+pub handled-keeps : (q : StateName) (n : Node) (dir : Dir) (p : Packet) → AreStates n.states → IsGiven n q
+    → Keeps (Follows (IsPacket p)) q n (handled n dir p).node
 unfolding handled
 handled-keeps q n dir p are given = by (found n.states (key p dir) dir) refl
   where
     by : (o : Option State) → found n.states (key p dir) dir ≡ o → Keeps (Follows (IsPacket p)) q n (handled_by n dir p o).node
     by None e = keeps-as Alike (Follows (IsPacket p)) q n (judged n dir p).node (alike-follows (IsPacket p)) (judged-keeps q n dir p are.filed given)
-    by (Some s) e = followed-keeps q n dir p s (tracked s p dir n.clock) are.filed given (found-stands n.states (key p dir) dir s are e) (tracked-stays s p dir n.clock) refl
+    by (Some s) e = followed-keeps q n dir p s (tracked s p dir n.clock) are.filed given (found-stands n.states (key p dir) dir s are e)
+        (tracked-stays s p dir n.clock) refl

@@ -16,7 +16,8 @@ pub found-on : (hs ks : List Held) (q : StateName) (h : Held) → find (λ k. is
 found-on [] ks q h e = absurd (some_is_none h (sym e))
 found-on (x ∷ hs) ks q h e = by (is_name q x.name) (found-on hs ks q h) e
   where
-    by : (b : Bool) → (find (λ k. is_name q k.name) hs ≡ Some h → find (λ k. is_name q k.name) (hs ++ ks) ≡ Some h) → cond b (Some x) (find (λ k. is_name q k.name) hs) ≡ Some h → cond b (Some x) (find (λ k. is_name q k.name) (hs ++ ks)) ≡ Some h
+    by : (b : Bool) → (find (λ k. is_name q k.name) hs ≡ Some h → find (λ k. is_name q k.name) (hs ++ ks) ≡ Some h)
+        → cond b (Some x) (find (λ k. is_name q k.name) hs) ≡ Some h → cond b (Some x) (find (λ k. is_name q k.name) (hs ++ ks)) ≡ Some h
     by true rest f = f
     by false rest f = rest f
 

@@ -57,19 +57,23 @@ came-put w e name g came ticket f at = elim (get-set_at_cases nat_cmp_total exac
   | inr other ↦ came-same w e ticket f other.1
 ]
 
-frame-came : (w : World) (e : Event) (o : Option InFlight) (done : InFlight → World) → ((f : InFlight) → o ≡ Some f → Came w e (done f).link) → Came w e (of_frame w o done).link
+frame-came : (w : World) (e : Event) (o : Option InFlight) (done : InFlight → World)
+    → ((f : InFlight) → o ≡ Some f → Came w e (done f).link) → Came w e (of_frame w o done).link
 frame-came w e None done came = came-same w e
 frame-came w e (Some f) done came = came f refl
 
 result-came : (w : World) (e : Event) → Came w e (result w e).link
 result-came w (event.At id e) = came-same w (event.At id e)
 result-came w (event.Flush id) = came-put w (event.Flush id) w.link.next (sent_frame w id) (inr (begins-itself (sent_frame w id)))
-result-came w (event.Of ticket frame.Deliver) = frame-came w (event.Of ticket frame.Deliver) (maps.get w.link.frames ticket) _ (λ f at. came-without w (event.Of ticket frame.Deliver) ticket)
-result-came w (event.Of ticket frame.Lose) = frame-came w (event.Of ticket frame.Lose) (maps.get w.link.frames ticket) _ (λ f at. came-without w (event.Of ticket frame.Lose) ticket)
+result-came w (event.Of ticket frame.Deliver) =
+    frame-came w (event.Of ticket frame.Deliver) (maps.get w.link.frames ticket) _ (λ f at. came-without w (event.Of ticket frame.Deliver) ticket)
+result-came w (event.Of ticket frame.Lose) =
+    frame-came w (event.Of ticket frame.Lose) (maps.get w.link.frames ticket) _ (λ f at. came-without w (event.Of ticket frame.Lose) ticket)
 result-came w (event.Of ticket frame.Repeat) = frame-came w (event.Of ticket frame.Repeat) (maps.get w.link.frames ticket) _
     (λ f at. came-put w (event.Of ticket frame.Repeat) w.link.next f (inl (record { ticket = ticket; whole = f; at = at; begins = begins-itself f })))
 result-came w (event.Of ticket (frame.Cut len)) = frame-came w (event.Of ticket (frame.Cut len)) (maps.get w.link.frames ticket) _
-    (λ f at. came-put w (event.Of ticket (frame.Cut len)) ticket (cut_to f len) (inl (record { ticket = ticket; whole = f; at = at; begins = begins-cut f len })))
+    (λ f at. came-put w (event.Of ticket (frame.Cut len)) ticket (cut_to f len)
+    (inl (record { ticket = ticket; whole = f; at = at; begins = begins-cut f len })))
 result-came w (event.Restart id) = came-same w (event.Restart id)
 
 pub sent-only : EventsSendOnlySo
@@ -90,7 +94,12 @@ sent-on w (event.Restart id) f g begins sent = sent
 -- a frame of a world that an event led to, or a beginning of one
 one-back : (w : World) (e : Event) (u : World) (f : InFlight) → world_after (step w e) ≡ Some u → WasInFlight u f → WasInFlight w f ⊎ WasSentBy w e f
 one-back w e u f accepted was = elim (sent-only w e u accepted was.ticket was.whole was.at) [
-  | inl before ↦ inl (record { ticket = before.ticket; whole = before.whole; at = before.at; begins = begins-then f was.whole before.whole was.begins before.begins })
+  | inl before ↦ inl (record {
+    ticket = before.ticket;
+    whole = before.whole;
+    at = before.at;
+    begins = begins-then f was.whole before.whole was.begins before.begins;
+  })
   | inr sent ↦ inr (sent-on w e f was.whole was.begins sent)
 ]
 

@@ -9,7 +9,7 @@ use Rattle.pfl_world.specs.track.declared.state.State.{State}
 use Rattle.pfl_world.specs.table.Tables.{States}
 use Rattle.pfl_world.specs.queue.Queues.{kind_of}
 use Rattle.pfl_world.specs.desk.Nodes.{Node, IsGiven}
-use Rattle.pfl_world.specs.desk.Changes.{put_state, is_held, is_untold, freed, not_waiting, released, changed, deleted, count_freed, without_held}
+use Rattle.pfl_world.specs.desk.Changes.{put_state, is_held, is_unannounced, freed, not_waiting, released, changed, deleted, count_freed, without_held}
 use Rattle.pfl_world.proofs.ForCallers.desk.{Rest, deleted-rest}
 use Rattle.pfl_laws.proofs.Following.{Alike, Alike-itself, Alike-then, From, Comes, comes-then, comes-same, comes-put, comes-removed, Filed}
 
@@ -22,7 +22,8 @@ pub record Kept (R : State → State → Type 0) (q : StateName) (old_creator ol
 abbrev pub Keeps : (State → State → Type 0) → StateName → Node → Node → Type 0
 Keeps R q n m = Kept R q n.creator n.next_id n.states m.creator m.next_id m.states
 
-pub keeps-then : (R S T : State → State → Type 0) (q : StateName) (n m l : Node) → ((s t u : State) → R s t → S t u → T s u) → Keeps R q n m → Keeps S q m l → Keeps T q n l
+pub keeps-then : (R S T : State → State → Type 0) (q : StateName) (n m l : Node) → ((s t u : State) → R s t → S t u → T s u)
+    → Keeps R q n m → Keeps S q m l → Keeps T q n l
 keeps-then R S T q n m l on first next =
     let early = first.next in
     let late = next.next in
@@ -60,14 +61,16 @@ pub either : (R : State → State → Type 0) (q : StateName) (n : Node) (b : Bo
 either R q n true x y k l = k
 either R q n false x y k l = l
 
-pub on_some : {X : Type 0} (R : State → State → Type 0) (q : StateName) (n : Node) (o : Option X) (f : X → Node) (d : Node) → ((x : X) → o ≡ Some x → Keeps R q n (f x)) → Keeps R q n d → Keeps R q n (option_map_or f o d)
+pub on_some : {X : Type 0} (R : State → State → Type 0) (q : StateName) (n : Node) (o : Option X) (f : X → Node) (d : Node)
+    → ((x : X) → o ≡ Some x → Keeps R q n (f x)) → Keeps R q n d → Keeps R q n (option_map_or f o d)
 on_some R q n None f d k l = l
 on_some R q n (Some x) f d k l = k x refl
 
 -- ---- one place
 
 -- a state is put
-pub put-keeps : (R : State → State → Type 0) (q : StateName) (n : Node) (u : State) → ((s : State) → R s s) → (q ≡ u.name → From R n.states q u) → Keeps R q n (put_state n u)
+pub put-keeps : (R : State → State → Type 0) (q : StateName) (n : Node) (u : State) → ((s : State) → R s s)
+    → (q ≡ u.name → From R n.states q u) → Keeps R q n (put_state n u)
 put-keeps R q n u itself here = record { creator = refl; next = omega arith; comes = comes-put R n.states u q itself here }
 
 -- under another name
@@ -84,7 +87,8 @@ freed-states n name = by (is_held n name)
     by false = refl
 
 pub freed-keeps : (q : StateName) (n : Node) (name : StateName) → Keeps Alike q n (freed n name)
-freed-keeps q n name = either Alike q n (is_held n name) (count_freed (without_held n name)) n (keeps-itself Alike q n Alike-itself) (keeps-itself Alike q n Alike-itself)
+freed-keeps q n name = either Alike q n (is_held n name) (count_freed (without_held n name)) n (keeps-itself Alike q n Alike-itself)
+    (keeps-itself Alike q n Alike-itself)
 
 not_waiting-keeps : (q : StateName) (n : Node) (name : StateName) → Filed n.states → Keeps Alike q n (not_waiting n name)
 not_waiting-keeps q n name filed = on_some Alike q n (maps.get n.states name) _ n
@@ -108,7 +112,7 @@ unfolding changed
 changed-keeps R q n t itself here =
     let own = put-keeps R q n t itself (λ same. here same t.updates) in
     either R q n t.no_sync _ _ own
-    (either R q n (is_untold (kind_of n.queue t.name)) _ _
+    (either R q n (is_unannounced (kind_of n.queue t.name)) _ _
     (put-keeps R q n (record t { updates = 0 }) itself (λ same. here same 0))
     (either R q n (is_tcp t.wire.proto) _ _
     (put-keeps R q n (record t { updates = min 255 (t.updates + 1) }) itself (λ same. here same (min 255 (t.updates + 1))))

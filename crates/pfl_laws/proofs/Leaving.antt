@@ -71,7 +71,8 @@ stays_test : (n : Node) (h : Held) (b : Bool) (x y : Handled) → Stays n h x �
 stays_test n h true x y k l = k
 stays_test n h false x y k l = l
 
-stays_some : {X : Type 0} (n : Node) (h : Held) (o : Option X) (f : X → Handled) (d : Handled) → ((x : X) → Stays n h (f x)) → Stays n h d → Stays n h (option_map_or f o d)
+stays_some : {X : Type 0} (n : Node) (h : Held) (o : Option X) (f : X → Handled) (d : Handled) → ((x : X) → Stays n h (f x)) → Stays n h d
+    → Stays n h (option_map_or f o d)
 stays_some n h None f d k l = l
 stays_some n h (Some x) f d k l = k x
 
@@ -85,7 +86,8 @@ room-stays n h holds = by (pushed_out n.held)
       | inr other ↦ inl (other-holds h n (released n k.name) k.name (released-held n k.name) other holds)
     ]
 
-held-stays : (n : Node) (h : Held) (s : State) (p : Packet) (k : Node) → Holds k h ⊎ IsSomeAnd (pushed_out n.held) (λ x. x.name ≡ h.name) → Stays n h (hold k s p)
+held-stays : (n : Node) (h : Held) (s : State) (p : Packet) (k : Node) → Holds k h ⊎ IsSomeAnd (pushed_out n.held) (λ x. x.name ≡ h.name)
+    → Stays n h (hold k s p)
 held-stays n h s p k (inl holds) = inl (found-on k.held.list (record { name = s.name; packet = p; held_at = k.clock } ∷ []) h.name h holds)
 held-stays n h s p k (inr out) = inr (s.name, (refl, out))
 
@@ -114,7 +116,8 @@ judged-stays n h dir p holds = stays_test n h (verdict n.rules.list p dir).pass 
   where
     by_number : (rule : Option ℕ) → Stays n h (by_rule n dir p rule)
     by_number None = inl holds
-    by_number (Some number) = stays_some n h (rule_at n.rules.list (Some number)) (started n dir p number) _ (λ r. started-stays n h dir p number r holds) (inl holds)
+    by_number (Some number) = stays_some n h (rule_at n.rules.list (Some number)) (started n dir p number) _
+        (λ r. started-stays n h dir p number r holds) (inl holds)
 
 -- ---- a packet
 
@@ -145,12 +148,14 @@ followed-gone n dir p h s Reused filed given holds =
     elim (key_cases names_total names_exact h.name s.name) [
       | inl same ↦
           let gives = keeps-given Alike s.name n m (deleted-keeps s.name n s) given in
-          let none = nothing s.name m (judged m dir p).node (judged-keeps s.name m dir p (filed-without n s filed) gives) (removed-none n m s.name (deleted-removes n s)) in
+          let none = nothing s.name m (judged m dir p).node (judged-keeps s.name m dir p (filed-without n s filed) gives)
+          (removed-none n m s.name (deleted-removes n s)) in
           inr (inr (inr (ap (maps.get (judged m dir p).node.states) same ∙ none)))
       | inr other ↦ stays-gone n m dir p h (judged m dir p) (judged-stays m h dir p (removed-holds n m s.name h (deleted-removes n s) other holds))
     ]
 
-handled-gone : (n : Node) (dir : Dir) (p : Packet) (h : Held) → IsNode n → Holds n h → Holds (handled n dir p).node h ⊎ Gone n dir p h (handled n dir p) (asked_at n dir p)
+handled-gone : (n : Node) (dir : Dir) (p : Packet) (h : Held) → IsNode n → Holds n h → Holds (handled n dir p).node h
+    ⊎ Gone n dir p h (handled n dir p) (asked_at n dir p)
 unfolding handled
 handled-gone n dir p h is holds = by (found n.states (key p dir) dir) refl
   where
@@ -189,15 +194,18 @@ there (inl x) = inl x
 there (inr y) = inr (refl, y)
 
 -- an event at one node: there a packet stays or is let go for a reason, and at the other node it stays
-put-lets : (Lets : Node → Node → Type 0) (w : World) (id : NodeId) (m : Node) (at : NodeId) (h : Held) → (IsNode (node_at w id) → Holds (node_at w id) h → Holds m h ⊎ Lets (node_at w id) m)
-    → IsNode (node_at w at) → Holds (node_at w at) h → Holds (node_at (with_node w id m) at) h ⊎ ((id ≡ at) × Lets (node_at w at) (node_at (with_node w id m) at))
+put-lets : (Lets : Node → Node → Type 0) (w : World) (id : NodeId) (m : Node) (at : NodeId) (h : Held)
+    → (IsNode (node_at w id) → Holds (node_at w id) h → Holds m h ⊎ Lets (node_at w id) m)
+    → IsNode (node_at w at) → Holds (node_at w at) h → Holds (node_at (with_node w id m) at) h
+    ⊎ ((id ≡ at) × Lets (node_at w at) (node_at (with_node w id m) at))
 put-lets Lets w A m A h lets is holds = there (lets is holds)
 put-lets Lets w A m B h lets is holds = inl holds
 put-lets Lets w B m A h lets is holds = inl holds
 put-lets Lets w B m B h lets is holds = there (lets is holds)
 
 -- an event that lets none go
-put-stays : (w : World) (id : NodeId) (m : Node) (at : NodeId) (h : Held) → (Holds (node_at w id) h → Holds m h) → Holds (node_at w at) h → Holds (node_at (with_node w id m) at) h
+put-stays : (w : World) (id : NodeId) (m : Node) (at : NodeId) (h : Held) → (Holds (node_at w id) h → Holds m h) → Holds (node_at w at) h
+    → Holds (node_at (with_node w id m) at) h
 put-stays w A m A h stays holds = stays holds
 put-stays w A m B h stays holds = holds
 put-stays w B m A h stays holds = holds
@@ -234,8 +242,10 @@ after-lets n own.Clear h is holds = cleared-lets n h holds
 after-lets n own.BulkTurn h is holds = inl (basis-holds h n (turning.turned n) (turned-basis n) holds)
 after-lets n own.BulkRetry h is holds = inl (basis-holds h n (retried_client n) (retried-basis n) holds)
 
-turned-lets : (w : World) (e : Event) (at : NodeId) (h : Held) → IsNode (node_at w at) → Holds (node_at w at) h → Holds (turned w e at) h ⊎ LetsGo w at (node_at w at) (turned w e at) e h
-turned-lets w (event.At id e) at h is holds = put-lets (λ old new. NodeLetsGo old new e h) w id (node_after (node_at w id) e).node at h (after-lets (node_at w id) e h) is holds
+turned-lets : (w : World) (e : Event) (at : NodeId) (h : Held) → IsNode (node_at w at) → Holds (node_at w at) h → Holds (turned w e at) h
+    ⊎ LetsGo w at (node_at w at) (turned w e at) e h
+turned-lets w (event.At id e) at h is holds =
+    put-lets (λ old new. NodeLetsGo old new e h) w id (node_after (node_at w id) e).node at h (after-lets (node_at w id) e h) is holds
 turned-lets w (event.Flush id) at h is holds = let n = node_at w id in inl (put-stays w id (flushed n) at h (same-holds h n (flushed n) (flushed-held n)) holds)
 turned-lets w (event.Of ticket frame.Deliver) at h is holds = arrived-lets w (maps.get w.link.frames ticket) at h is holds
 turned-lets w (event.Of ticket frame.Lose) at h is holds = inl holds

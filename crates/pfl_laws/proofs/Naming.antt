@@ -23,14 +23,16 @@ use Rattle.pfl_laws.proofs.Stepping.{turned, IsLocal, turned-keeps, stepped-node
 given-or-next : (n : Node) (name : StateName) → IsGiven n name ⊎ ((name.creator ≡ n.creator) × (n.next_id ≤ name.id))
 given-or-next n name = by (name.creator == n.creator) refl (nat_lt name.id n.next_id) refl
   where
-    by : (own : Bool) → (name.creator == n.creator) ≡ own → (low : Bool) → nat_lt name.id n.next_id ≡ low → IsGiven n name ⊎ ((name.creator ≡ n.creator) × (n.next_id ≤ name.id))
+    by : (own : Bool) → (name.creator == n.creator) ≡ own → (low : Bool) → nat_lt name.id n.next_id ≡ low
+        → IsGiven n name ⊎ ((name.creator ≡ n.creator) × (n.next_id ≤ name.id))
     by false e low l = inl (λ same. absurd (grind (arith, nat_tests)))
     by true e true l = inl (λ same. grind (arith, nat_tests))
     by true e false l = inr (grind (arith, nat_tests), grind (arith, nat_tests))
 
 -- where a state is new, its name was not given before
 local-next : (w : World) (e : Event) (at : NodeId) (m : Node) (name : StateName) (s : State) → IsLocal e → IsNode (node_at w at) → turned w e at ≡ m
-    → maps.get (node_at w at).states name ≡ None → maps.get m.states name ≡ Some s → (name.creator ≡ (node_at w at).creator) × ((node_at w at).next_id ≤ name.id)
+    → maps.get (node_at w at).states name ≡ None → maps.get m.states name ≡ Some s → (name.creator ≡ (node_at w at).creator)
+    × ((node_at w at).next_id ≤ name.id)
 local-next w e at m name s local is turns none some = elim (given-or-next (node_at w at) name) [
   | inl given ↦
       let keeps = turned-keeps name w e at local is.parts.states given in
@@ -65,9 +67,12 @@ turned-named : (w : World) (e : Event) (at : NodeId) (m : Node) (name : StateNam
 turned-named w (event.At id e) at m name s is is_m turns none some = local-names w (event.At id e) at m name s tt is is_m turns none some
 turned-named w (event.Flush id) at m name s is is_m turns none some = local-names w (event.Flush id) at m name s tt is is_m turns none some
 turned-named w (event.Of ticket frame.Deliver) at m name s is is_m turns none some = inr tt
-turned-named w (event.Of ticket frame.Lose) at m name s is is_m turns none some = local-names w (event.Of ticket frame.Lose) at m name s tt is is_m turns none some
-turned-named w (event.Of ticket frame.Repeat) at m name s is is_m turns none some = local-names w (event.Of ticket frame.Repeat) at m name s tt is is_m turns none some
-turned-named w (event.Of ticket (frame.Cut len)) at m name s is is_m turns none some = local-names w (event.Of ticket (frame.Cut len)) at m name s tt is is_m turns none some
+turned-named w (event.Of ticket frame.Lose) at m name s is is_m turns none some =
+    local-names w (event.Of ticket frame.Lose) at m name s tt is is_m turns none some
+turned-named w (event.Of ticket frame.Repeat) at m name s is is_m turns none some =
+    local-names w (event.Of ticket frame.Repeat) at m name s tt is is_m turns none some
+turned-named w (event.Of ticket (frame.Cut len)) at m name s is is_m turns none some =
+    local-names w (event.Of ticket (frame.Cut len)) at m name s tt is is_m turns none some
 turned-named w (event.Restart id) at m name s is is_m turns none some =
     absurd (anew-none w id at w.next_boot name s none (ap (λ (k : Node). maps.get k.states name) turns ∙ some))
 

@@ -16,7 +16,8 @@ use Rattle.pfl_world.specs.node.Events.{restarted}
 use Rattle.pfl_world.specs.Events.{step}
 use Rattle.pfl_world.specs.Runs.{run, world_after}
 use Rattle.pfl_world.specs.Worlds.{World, node_at, with_node}
-use Rattle.pfl_laws.specs.Laws.{AreBoots, OpeningsAreBoots, LaterOpeningsAreBoots, EventsKeepBoots, NoNameIsGivenTwice, NoTicketIsGivenTwice, NoBootIsGivenTwice}
+use Rattle.pfl_laws.specs.Laws.{AreBoots, OpeningsAreBoots, LaterOpeningsAreBoots, EventsKeepBoots, NoNameIsGivenTwice, NoTicketIsGivenTwice}
+use Rattle.pfl_laws.specs.Laws.{NoBootIsGivenTwice}
 use Rattle.pfl_laws.proofs.Delivering.{Ids, ids, received, received-ids}
 use Rattle.pfl_laws.proofs.Restarting.{restarted-creator}
 use Rattle.pfl_laws.proofs.Running.{on-run, at-end}
@@ -123,7 +124,8 @@ turned-names w (event.Of ticket frame.Repeat) at are = local-names w (event.Of t
 turned-names w (event.Of ticket (frame.Cut len)) at are = local-names w (event.Of ticket (frame.Cut len)) at tt are
 turned-names w (event.Restart id) at are = anew-names w id at
 
-stepped-names : (w : World) (e : Event) (v : World) (at : NodeId) → world_after (step w e) ≡ Some v → AreStates (node_at w at).states → Names w e at (node_at v at)
+stepped-names : (w : World) (e : Event) (v : World) (at : NodeId) → world_after (step w e) ≡ Some v → AreStates (node_at w at).states
+    → Names w e at (node_at v at)
 stepped-names w e v at accepted are = subst (Names w e at) (stepped-node w e v at accepted) (turned-names w e at are)
 
 -- a restart takes a boot number
@@ -174,12 +176,14 @@ record Spent (w : World) (name : StateName) : Type 0 where
   a : IsGiven w.a name
   b : IsGiven w.b name
 
-given-by : (w : World) (e : Event) (v : World) (at : NodeId) (name : StateName) (m : Node) → name.creator < w.next_boot → IsGiven (node_at w at) name → Names w e at m → IsGiven m name
+given-by : (w : World) (e : Event) (v : World) (at : NodeId) (name : StateName) (m : Node) → name.creator < w.next_boot
+    → IsGiven (node_at w at) name → Names w e at m → IsGiven m name
 given-by w e v at name m past given (inl same) =
     λ own. let low = given (own ∙ same.0) in let up = same.1 in omega arith
 given-by w e v at name m past given (inr anew) = λ own. let new = anew.0 in absurd (omega arith)
 
-spent-on : (w : World) (e : Event) (v : World) (name : StateName) → AreStates w.a.states → AreStates w.b.states → Spent w name → world_after (step w e) ≡ Some v → Spent v name
+spent-on : (w : World) (e : Event) (v : World) (name : StateName) → AreStates w.a.states → AreStates w.b.states → Spent w name
+    → world_after (step w e) ≡ Some v → Spent v name
 spent-on w e v name a b spent accepted =
     let on = (goes-on w e v accepted).boot in
     let low = spent.past in

@@ -18,7 +18,8 @@ use Rattle.pfl_world.specs.wire.declared.message.Message.TheVariants as message
 use Rattle.pfl_world.specs.wire.declared.message.StateRecord.{StateRecord}
 use Rattle.pfl_world.specs.wire.declared.message.UpdateRecord.{UpdateRecord}
 use Rattle.pfl_world.specs.wire.Frames.{Frame, records_of}
-use Rattle.pfl_world.specs.wire.Fields.{Read, wanted, byte_at, number_at, pads_at, name_at, scale_of, peer_at, address_at, end_at, ends_at, class_at, is_v4_of, dir_of, ack_wanted_of, status_of, rule_of}
+use Rattle.pfl_world.specs.wire.Fields.{Read, wanted, byte_at, number_at, pads_at, name_at, scale_of, peer_at, address_at, end_at, ends_at, class_at}
+use Rattle.pfl_world.specs.wire.Fields.{is_v4_of, dir_of, ack_wanted_of, status_of, rule_of}
 use Rattle.pfl_world.specs.wire.Records.{key_with, keys_at, state_at, update_at, clear_at, bulk_at, read_as, record_at}
 use Rattle.pfl_world.specs.wire.Reading.{records_at, subheader_at, group_at, groups_at, header_at, reading}
 use Rattle.pfl_world.proofs.ForCallers.wire.{bind_then, wanted_ok, ok_is, le_from, scale_back, proto_back, one_family}
@@ -147,7 +148,8 @@ state-is bytes x e =
     (record { src = peer-is keys.1 src src_is; dst = peer-is src.1 dst dst_is; keys = keys-are proto.0 v4 flags.1 keys keys_is })))))))))))))))
 
 -- what is read, as a record
-read_as-is : {X : Type 0} (make : X → Message) (r : Read X) (x : Message × List ℕ) → ((y : X × List ℕ) → r ≡ Ok y → IsRecord (make y.0)) → read_as make r ≡ Ok x → IsRecord x.0
+read_as-is : {X : Type 0} (make : X → Message) (r : Read X) (x : Message × List ℕ) → ((y : X × List ℕ) → r ≡ Ok y → IsRecord (make y.0))
+    → read_as make r ≡ Ok x → IsRecord x.0
 read_as-is make (Ok y) x is e = subst (λ (z : Message × List ℕ). IsRecord z.0) (ok_is (make y.0, y.1) x e) (is y refl)
 read_as-is make (Err f) x is e = absurd cc
 

@@ -22,8 +22,11 @@ use Rattle.pfl_world.specs.queue.declared.Kind.TheVariants.{InsertAck, Update}
 use Rattle.pfl_world.specs.queue.Queues.{kind_of}
 use Rattle.pfl_world.specs.bulk.Bulk.{no_name}
 use Rattle.pfl_world.specs.desk.Nodes.{Node, timeout_at}
-use Rattle.pfl_world.specs.desk.Changes.{put_state, push_if, mark, count_bad, is_held, lost, count_lost, without_held, released, changed, forgotten, count_stale, ask}
-use Rattle.pfl_world.specs.receive.Receiving.{taken, insert_taken, can_import, imported, merge_taken, merged_into, bulk_taken, state_answered, is_partly_told, request_taken, ack_taken, delete_taken, status_taken, is_known, cleared_names, of_state, of_update}
+use Rattle.pfl_world.specs.desk.Changes.{put_state, push_if, mark, count_bad, is_held, lost, count_lost, without_held, released, changed, forgotten}
+use Rattle.pfl_world.specs.desk.Changes.{count_stale, ask}
+use Rattle.pfl_world.specs.receive.Receiving.{taken, insert_taken, can_import, imported, merge_taken, merged_into, bulk_taken, state_answered}
+use Rattle.pfl_world.specs.receive.Receiving.{is_partly_announced, request_taken, ack_taken, delete_taken, status_taken, is_known, cleared_names}
+use Rattle.pfl_world.specs.receive.Receiving.{of_state, of_update}
 use Rattle.pfl_laws.specs.Laws.{HasRisen, LevelsRise, RecordsLowerNoLevel}
 use Rattle.pfl_laws.proofs.Following.{Alike, Alike-then, From, Comes, comes-then, comes-removed, inner, Filed}
 use Rattle.pfl_laws.proofs.Keeping.{Keeps, keeps-as, put-keeps, changed-keeps, released-keeps}
@@ -61,7 +64,8 @@ either_by : (n : Node) (b : Bool) (x y : Node) → (b ≡ true → LevelsRise n 
 either_by n true x y k l = k refl
 either_by n false x y k l = l refl
 
-on_some : {X : Type 0} (n : Node) (o : Option X) (f : X → Node) (d : Node) → ((x : X) → o ≡ Some x → LevelsRise n (f x)) → (o ≡ None → LevelsRise n d) → LevelsRise n (option_map_or f o d)
+on_some : {X : Type 0} (n : Node) (o : Option X) (f : X → Node) (d : Node) → ((x : X) → o ≡ Some x → LevelsRise n (f x))
+    → (o ≡ None → LevelsRise n d) → LevelsRise n (option_map_or f o d)
 on_some n None f d k l = l refl
 on_some n (Some x) f d k l = k x refl
 
@@ -122,7 +126,8 @@ choose : (s : State) (b : Bool) (x y : State) → HasRisen s x → HasRisen s y 
 choose s true x y k l = k
 choose s false x y k l = l
 
-merged-risen : (s : State) (r : Received) (seconds now updates : ℕ) → HasRisen s (record (merged s r seconds now).state { ack_wanted = false; updates = updates })
+merged-risen : (s : State) (r : Received) (seconds now updates : ℕ)
+    → HasRisen s (record (merged s r seconds now).state { ack_wanted = false; updates = updates })
 merged-risen s r seconds now updates =
     let up : HasRisen s (merged s r seconds now).state =
     choose s (not (stale_src s r && stale_dst s r)) _ _
@@ -165,7 +170,8 @@ merge-up n s r at q a t before later =
     let m = lost n s.name in
     let same = lost-states n s.name in
     from-risen q m (merge_taken n s r)
-    (merged-keeps q m s (merged s r seconds n.clock) (ap (λ (l : States). maps.get l s.name) same ∙ at) (merged-name s r seconds n.clock) (merged-risen s r seconds n.clock))
+    (merged-keeps q m s (merged s r seconds n.clock) (ap (λ (l : States). maps.get l s.name) same ∙ at) (merged-name s r seconds n.clock)
+    (merged-risen s r seconds n.clock))
     a t (ap (λ (l : States). maps.get l q) same ∙ before) later
 
 -- ---- deletions
@@ -198,11 +204,12 @@ request-up n name =
     either n (is_name no_name name) (bulk_taken n) (option_map_or (state_answered n) (maps.get n.states name) (count_bad n)) (same-up n (bulk_taken n) refl)
     (on_some n (maps.get n.states name) (state_answered n) (count_bad n) (λ s at.
     let told = push_if true (mark n s.name Update) in
-    either n (not s.no_sync && is_partly_told (kind_of n.queue s.name)) told n (same-up n told refl) (same-up n n refl))
+    either n (not s.no_sync && is_partly_announced (kind_of n.queue s.name)) told n (same-up n told refl) (same-up n n refl))
     (λ e. same-up n (count_bad n) refl))
 
 delete-up : (n : Node) (name : StateName) → LevelsRise n (delete_taken n name)
-delete-up n name = either n (is_known n name) (forgotten n name) (count_bad n) (comes-up n (forgotten n name) (λ q. forgotten-comes q n name)) (same-up n (count_bad n) refl)
+delete-up n name = either n (is_known n name) (forgotten n name) (count_bad n)
+    (comes-up n (forgotten n name) (λ q. forgotten-comes q n name)) (same-up n (count_bad n) refl)
 
 pub levels-record : RecordsLowerNoLevel
 unfolding taken
@@ -211,7 +218,8 @@ levels-record n b (message.Clear creator bound) are =
 levels-record n b (message.Insert r) are = insert-up n b r r.ack_wanted
 levels-record n b (message.InsertAck name) are =
     on_some n (maps.get n.states name) (ack_taken n) n
-    (λ s at. either n s.ack_wanted (released n s.name) n (alike-up n (released n s.name) (λ q. released-keeps q n s.name are.filed)) (same-up n n refl)) (λ e. same-up n n refl)
+    (λ s at. either n s.ack_wanted (released n s.name) n (alike-up n (released n s.name) (λ q. released-keeps q n s.name are.filed))
+    (same-up n n refl)) (λ e. same-up n n refl)
 levels-record n b (message.Update r) are =
     on_some n (maps.get n.states r.name) (λ s. merge_taken n s (of_state r)) (insert_taken n b r false)
     (λ s at. merge-up n s (of_state r) (own n r.name s are.filed at)) (λ e. insert-up n b r false)

@@ -45,7 +45,8 @@ released-apart n name are = by (maps.get m.states name) refl
 names-keep : (q : StateName) (names : List StateName) (n : Node) → AreStates n.states → Keeps Alike q n (fold released n names)
 names-keep q [] n are = keeps-itself Alike q n Alike-itself
 names-keep q (name ∷ names) n are =
-    alike-then q n (released n name) (fold released (released n name) names) (released-keeps q n name are.filed) (names-keep q names (released n name) (released-apart n name are))
+    alike-then q n (released n name) (fold released (released n name) names) (released-keeps q n name are.filed)
+    (names-keep q names (released n name) (released-apart n name are))
 
 names-apart : (names : List StateName) (n : Node) → AreStates n.states → AreStates (fold released n names).states
 names-apart [] n are = are
@@ -83,7 +84,8 @@ not_among h (x ∷ hs) p apart among = by (p x) (not_among h hs p apart.1) among
     by false none rest = none rest
 
 -- what is held has its name alone, so it is the one that passes
-passes : (h : Held) (hs : List Held) (p : Held → Bool) → IsDistinct is_name (map (λ k. k.name) hs) → find (λ k. is_name h.name k.name) hs ≡ Some h → IsAmong h (filter p hs) → p h ≡ true
+passes : (h : Held) (hs : List Held) (p : Held → Bool) → IsDistinct is_name (map (λ k. k.name) hs)
+    → find (λ k. is_name h.name k.name) hs ≡ Some h → IsAmong h (filter p hs) → p h ≡ true
 passes h [] p once found among = absurd among
 passes h (x ∷ hs) p once found among =
     by (is_name h.name x.name) refl (passes h hs p (IsDistinct-tail is_name x.name (map (λ k. k.name) hs) once)) found
@@ -91,7 +93,8 @@ passes h (x ∷ hs) p once found among =
     first : (b : Bool) → p x ≡ b → x ≡ h → IsAmong h (cond b (x ∷ filter p hs) (filter p hs)) → p h ≡ true
     first true e same rest = ap p (sym same) ∙ e
     first false e same rest =
-        let apart = subst (λ (k : Held). AllByRecursion (λ q. is_name k.name q ≡ false) (map (λ k. k.name) hs)) same (IsDistinct-head is_name x.name (map (λ k. k.name) hs) once) in
+        let apart = subst (λ (k : Held). AllByRecursion (λ q. is_name k.name q ≡ false) (map (λ k. k.name) hs)) same
+        (IsDistinct-head is_name x.name (map (λ k. k.name) hs) once) in
         absurd (not_among h hs p apart rest)
 
     later : (b : Bool) → is_name h.name x.name ≡ false → IsAmong h (cond b (x ∷ filter p hs) (filter p hs)) → IsAmong h (filter p hs)

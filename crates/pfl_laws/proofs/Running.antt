@@ -22,7 +22,8 @@ use Rattle.pfl_world.specs.node.Events.{restarted}
 use Rattle.pfl_world.specs.Events.{step, points_at}
 use Rattle.pfl_world.specs.Runs.{run, world_after}
 use Rattle.pfl_world.specs.Worlds.{World, IsWorld, node_at, with_node}
-use Rattle.pfl_laws.specs.Laws.{IsEvent, HasRisen, HasState, StandsThrough, StandsAlong, LevelsNeverFall, LevelsNeverFallAlong, StatesStayApart, StatesStayApartAlong}
+use Rattle.pfl_laws.specs.Laws.{IsEvent, HasRisen, HasState, StandsThrough, StandsAlong, LevelsNeverFall, LevelsNeverFallAlong, StatesStayApart}
+use Rattle.pfl_laws.specs.Laws.{StatesStayApartAlong}
 use Rattle.pfl_world.specs.Delivering.{frame_points, arrival_points}
 use Rattle.pfl_laws.proofs.Following.{Follows, inner}
 use Rattle.pfl_laws.proofs.Keeping.{Keeps, keeps-given}
@@ -60,7 +61,8 @@ same_state n q s t before later = itself s t (inner s t (sym before ∙ later))
 
 -- ---- what a node does for itself
 
-kept-rises : (C : Type 0) (q : StateName) (n m : Node) → Keeps (Follows C) q n m → Stood q n → (s t : State) → maps.get n.states q ≡ Some s → maps.get m.states q ≡ Some t → HasRisen s t
+kept-rises : (C : Type 0) (q : StateName) (n m : Node) → Keeps (Follows C) q n m → Stood q n → (s t : State) → maps.get n.states q ≡ Some s
+    → maps.get m.states q ≡ Some t → HasRisen s t
 kept-rises C q n m keeps stood s t before later =
     let from = keeps.comes t later in
     let same : from.state ≡ s = inner from.state s (sym from.at ∙ before) in
@@ -89,18 +91,21 @@ local-stood w e at q local fits stood =
 
 unmapped : (q : StateName) (ns : List Node) → All (HasState q) (map (λ n. n) ns) → All (HasState q) ns
 unmapped q [] all = All-nil (HasState q)
-unmapped q (n ∷ ns) all = All-cons (HasState q) n ns (All-head (HasState q) n (map (λ n. n) ns) all) (unmapped q ns (All-tail (HasState q) n (map (λ n. n) ns) all))
+unmapped q (n ∷ ns) all = All-cons (HasState q) n ns (All-head (HasState q) n (map (λ n. n) ns) all)
+    (unmapped q ns (All-tail (HasState q) n (map (λ n. n) ns) all))
 
 -- at the receiver the points are the node after each record
 arrival-rises : (w : World) (to at : NodeId) (q : StateName) (r : Result Frame BadFrame) → AreStates (node_at w at).states
     → All (HasState q) (map (λ n. node_at (with_node w to n) at) (frame_points (node_at w to) r))
-    → (s t : State) → maps.get (node_at w at).states q ≡ Some s → maps.get (node_at (with_node w to (received (node_at w to) r)) at).states q ≡ Some t → HasRisen s t
+    → (s t : State) → maps.get (node_at w at).states q ≡ Some s
+    → maps.get (node_at (with_node w to (received (node_at w to) r)) at).states q ≡ Some t → HasRisen s t
 arrival-rises w A A q r are stand s t before later = received-rises q w.a r are (unmapped q (frame_points w.a r) stand) s t before later
 arrival-rises w A B q r are stand s t before later = same_state w.b q s t before later
 arrival-rises w B A q r are stand s t before later = same_state w.a q s t before later
 arrival-rises w B B q r are stand s t before later = received-rises q w.b r are (unmapped q (frame_points w.b r) stand) s t before later
 
-arrived-rises : (w : World) (o : Option InFlight) (at : NodeId) (q : StateName) → AreStates (node_at w at).states → All (HasState q) (option_map_or (arrival_points w at) o [])
+arrived-rises : (w : World) (o : Option InFlight) (at : NodeId) (q : StateName) → AreStates (node_at w at).states
+    → All (HasState q) (option_map_or (arrival_points w at) o [])
     → (s t : State) → maps.get (node_at w at).states q ≡ Some s → maps.get (arrived w at o).states q ≡ Some t → HasRisen s t
 arrived-rises w None at q are stand s t before later = same_state (node_at w at) q s t before later
 arrived-rises w (Some f) at q are stand s t before later = arrival-rises w f.to at q (reading f.bytes) are stand s t before later
@@ -114,7 +119,8 @@ received-stood q n f stood =
       given = subst (λ (i : Ids). q.creator ≡ i.0 → q.id < i.1) (sym same) stood.given;
     }
 
-put-stood : (q : StateName) (w : World) (id : NodeId) (m : Node) (at : NodeId) → (Stood q (node_at w id) → Stood q m) → Stood q (node_at w at) → Stood q (node_at (with_node w id m) at)
+put-stood : (q : StateName) (w : World) (id : NodeId) (m : Node) (at : NodeId) → (Stood q (node_at w id) → Stood q m)
+    → Stood q (node_at w at) → Stood q (node_at (with_node w id m) at)
 put-stood q w A m A on stood = on stood
 put-stood q w A m B on stood = stood
 put-stood q w B m A on stood = stood
@@ -127,7 +133,8 @@ arrived-stood q w (Some f) at stood = put-stood q w f.to (received (node_at w f.
 -- ---- a restart
 
 anew-rises : (w : World) (id at : NodeId) (boot : ℕ) (q : StateName)
-    → (s t : State) → maps.get (node_at w at).states q ≡ Some s → maps.get (node_at (with_node w id (restarted (node_at w id) boot)) at).states q ≡ Some t → HasRisen s t
+    → (s t : State) → maps.get (node_at w at).states q ≡ Some s
+    → maps.get (node_at (with_node w id (restarted (node_at w id) boot)) at).states q ≡ Some t → HasRisen s t
 anew-rises w A A boot q s t before later = absurd (some_is_none t (sym later ∙ restarted-none w.a boot q))
 anew-rises w A B boot q s t before later = same_state w.b q s t before later
 anew-rises w B A boot q s t before later = same_state w.a q s t before later
@@ -162,12 +169,14 @@ turned-stood w (event.Of ticket frame.Repeat) at q fits has = local-stood w (eve
 turned-stood w (event.Of ticket (frame.Cut len)) at q fits has = local-stood w (event.Of ticket (frame.Cut len)) at q tt fits
 turned-stood w (event.Restart id) at q fits has = anew-stood w id at w.next_boot q has
 
-stepped-rises : (w : World) (e : Event) (v : World) (at : NodeId) (q : StateName) → world_after (step w e) ≡ Some v → Stood q (node_at w at) → StandsThrough w e at q
+stepped-rises : (w : World) (e : Event) (v : World) (at : NodeId) (q : StateName) → world_after (step w e) ≡ Some v
+    → Stood q (node_at w at) → StandsThrough w e at q
     → (s t : State) → maps.get (node_at w at).states q ≡ Some s → maps.get (node_at v at).states q ≡ Some t → HasRisen s t
 stepped-rises w e v at q accepted stood stands s t before later =
     turned-rises w e at q stood stands s t before (ap (λ (n : Node). maps.get n.states q) (stepped-node w e v at accepted) ∙ later)
 
-stepped-stood : (w : World) (e : Event) (v : World) (at : NodeId) (q : StateName) → world_after (step w e) ≡ Some v → IsEvent e → HasState q (node_at v at) → Stood q (node_at w at) → Stood q (node_at v at)
+stepped-stood : (w : World) (e : Event) (v : World) (at : NodeId) (q : StateName) → world_after (step w e) ≡ Some v → IsEvent e
+    → HasState q (node_at v at) → Stood q (node_at w at) → Stood q (node_at v at)
 stepped-stood w e v at q accepted fits has stood =
     let same = stepped-node w e v at accepted in
     subst (Stood q) same (turned-stood w e at q fits (subst (HasState q) (sym same) has) stood)
@@ -186,7 +195,8 @@ run-on w v e es is = ap (λ (at : Option World). fold (λ at e. option_and_then 
 -- nothing follows an event that is refused
 run-off : (w v : World) (e : Event) (es : List Event) → world_after (step w e) ≡ None → run w (e ∷ es) ≡ Some v → ⊥
 unfolding run
-run-off w v e es is ran = absurd (some_is_none v (sym ran ∙ (ap (λ (at : Option World). fold (λ at e. option_and_then (λ u. world_after (step u e)) at) at es) is ∙ stays es)))
+run-off w v e es is ran = absurd
+    (some_is_none v (sym ran ∙ (ap (λ (at : Option World). fold (λ at e. option_and_then (λ u. world_after (step u e)) at) at es) is ∙ stays es)))
   where
     stays : (es : List Event) → fold (λ at e. option_and_then (λ u. world_after (step u e)) at) None es ≡ None
     stays [] = refl
@@ -197,7 +207,8 @@ unfolding run
 run-none w v e = inner w v e
 
 -- by what its first event did, a run is no run, or goes on
-pub on-run : (P : Type 0) (w v : World) (e : Event) (es : List Event) → run w (e ∷ es) ≡ Some v → ((u : World) → world_after (step w e) ≡ Some u → run u es ≡ Some v → P) → P
+pub on-run : (P : Type 0) (w v : World) (e : Event) (es : List Event) → run w (e ∷ es) ≡ Some v
+    → ((u : World) → world_after (step w e) ≡ Some u → run u es ≡ Some v → P) → P
 on-run P w v e es ran next = by (world_after (step w e)) refl
   where
     by : (o : Option World) → world_after (step w e) ≡ o → P
@@ -229,7 +240,8 @@ risen-then s t u first next =
     let d = next.dst in
     record { src = omega arith; dst = omega arith }
 
-along-rises : (es : List Event) (w v : World) (id : NodeId) (q : StateName) → All IsEvent es → run w es ≡ Some v → Stood q (node_at w id) → StandsAlong w es id q
+along-rises : (es : List Event) (w v : World) (id : NodeId) (q : StateName) → All IsEvent es → run w es ≡ Some v → Stood q (node_at w id)
+    → StandsAlong w es id q
     → (s t : State) → maps.get (node_at w id).states q ≡ Some s → maps.get (node_at v id).states q ≡ Some t → HasRisen s t
 along-rises [] w v id q fit ran stood stands s t before later =
     same_state (node_at w id) q s t before (ap (λ (u : World). maps.get (node_at u id).states q) (at-end w v ran) ∙ later)

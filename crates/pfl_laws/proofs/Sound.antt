@@ -57,7 +57,8 @@ use Rattle.pfl_laws.proofs.Keeping.{deleted-keeps}
 use Rattle.pfl_laws.proofs.Handling.{filed-without, accepted-keeps}
 use Rattle.pfl_laws.proofs.Flushing.{entry-apart, flushed-keeps, flushed-apart}
 use Rattle.pfl_laws.proofs.Releasing.{released_due-keeps, released_due-apart, released_due-tied}
-use Rattle.pfl_laws.proofs.Clearing.{purged-keeps, purged-apart, purged-tied, killed-keeps, killed-apart, killed-tied, cleared-keeps, cleared-apart, cleared-tied}
+use Rattle.pfl_laws.proofs.Clearing.{purged-keeps, purged-apart, purged-tied, killed-keeps, killed-apart, killed-tied, cleared-keeps, cleared-apart}
+use Rattle.pfl_laws.proofs.Clearing.{cleared-tied}
 use Rattle.pfl_laws.proofs.Asking.{basis, turned-basis, retried-basis, basis-keeps, basis-apart, basis-tied}
 use Rattle.pfl_laws.proofs.Delivering.{received, received-apart, received-given, received-tied}
 use Rattle.pfl_laws.proofs.Restarting.{restarted-apart, restarted-given, restarted-tied}
@@ -72,7 +73,8 @@ pub record Sound (n : Node) : Type 0 where
   pub given : AreGiven n
   pub tied : IsTied n
 
-followed-sound : (n : Node) (dir : Dir) (p : Packet) (s : State) (x : Tracked) → Sound n → maps.get n.states s.name ≡ Some s → Stays s x → tracked s p dir n.clock ≡ x
+followed-sound : (n : Node) (dir : Dir) (p : Packet) (s : State) (x : Tracked) → Sound n → maps.get n.states s.name ≡ Some s → Stays s x
+    → tracked s p dir n.clock ≡ x
     → AreGiven (followed n dir p s x).node × IsTied (followed n dir p s x).node
 followed-sound n dir p s (Moved t) is at stays e =
     (given-keeps (Follows (IsPacket p)) n (accepted n t).node (λ q. accepted-keeps q n dir p s t at stays.name e) is.given, accepted-tied n t is.tied)
@@ -91,7 +93,8 @@ handled-sound n dir p is =
   where
     by : (o : Option State) → found n.states (key p dir) dir ≡ o → AreGiven (handled_by n dir p o).node × IsTied (handled_by n dir p o).node
     by None e = (judged-given n dir p is.states.filed is.given, judged-tied n dir p is.states.filed is.given is.tied)
-    by (Some s) e = followed-sound n dir p s (tracked s p dir n.clock) is (found-stands n.states (key p dir) dir s is.states e) (tracked-stays s p dir n.clock) refl
+    by (Some s) e = followed-sound n dir p s (tracked s p dir n.clock) is (found-stands n.states (key p dir) dir s is.states e)
+        (tracked-stays s p dir n.clock) refl
 
 -- an entry that was sent clears a count of updates
 entry-tied : (n : Node) (e : Entry) → Filed n.states → IsTied n → IsTied (update_count_cleared n e)
@@ -210,7 +213,8 @@ begins w id is tied =
 pub tied-step : EventsKeepTied
 tied-step w e v is tied accepted id = (stepped-sound w e v id accepted (begins w id is (tied id))).tied
 
-all : (id : NodeId) (at : Option World) (es : List Event) → IfSome at (λ v. Sound (node_at v id)) → IfSome (fold (λ at e. option_and_then (λ v. world_after (step v e)) at) at es) (λ v. Sound (node_at v id))
+all : (id : NodeId) (at : Option World) (es : List Event) → IfSome at (λ v. Sound (node_at v id))
+    → IfSome (fold (λ at e. option_and_then (λ v. world_after (step v e)) at) at es) (λ v. Sound (node_at v id))
 all id at [] sound = sound
 all id None (e ∷ es) sound = all id None es tt
 all id (Some v) (e ∷ es) sound = all id (world_after (step v e)) es (by (world_after (step v e)) refl)
@@ -222,7 +226,8 @@ all id (Some v) (e ∷ es) sound = all id (world_after (step v e)) es (by (world
 pub tied-along : EventsKeepTiedAlong
 unfolding run
 tied-along w es v is tied ran id =
-    let last : Sound (node_at v id) = subst (λ (at : Option World). IfSome at (λ u. Sound (node_at u id))) ran (all id (Some w) es (begins w id is (tied id))) in
+    let last : Sound (node_at v id) =
+    subst (λ (at : Option World). IfSome at (λ u. Sound (node_at u id))) ran (all id (Some w) es (begins w id is (tied id))) in
     last.tied
 
 tied-fresh : (l : Limits) (a b : Rules) (next next_boot : ℕ) → AreTied (opening_world l a b next next_boot)

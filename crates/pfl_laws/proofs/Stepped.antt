@@ -45,7 +45,8 @@ of_frame w (Some f) done = done f
 abbrev pub result : World → Event → World
 result w (event.At id e) = with_node w id (node_after (node_at w id) e).node
 result w (event.Flush id) = with_link (with_node w id (flushed (node_at w id))) (sent w.link (sent_frame w id))
-result w (event.Of ticket frame.Deliver) = of_frame w (maps.get w.link.frames ticket) (λ f. with_node (without_ticket w ticket) f.to (received (node_at w f.to) (reading f.bytes)))
+result w (event.Of ticket frame.Deliver) =
+    of_frame w (maps.get w.link.frames ticket) (λ f. with_node (without_ticket w ticket) f.to (received (node_at w f.to) (reading f.bytes)))
 result w (event.Of ticket frame.Lose) = of_frame w (maps.get w.link.frames ticket) (λ f. with_link w (without_frame w.link ticket))
 result w (event.Of ticket frame.Repeat) = of_frame w (maps.get w.link.frames ticket) (λ f. with_link w (sent w.link f))
 result w (event.Of ticket (frame.Cut len)) = of_frame w (maps.get w.link.frames ticket) (λ f. with_link w (with_frame w.link ticket (cut_to f len)))
@@ -56,7 +57,10 @@ read-world : (w : World) (ticket : ℕ) (to : NodeId) (r : Result Frame BadFrame
 read-world w ticket to (Ok f) v e =
     let n = node_at w to in
     answered-world (refused_by (full_tests (folds (λ k r. taken k (same_rules n f) r) n (records_of f))))
-    (record { world = with_node (without_ticket w ticket) to (fold (λ k r. taken k (same_rules n f) r) n (records_of f)); outcome = outcome.Taken (length (records_of f)) }) v e
+    (record {
+      world = with_node (without_ticket w ticket) to (fold (λ k r. taken k (same_rules n f) r) n (records_of f));
+      outcome = outcome.Taken (length (records_of f));
+    }) v e
 read-world w ticket to (Err why) v e =
     let m = count_broken (node_at w to) in
     answered-world (refused_by (full_tests (m ∷ []))) (record { world = with_node (without_ticket w ticket) to m; outcome = outcome.Broken why }) v e
@@ -68,7 +72,8 @@ arrived-world w ticket None v e = absurd (some_is_none v (sym e))
 arrived-world w ticket (Some f) v e = read-world w ticket f.to (reading f.bytes) v e
 
 frame-world : (w : World) (frame : Option InFlight) (o : Option Refusal) (l : InFlight → Link) (out : InFlight → Outcome) (v : World)
-    → world_after (option_map_or (λ f. unless_refused o (record { world = with_link w (l f); outcome = out f })) frame (Err NoSuchFrame)) ≡ Some v → of_frame w frame (λ f. with_link w (l f)) ≡ v
+    → world_after (option_map_or (λ f. unless_refused o (record { world = with_link w (l f); outcome = out f })) frame (Err NoSuchFrame))
+    ≡ Some v → of_frame w frame (λ f. with_link w (l f)) ≡ v
 frame-world w None o l out v e = absurd (some_is_none v (sym e))
 frame-world w (Some f) o l out v e = answered-world o (record { world = with_link w (l f); outcome = out f }) v e
 
@@ -77,7 +82,10 @@ unfolding step flush_step deliver_step lose_step repeat_step cut_step restart_st
 stepped-world w (event.At id e) v is = own-world w id (node_refusal (node_at w id) e) (node_after (node_at w id) e) v is
 stepped-world w (event.Flush id) v e =
     answered-world (flush_refusal w id)
-    (record { world = with_link (with_node w id (flushed (node_at w id))) (sent w.link (sent_frame w id)); outcome = outcome.Sent w.link.next (length (sent_frame w id).bytes) }) v e
+    (record {
+      world = with_link (with_node w id (flushed (node_at w id))) (sent w.link (sent_frame w id));
+      outcome = outcome.Sent w.link.next (length (sent_frame w id).bytes);
+    }) v e
 stepped-world w (event.Of ticket frame.Deliver) v e = arrived-world w ticket (maps.get w.link.frames ticket) v e
 stepped-world w (event.Of ticket frame.Lose) v e = frame-world w (maps.get w.link.frames ticket) None (λ f. without_frame w.link ticket) (λ f. outcome.Lost) v e
 stepped-world w (event.Of ticket frame.Repeat) v e =

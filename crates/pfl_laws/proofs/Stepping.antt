@@ -89,12 +89,14 @@ link-node w l B = refl
 
 -- what becomes of a frame leaves them
 frame-node : (w : World) (frame : Option InFlight) (o : Option Refusal) (l : InFlight → Link) (out : InFlight → Outcome) (v : World) (at : NodeId)
-    → world_after (option_map_or (λ f. unless_refused o (record { world = with_link w (l f); outcome = out f })) frame (Err NoSuchFrame)) ≡ Some v → node_at w at ≡ node_at v at
+    → world_after (option_map_or (λ f. unless_refused o (record { world = with_link w (l f); outcome = out f })) frame (Err NoSuchFrame))
+    ≡ Some v → node_at w at ≡ node_at v at
 frame-node w None o l out v at e = absurd (some_is_none v (sym e))
 frame-node w (Some f) o l out v at e = link-node w (l f) at ∙ answered-node o (record { world = with_link w (l f); outcome = out f }) v at e
 
 -- a node takes the place that it was lent from
-pub own-world : (w : World) (id : NodeId) (o : Option Refusal) (s : NodeStepped) (v : World) → world_after (from_node w id (unless_refused o s)) ≡ Some v → with_node w id s.node ≡ v
+pub own-world : (w : World) (id : NodeId) (o : Option Refusal) (s : NodeStepped) (v : World)
+    → world_after (from_node w id (unless_refused o s)) ≡ Some v → with_node w id s.node ≡ v
 own-world w id None s v e = inner (with_node w id s.node) v e
 own-world w id (Some r) s v e = absurd (some_is_none v (sym e))
 
@@ -124,7 +126,8 @@ read-node w ticket to (Err why) v at e =
     ∙ answered-node (refused_by (full_tests (m ∷ []))) (record { world = with_node (without_ticket w ticket) to m; outcome = outcome.Broken why }) v at e
 
 arrived-node : (w : World) (ticket : ℕ) (o : Option InFlight) (v : World) (at : NodeId)
-    → world_after (option_map_or (λ f. read_taken (without_ticket w ticket) f.to (node_at w f.to) (reading f.bytes)) o (Err NoSuchFrame)) ≡ Some v → arrived w at o ≡ node_at v at
+    → world_after (option_map_or (λ f. read_taken (without_ticket w ticket) f.to (node_at w f.to) (reading f.bytes)) o (Err NoSuchFrame))
+    ≡ Some v → arrived w at o ≡ node_at v at
 arrived-node w ticket None v at e = absurd (some_is_none v (sym e))
 arrived-node w ticket (Some f) v at e = read-node w ticket f.to (reading f.bytes) v at e
 
@@ -135,9 +138,13 @@ stepped-node w (event.At id e) v at is =
 stepped-node w (event.Flush id) v at e =
     link-node (with_node w id (flushed (node_at w id))) (sent w.link (sent_frame w id)) at
     ∙ answered-node (flush_refusal w id)
-    (record { world = with_link (with_node w id (flushed (node_at w id))) (sent w.link (sent_frame w id)); outcome = outcome.Sent w.link.next (length (sent_frame w id).bytes) }) v at e
+    (record {
+      world = with_link (with_node w id (flushed (node_at w id))) (sent w.link (sent_frame w id));
+      outcome = outcome.Sent w.link.next (length (sent_frame w id).bytes);
+    }) v at e
 stepped-node w (event.Of ticket frame.Deliver) v at e = arrived-node w ticket (maps.get w.link.frames ticket) v at e
-stepped-node w (event.Of ticket frame.Lose) v at e = frame-node w (maps.get w.link.frames ticket) None (λ f. without_frame w.link ticket) (λ f. outcome.Lost) v at e
+stepped-node w (event.Of ticket frame.Lose) v at e = frame-node w (maps.get w.link.frames ticket) None (λ f. without_frame w.link ticket)
+    (λ f. outcome.Lost) v at e
 stepped-node w (event.Of ticket frame.Repeat) v at e =
     frame-node w (maps.get w.link.frames ticket) (refused_by ((is_full w.link, LinkFull) ∷ (is_counted_out w.link, CountFull) ∷ []))
     (λ f. sent w.link f) (λ f. outcome.Sent w.link.next (length f.bytes)) v at e
@@ -146,7 +153,8 @@ stepped-node w (event.Of ticket (frame.Cut len)) v at e =
 stepped-node w (event.Restart id) v at e =
     let anew = with_node w id (restarted (node_at w id) w.next_boot) in
     other-boot anew (w.next_boot + 1) at
-    ∙ answered-node (refused_by ((nat_le greatest w.next_boot, CountFull) ∷ [])) (record { world = record anew { next_boot = w.next_boot + 1 }; outcome = outcome.Boot w.next_boot }) v at e
+    ∙ answered-node (refused_by ((nat_le greatest w.next_boot, CountFull) ∷ []))
+    (record { world = record anew { next_boot = w.next_boot + 1 }; outcome = outcome.Boot w.next_boot }) v at e
 
 -- one node of it is another one, and the other node stays
 put-keeps : (R : State → State → Type 0) (q : StateName) (w : World) (id : NodeId) (m : Node) (at : NodeId) → ((s : State) → R s s)
@@ -157,7 +165,8 @@ put-keeps R q w A m B itself keeps are given = keeps-itself R q w.b itself
 put-keeps R q w B m A itself keeps are given = keeps-itself R q w.a itself
 put-keeps R q w B m B itself keeps are given = keeps are given
 
-put-apart : (w : World) (id : NodeId) (m : Node) (at : NodeId) → (AreStates (node_at w id).states → AreStates m.states) → AreStates (node_at w at).states → AreStates (node_at (with_node w id m) at).states
+put-apart : (w : World) (id : NodeId) (m : Node) (at : NodeId) → (AreStates (node_at w id).states → AreStates m.states)
+    → AreStates (node_at w at).states → AreStates (node_at (with_node w id m) at).states
 put-apart w A m A apart are = apart are
 put-apart w A m B apart are = are
 put-apart w B m A apart are = are
@@ -171,7 +180,8 @@ itself s = alike-follows (Unit {0}) s s refl
 put-alike : (q : StateName) (w : World) (id : NodeId) (m : Node) (at : NodeId) → (AreStates (node_at w id).states → Keeps Alike q (node_at w id) m)
     → AreStates (node_at w at).states → IsGiven (node_at w at) q → Keeps (Follows (Unit {0})) q (node_at w at) (node_at (with_node w id m) at)
 put-alike q w id m at keeps =
-    put-keeps (Follows (Unit {0})) q w id m at itself (λ are given. keeps-as Alike (Follows (Unit {0})) q (node_at w id) m (alike-follows (Unit {0})) (keeps are))
+    put-keeps (Follows (Unit {0})) q w id m at itself
+    (λ are given. keeps-as Alike (Follows (Unit {0})) q (node_at w id) m (alike-follows (Unit {0})) (keeps are))
 
 -- a node's own event
 after-alike : (q : StateName) (n m : Node) → Keeps Alike q n m → Keeps (Follows (Unit {0})) q n m
@@ -203,9 +213,11 @@ IsLocal (event.Of ticket frame.Deliver) = ⊥
 IsLocal (event.Restart id) = ⊥
 IsLocal _ = Unit {0}
 
-pub turned-keeps : (q : StateName) (w : World) (e : Event) (at : NodeId) → IsLocal e → AreStates (node_at w at).states → IsGiven (node_at w at) q → Keeps (Follows (IsEvent e)) q (node_at w at) (turned w e at)
+pub turned-keeps : (q : StateName) (w : World) (e : Event) (at : NodeId) → IsLocal e → AreStates (node_at w at).states
+    → IsGiven (node_at w at) q → Keeps (Follows (IsEvent e)) q (node_at w at) (turned w e at)
 turned-keeps q w (event.At id e) at local are given =
-    put-keeps (Follows (IsNodeEvent e)) q w id (node_after (node_at w id) e).node at (λ s. alike-follows (IsNodeEvent e) s s refl) (after-keeps q (node_at w id) e) are given
+    put-keeps (Follows (IsNodeEvent e)) q w id (node_after (node_at w id) e).node at (λ s. alike-follows (IsNodeEvent e) s s refl)
+    (after-keeps q (node_at w id) e) are given
 turned-keeps q w (event.Flush id) at local are given = put-alike q w id (flushed (node_at w id)) at (flushed-keeps q (node_at w id)) are given
 turned-keeps q w (event.Of ticket frame.Deliver) at local are given = absurd local
 turned-keeps q w (event.Of ticket frame.Lose) at local are given = keeps-itself (Follows (Unit {0})) q (node_at w at) itself
@@ -227,6 +239,7 @@ turned-apart w (event.Of ticket (frame.Cut len)) at are = are
 turned-apart w (event.Restart id) at are = put-apart w id (restarted (node_at w id) w.next_boot) at (λ a. restarted-apart (node_at w id) w.next_boot) are
 
 -- each state stands under its own name and keys after an event that is accepted
-pub stepped-apart : (w : World) (e : Event) (v : World) (at : NodeId) → world_after (step w e) ≡ Some v → AreStates (node_at w at).states → AreStates (node_at v at).states
+pub stepped-apart : (w : World) (e : Event) (v : World) (at : NodeId) → world_after (step w e) ≡ Some v → AreStates (node_at w at).states
+    → AreStates (node_at v at).states
 stepped-apart w e v at accepted are =
     subst (λ (m : Node). AreStates m.states) (stepped-node w e v at accepted) (turned-apart w e at are)

@@ -17,7 +17,8 @@ use Rattle.pfl_world.specs.queue.Queues.{kind_of}
 use Rattle.pfl_world.specs.defer.declared.Held.{Held}
 use Rattle.pfl_world.specs.defer.Deferring.{Deferrals, held_of, let_go, with_held}
 use Rattle.pfl_world.specs.desk.Nodes.{Node}
-use Rattle.pfl_world.specs.desk.Changes.{put_state, mark, push_if, counted, told, is_recent, is_held, is_untold, is_insert, freed, lost, not_waiting, released, changed, deleted, forgotten, count_freed, count_lost, without_held}
+use Rattle.pfl_world.specs.desk.Changes.{put_state, mark, push_if, counted, told, is_recent, is_held, is_unannounced, is_insert, freed, lost}
+use Rattle.pfl_world.specs.desk.Changes.{not_waiting, released, changed, deleted, forgotten, count_freed, count_lost, without_held}
 use Rattle.pfl_laws.specs.Laws.{IsTied}
 use Rattle.pfl_laws.proofs.Following.{Filed}
 use Rattle.pfl_laws.proofs.Keeping.{freed-states, deleted-states}
@@ -43,13 +44,16 @@ gone-list name (h ∷ hs) = by (is_name name h.name) refl (gone-list name hs)
     by false e rest = ap (λ c. cond c (Some h) (find (λ k. is_name name k.name) (filter (λ k. not (is_name name k.name)) hs))) e ∙ rest
 
 -- and those of other names are
-stay-list : (name q : StateName) → q ≢ name → (hs : List Held) → find (λ h. is_name q h.name) (filter (λ h. not (is_name name h.name)) hs) ≡ find (λ h. is_name q h.name) hs
+stay-list : (name q : StateName) → q ≢ name → (hs : List Held)
+    → find (λ h. is_name q h.name) (filter (λ h. not (is_name name h.name)) hs) ≡ find (λ h. is_name q h.name) hs
 stay-list name q other [] = refl
 stay-list name q other (h ∷ hs) = by (is_name name h.name) refl (stay-list name q other hs)
   where
     by : (b : Bool) → is_name name h.name ≡ b
         → find (λ k. is_name q k.name) (filter (λ k. not (is_name name k.name)) hs) ≡ find (λ k. is_name q k.name) hs
-        → find (λ k. is_name q k.name) (cond (not b) (h ∷ filter (λ k. not (is_name name k.name)) hs) (filter (λ k. not (is_name name k.name)) hs)) ≡ cond (is_name q h.name) (Some h) (find (λ k. is_name q k.name) hs)
+        → find (λ k. is_name q k.name)
+        (cond (not b) (h ∷ filter (λ k. not (is_name name k.name)) hs) (filter (λ k. not (is_name name k.name)) hs))
+        ≡ cond (is_name q h.name) (Some h) (find (λ k. is_name q k.name) hs)
     by true e rest =
         let differ : is_name q h.name ≡ false = not_named q h.name (λ same. other (same ∙ sym (is_name-same name h.name e))) in
         rest ∙ sym (ap (λ c. cond c (Some h) (find (λ k. is_name q k.name) hs)) differ)
@@ -60,7 +64,8 @@ added-list : (hs : List Held) (h : Held) → is_some (find (λ k. is_name h.name
 added-list [] h = ap (λ c. is_some (cond c (Some h) None)) (is_name-itself h.name h.name refl)
 added-list (x ∷ hs) h = by (is_name h.name x.name) (added-list hs h)
   where
-    by : (b : Bool) → is_some (find (λ k. is_name h.name k.name) (hs ++ h ∷ [])) ≡ true → is_some (cond b (Some x) (find (λ k. is_name h.name k.name) (hs ++ h ∷ []))) ≡ true
+    by : (b : Bool) → is_some (find (λ k. is_name h.name k.name) (hs ++ h ∷ [])) ≡ true
+        → is_some (cond b (Some x) (find (λ k. is_name h.name k.name) (hs ++ h ∷ []))) ≡ true
     by true rest = refl
     by false rest = rest
 
@@ -130,7 +135,8 @@ tied-same n m tied states held q =
     ap (λ (d : Deferrals). is_some (held_of d q)) held ∙ tied q ∙ ap (λ (l : States). waits (maps.get l q)) (sym states)
 
 -- the packet of the name goes, and what stands under it does not wait
-pub tied-out : (n m : Node) (name : StateName) (o : Option State) → IsTied n → m.states ≡ set_at n.states name o → waits o ≡ false → m.held ≡ without n.held name → IsTied m
+pub tied-out : (n m : Node) (name : StateName) (o : Option State) → IsTied n → m.states ≡ set_at n.states name o → waits o ≡ false
+    → m.held ≡ without n.held name → IsTied m
 tied-out n m name o tied states calm held =
     tied-by n m name o tied states
     (ap (λ (d : Deferrals). is_some (held_of d name)) held ∙ gone n.held name ∙ sym calm)
@@ -139,10 +145,12 @@ tied-out n m name o tied states calm held =
 -- a state is put that waits as the one before it did
 pub tied-put : (n m : Node) (s : State) → IsTied n → m.states ≡ maps.insert n.states s.name s → m.held ≡ n.held → s.ack_wanted ≡ is_held n s.name → IsTied m
 tied-put n m s tied states held same =
-    tied-by n m s.name (Some s) tied states (ap (λ (d : Deferrals). is_some (held_of d s.name)) held ∙ sym same) (λ q other. ap (λ (d : Deferrals). is_some (held_of d q)) held)
+    tied-by n m s.name (Some s) tied states (ap (λ (d : Deferrals). is_some (held_of d s.name)) held ∙ sym same)
+    (λ q other. ap (λ (d : Deferrals). is_some (held_of d q)) held)
 
 -- a packet is held, and its state waits
-pub tied-hold : (n m : Node) (s : State) (p : Packet) → IsTied n → s.ack_wanted ≡ true → m.states ≡ maps.insert n.states s.name s → m.held ≡ with_held n.held s.name p n.clock → IsTied m
+pub tied-hold : (n m : Node) (s : State) (p : Packet) → IsTied n → s.ack_wanted ≡ true → m.states ≡ maps.insert n.states s.name s
+    → m.held ≡ with_held n.held s.name p n.clock → IsTied m
 tied-hold n m s p tied waiting states held =
     let h : Held = record { name = s.name; packet = p; held_at = n.clock } in
     tied-by n m s.name (Some s) tied states
@@ -176,7 +184,8 @@ calmed-waits (Some s) = refl
 not_waiting-states : (n : Node) (name : StateName) → Filed n.states → (not_waiting n name).states ≡ set_at n.states name (calmed (maps.get n.states name))
 not_waiting-states n name filed = by (maps.get n.states name) refl
   where
-    by : (o : Option State) → maps.get n.states name ≡ o → (option_map_or (λ s. put_state n (record s { ack_wanted = false })) o n).states ≡ set_at n.states name (calmed o)
+    by : (o : Option State) → maps.get n.states name ≡ o
+        → (option_map_or (λ s. put_state n (record s { ack_wanted = false })) o n).states ≡ set_at n.states name (calmed o)
     by None e = sym (set_at-same names_total names_exact n.states name None e)
     by (Some s) e = ap (λ (k : StateName). maps.insert n.states k (record s { ack_wanted = false })) (filed name s e)
 
@@ -221,7 +230,7 @@ counted-puts n s =
 
 told-puts : (n : Node) (s : State) → Puts n s (told n s)
 told-puts n s =
-    puts-either n s (is_untold (kind_of n.queue s.name)) (mark (put_state n (record s { updates = 0 })) s.name UpdateShort) (counted n s)
+    puts-either n s (is_unannounced (kind_of n.queue s.name)) (mark (put_state n (record s { updates = 0 })) s.name UpdateShort) (counted n s)
     (record { updates = 0; states = refl; held = refl }) (counted-puts n s)
 
 pub changed-puts : (n : Node) (s : State) → Puts n s (changed n s)

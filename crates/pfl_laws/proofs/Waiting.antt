@@ -26,17 +26,22 @@ use Rattle.pfl_world.specs.queue.Queues.{kind_of}
 use Rattle.pfl_world.specs.bulk.Bulk.{no_name}
 use Rattle.pfl_world.specs.defer.Deferring.{pushed_out}
 use Rattle.pfl_world.specs.desk.Nodes.{Node, IsGiven, timeout_at}
-use Rattle.pfl_world.specs.desk.Changes.{put_state, mark, push_if, count_bad, count_passed, count_blocked, is_held, freed, lost, changed, forgotten, released, count_stale, ask}
+use Rattle.pfl_world.specs.desk.Changes.{put_state, mark, push_if, count_bad, count_passed, count_blocked, is_held, freed, lost, changed, forgotten}
+use Rattle.pfl_world.specs.desk.Changes.{released, count_stale, ask}
 use Rattle.pfl_world.specs.node.Packets.{accepted}
-use Rattle.pfl_world.specs.receive.Receiving.{taken, insert_taken, can_import, imported, merge_taken, merged_into, bulk_taken, state_answered, is_partly_told, request_taken, ack_taken, delete_taken, status_taken, is_known, cleared_names, of_state, of_update}
-use Rattle.pfl_world.specs.node.Starting.{Handled, pass, started, judged, by_rule, announced, hold, with_room, with_new, new_state, next_name, is_at_max, is_deferred}
+use Rattle.pfl_world.specs.receive.Receiving.{taken, insert_taken, can_import, imported, merge_taken, merged_into, bulk_taken, state_answered}
+use Rattle.pfl_world.specs.receive.Receiving.{is_partly_announced, request_taken, ack_taken, delete_taken, status_taken, is_known, cleared_names}
+use Rattle.pfl_world.specs.receive.Receiving.{of_state, of_update}
+use Rattle.pfl_world.specs.node.Starting.{Handled, pass, started, judged, by_rule, announced, hold, with_room, with_new, new_state, next_name}
+use Rattle.pfl_world.specs.node.Starting.{is_at_max, is_deferred}
 use Rattle.pfl_laws.specs.Laws.{IsTied, RecordsKeepTied}
 use Rattle.pfl_laws.proofs.Following.{Alike, Filed, filed-put}
 use Rattle.pfl_laws.proofs.Keeping.{Keeps, keeps-given, freed-states}
 use Rattle.pfl_laws.proofs.Handling.{announced-keeps}
 use Rattle.pfl_laws.proofs.Removing.{forgotten-removes, all-tied}
 use Rattle.pfl_laws.proofs.Records.{can_import-unknown, merged-name, lost-states}
-use Rattle.pfl_laws.proofs.Tied.{waits, tied-same, tied-out, tied-put, tied-hold, tied-either, tied-by_test, tied-some, tied-released, freed-held, lost-held, changed-puts, tied-forgotten, Puts}
+use Rattle.pfl_laws.proofs.Tied.{waits, tied-same, tied-out, tied-put, tied-hold, tied-either, tied-by_test, tied-some, tied-released, freed-held}
+use Rattle.pfl_laws.proofs.Tied.{lost-held, changed-puts, tied-forgotten, Puts}
 
 -- whatever name has a state was given
 abbrev pub AreGiven : Node → Type 0
@@ -79,10 +84,11 @@ merge-tied n s r tied =
 
 request-tied : (n : Node) (name : StateName) → IsTied n → IsTied (request_taken n name)
 request-tied n name tied =
-    tied-either (is_name no_name name) (bulk_taken n) (option_map_or (state_answered n) (maps.get n.states name) (count_bad n)) (tied-same n (bulk_taken n) tied refl refl)
+    tied-either (is_name no_name name) (bulk_taken n) (option_map_or (state_answered n) (maps.get n.states name) (count_bad n))
+    (tied-same n (bulk_taken n) tied refl refl)
     (tied-some (maps.get n.states name) (state_answered n) (count_bad n) (λ s at.
     let told = push_if true (mark n s.name Update) in
-    tied-either (not s.no_sync && is_partly_told (kind_of n.queue s.name)) told n (tied-same n told tied refl refl) tied)
+    tied-either (not s.no_sync && is_partly_announced (kind_of n.queue s.name)) told n (tied-same n told tied refl refl) tied)
     (tied-same n (count_bad n) tied refl refl))
 
 delete-tied : (n : Node) (name : StateName) → IsTied n → IsTied (delete_taken n name)
@@ -90,14 +96,18 @@ delete-tied n name tied = tied-either (is_known n name) (forgotten n name) (coun
 
 pub tied-record : RecordsKeepTied
 unfolding taken
-tied-record n b (message.Clear creator bound) are tied = all-tied forgotten (λ (name : StateName). name) forgotten-removes (cleared_names n creator bound) n tied
+tied-record n b (message.Clear creator bound) are tied =
+    all-tied forgotten (λ (name : StateName). name) forgotten-removes (cleared_names n creator bound) n tied
 tied-record n b (message.Insert r) are tied = insert-tied n b r r.ack_wanted tied
 tied-record n b (message.InsertAck name) are tied =
-    tied-some (maps.get n.states name) (ack_taken n) n (λ s at. tied-either s.ack_wanted (released n s.name) n (tied-released n s.name are.filed tied) tied) tied
+    tied-some (maps.get n.states name) (ack_taken n) n
+    (λ s at. tied-either s.ack_wanted (released n s.name) n (tied-released n s.name are.filed tied) tied) tied
 tied-record n b (message.Update r) are tied =
-    tied-some (maps.get n.states r.name) (λ s. merge_taken n s (of_state r)) (insert_taken n b r false) (λ s at. merge-tied n s (of_state r) tied) (insert-tied n b r false tied)
+    tied-some (maps.get n.states r.name) (λ s. merge_taken n s (of_state r)) (insert_taken n b r false)
+    (λ s at. merge-tied n s (of_state r) tied) (insert-tied n b r false tied)
 tied-record n b (message.UpdateShort u) are tied =
-    tied-some (maps.get n.states u.name) (λ s. merge_taken n s (of_update u)) (ask n u.name) (λ s at. merge-tied n s (of_update u) tied) (tied-same n (ask n u.name) tied refl refl)
+    tied-some (maps.get n.states u.name) (λ s. merge_taken n s (of_update u)) (ask n u.name) (λ s at. merge-tied n s (of_update u) tied)
+    (tied-same n (ask n u.name) tied refl refl)
 tied-record n b (message.UpdateRequest name) are tied = request-tied n name tied
 tied-record n b (message.Delete r) are tied = delete-tied n r.name tied
 tied-record n b (message.DeleteShort name) are tied = delete-tied n name tied
@@ -148,11 +158,13 @@ started-tied n dir p number r filed given tied =
 
 pub judged-tied : (n : Node) (dir : Dir) (p : Packet) → Filed n.states → AreGiven n → IsTied n → IsTied (judged n dir p).node
 unfolding judged
-judged-tied n dir p filed given tied = of_test (verdict n.rules.list p dir).pass _ _ (by_number (verdict n.rules.list p dir).rule) (tied-same n (count_blocked n) tied refl refl)
+judged-tied n dir p filed given tied =
+    of_test (verdict n.rules.list p dir).pass _ _ (by_number (verdict n.rules.list p dir).rule) (tied-same n (count_blocked n) tied refl refl)
   where
     by_number : (rule : Option ℕ) → IsTied (by_rule n dir p rule).node
     by_number None = tied-same n (count_passed n) tied refl refl
-    by_number (Some number) = of_some (rule_at n.rules.list (Some number)) (started n dir p number) _ (λ r. started-tied n dir p number r filed given tied) (tied-same n (count_passed n) tied refl refl)
+    by_number (Some number) = of_some (rule_at n.rules.list (Some number)) (started n dir p number) _
+        (λ r. started-tied n dir p number r filed given tied) (tied-same n (count_passed n) tied refl refl)
 
 pub accepted-tied : (n : Node) (t : State) → IsTied n → IsTied (accepted n t).node
 accepted-tied n t tied =
@@ -160,7 +172,8 @@ accepted-tied n t tied =
     let m = freed n t.name in
     let puts : Puts m calm (changed m calm) = changed-puts m calm in
     tied-out n (accepted n t).node t.name (Some (record calm { updates = puts.updates })) tied
-    (puts.states ∙ ap (λ (l : States). maps.insert l t.name (record calm { updates = puts.updates })) (freed-states n t.name)) refl (puts.held ∙ freed-held n t.name)
+    (puts.states ∙ ap (λ (l : States). maps.insert l t.name (record calm { updates = puts.updates })) (freed-states n t.name)) refl
+    (puts.held ∙ freed-held n t.name)
 
 -- ---- names that were given
 
@@ -172,12 +185,14 @@ given_test : (b : Bool) (x y : Handled) → AreGiven x.node → AreGiven y.node 
 given_test true x y k l = k
 given_test false x y k l = l
 
-given_some : {X : Type 0} (o : Option X) (f : X → Handled) (d : Handled) → ((x : X) → AreGiven (f x).node) → AreGiven d.node → AreGiven (option_map_or f o d).node
+given_some : {X : Type 0} (o : Option X) (f : X → Handled) (d : Handled) → ((x : X) → AreGiven (f x).node) → AreGiven d.node
+    → AreGiven (option_map_or f o d).node
 given_some None f d k l = l
 given_some (Some x) f d k l = k x
 
 -- a new state has the next name, which is given with it
-announced-given : (n : Node) (s : State) (dir : Dir) (p : Packet) → Filed n.states → s.name ≡ next_name n → AreGiven n → AreGiven (announced (with_new n s) s dir p).node
+announced-given : (n : Node) (s : State) (dir : Dir) (p : Packet) → Filed n.states → s.name ≡ next_name n → AreGiven n
+    → AreGiven (announced (with_new n s) s dir p).node
 announced-given n s dir p filed next given q t at =
     let new = with_new n s in
     let after = (announced new s dir p).node in

@@ -81,7 +81,8 @@ LevelsNeverFall =
 -- the name has a state at the node all along the events, also at each of their points
 abbrev pub StandsAlong : World → List Event → NodeId → StateName → Type 0
 StandsAlong w [] id name = HasState name (node_at w id)
-StandsAlong w (e ∷ es) id name = HasState name (node_at w id) × All (HasState name) (points_at w e id) × IsSomeAnd (world_after (step w e)) (λ v. StandsAlong v es id name)
+StandsAlong w (e ∷ es) id name = HasState name (node_at w id) × All (HasState name) (points_at w e id)
+    × IsSomeAnd (world_after (step w e)) (λ v. StandsAlong v es id name)
 
 -- events, one after the other, lower no level of a state that was not removed in between
 abbrev pub LevelsNeverFallAlong : Type 0
@@ -259,7 +260,8 @@ LetsOut (message.Bulk creator status) name = ⊥
 
 -- whatever record a node takes, a packet that was held is still held, since the same time, or the record let it go
 abbrev pub RecordsLetGoOnlySo : Type 0
-RecordsLetGoOnlySo = (n : Node) (same_rules : Bool) (m : Message) → AreStates n.states → (h : Held) → Holds n h → Holds (taken n same_rules m) h ⊎ LetsOut m h.name
+RecordsLetGoOnlySo = (n : Node) (same_rules : Bool) (m : Message) → AreStates n.states → (h : Held) → Holds n h
+    → Holds (taken n same_rules m) h ⊎ LetsOut m h.name
 
 -- one of the records lets it go
 abbrev pub OneLetsOut : List Message → StateName → Type 0
@@ -278,7 +280,8 @@ LetsOldestGo f held name = (s : StateName) × ((f ≡ fate.Held s) × IsSomeAnd 
 -- its time has come at a release, or its state is deleted or cleared; no other event of a node does
 abbrev pub NodeLetsGo : Node → Node → NodeEvent → Held → Type 0
 NodeLetsGo old new (own.Packet dir p) h =
-    ((handled old dir p).fate ≡ fate.Pass (Some h.name)) ⊎ (LetsOldestGo (handled old dir p).fate (asked_at old dir p).held h.name ⊎ (maps.get new.states h.name ≡ None))
+    ((handled old dir p).fate ≡ fate.Pass (Some h.name))
+    ⊎ (LetsOldestGo (handled old dir p).fate (asked_at old dir p).held h.name ⊎ (maps.get new.states h.name ≡ None))
 NodeLetsGo old new own.Purge h = maps.get new.states h.name ≡ None
 NodeLetsGo old new own.Release h = h.held_at + old.limits.defer_ms ≤ old.clock
 NodeLetsGo old new (own.Kill name) h = (name ≡ h.name) × (maps.get new.states h.name ≡ None)

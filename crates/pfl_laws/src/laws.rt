@@ -1,9 +1,11 @@
 //! Laws of runs. They have no code: each is a theorem over the definitions, which a function's contract names.
 
 ghost use Rattle.pfl_laws.specs.Laws.{LevelsNeverFall, RecordsLowerNoLevel, LevelsNeverFallAlong, StatesStayApart, StatesStayApartAlong};
-ghost use Rattle.pfl_laws.specs.Laws.{OpeningsAreBoots, LaterOpeningsAreBoots, EventsKeepBoots, NewStatesAreNamed, NoNameIsGivenTwice, NoTicketIsGivenTwice, NoBootIsGivenTwice};
+ghost use Rattle.pfl_laws.specs.Laws.{OpeningsAreBoots, LaterOpeningsAreBoots, EventsKeepBoots, NewStatesAreNamed, NoNameIsGivenTwice};
+ghost use Rattle.pfl_laws.specs.Laws.{NoTicketIsGivenTwice, NoBootIsGivenTwice};
 ghost use Rattle.pfl_laws.specs.Laws.{EventsSendOnlySo, FramesWereSent};
-ghost use Rattle.pfl_laws.specs.Laws.{OpeningsAreTied, LaterOpeningsAreTied, EventsKeepTied, RecordsKeepTied, EventsKeepTiedAlong, HeldPacketsLeaveOnlySo, RecordsLetGoOnlySo};
+ghost use Rattle.pfl_laws.specs.Laws.{OpeningsAreTied, LaterOpeningsAreTied, EventsKeepTied, RecordsKeepTied, EventsKeepTiedAlong};
+ghost use Rattle.pfl_laws.specs.Laws.{HeldPacketsLeaveOnlySo, RecordsLetGoOnlySo};
 
 /// An event lowers the level of no end of a state at either node (pf.c) that is not removed in it, and neither does a record of
 /// the peer's; nor do events, one after the other, where the state was not removed in between.

@@ -1,5 +1,6 @@
 -- Numbers that are read one digit after another, up to a separator.
-use Rattle.std.proofs.Common.{◌≡◌, ◌∙◌, ℕ, ◌+◌, ◌-◌, ◌*◌, ◌≤◌, ◌<◌, Bool, true, false, ◌&&◌, List, [], ◌∷◌, Result, Ok, Err, refl, sym, ap, arith, length, le-leb, eqb-true}
+use Rattle.std.proofs.Common.{◌≡◌, ◌∙◌, ℕ, ◌+◌, ◌-◌, ◌*◌, ◌≤◌, ◌<◌, Bool, true, false, ◌&&◌, List, [], ◌∷◌, Result, Ok, Err, refl, sym, ap, arith}
+use Rattle.std.proofs.Common.{length, le-leb, eqb-true}
 use Rattle.std.specs.Prelude.{nat_le, ◌==◌, if◌then◌else◌}
 use Rattle.std.specs.List.{list_all}
 use Rattle.std.proofs.lemmas.Bool.{leb-false, lt-leb}
@@ -53,7 +54,8 @@ too_great greatest n digits above =
     let more : greatest < value_after n digits = omega (arith, leb-false n greatest above, value_grows digits n) in
     rw (lt-leb (value_after n digits) greatest more) (no_more (list_all is_digit digits) (value_after n digits))
 
-up_to : (greatest m : ℕ) (digits : List ℕ) (t : Bool) → nat_le m greatest ≡ t → said greatest m digits ≡ ((if t then Ok m else Err Number) >>= (λ k. said greatest k digits))
+up_to : (greatest m : ℕ) (digits : List ℕ) (t : Bool) → nat_le m greatest ≡ t
+    → said greatest m digits ≡ ((if t then Ok m else Err Number) >>= (λ k. said greatest k digits))
 up_to greatest m digits true is = refl
 up_to greatest m digits false is = too_great greatest m digits is
 
@@ -73,7 +75,8 @@ join (Ok x) f g = refl
 join (Err fault) f g = refl
 
 -- what fails at once fails after a number, too
-always : {X Y : Type 0} (r : Result X LineFault) (failed : Result Y LineFault) (fault : LineFault) → IsNumber r → failed ≡ Err fault → fault ≡ Number → failed ≡ (r >>= (λ x. failed))
+always : {X Y : Type 0} (r : Result X LineFault) (failed : Result Y LineFault) (fault : LineFault) → IsNumber r → failed ≡ Err fault
+    → fault ≡ Number → failed ≡ (r >>= (λ x. failed))
 always (Ok x) failed fault is e number = refl
 always (Err other) failed fault is e number = cc
 
@@ -154,7 +157,8 @@ no_digit separator greatest n b other same =
 pub first_byte : (separator greatest b : ℕ) (bytes : List ℕ) → is_digit separator ≡ false
     → number_before separator greatest (b ∷ bytes) ≡ (with_digit greatest 0 b >>= (λ m. said_before greatest m (cut_at separator bytes)))
 first_byte separator greatest b bytes other =
-    elim (b == separator) as (λ t. (b == separator) ≡ t → number_before separator greatest (b ∷ bytes) ≡ (with_digit greatest 0 b >>= (λ m. said_before greatest m (cut_at separator bytes)))) [
+    elim (b == separator) as (λ t. (b == separator) ≡ t
+    → number_before separator greatest (b ∷ bytes) ≡ (with_digit greatest 0 b >>= (λ m. said_before greatest m (cut_at separator bytes)))) [
       | true ↦ λ same. first_separator separator greatest b bytes same
           ∙ ap (λ r. r >>= (λ m. said_before greatest m (cut_at separator bytes))) (sym (no_digit separator greatest 0 b other same))
       | false ↦ first_other separator greatest b bytes

@@ -47,13 +47,17 @@ parted_read word = simp join
 v4_parted : (word : List ℕ) → v4_of word ≡ parted word
 unfolding v4_of
 v4_parted word =
-    let last : (a b c : List ℕ × List ℕ) (p : ℕ) → Result ℕ LineFault = λ a b c p. number_of 255 b.0 >>= (λ q. number_of 255 c.0 >>= (λ r. number_of 255 c.1 >>= (λ s. Ok (((p * 256 + q) * 256 + r) * 256 + s)))) in
+    let last : (a b c : List ℕ × List ℕ) (p : ℕ)
+    → Result ℕ LineFault = λ a b c p. number_of 255 b.0 >>=
+    (λ q. number_of 255 c.0 >>= (λ r. number_of 255 c.1 >>= (λ s. Ok (((p * 256 + q) * 256 + r) * 256 + s)))) in
     (λ i. cut_at 46 word >>= (λ a. cut_at 46 a.1 >>= (λ b.
     swap (cut_at 46 b.1) (number_of 255 a.0) (last a b) (cut_fault 46 b.1) (number_fault 255 a.0) i)))
     ∙ (λ i. cut_at 46 word >>= (λ a.
     swap (cut_at 46 a.1) (number_of 255 a.0) (λ b p. cut_at 46 b.1 >>= (λ c. last a b c p)) (cut_fault 46 a.1) (number_fault 255 a.0) i))
     ∙ (λ i. cut_at 46 word >>= (λ a. number_of 255 a.0 >>= (λ p. cut_at 46 a.1 >>= (λ b.
-    swap (cut_at 46 b.1) (number_of 255 b.0) (λ c q. number_of 255 c.0 >>= (λ r. number_of 255 c.1 >>= (λ s. Ok (((p * 256 + q) * 256 + r) * 256 + s)))) (cut_fault 46 b.1) (number_fault 255 b.0) i))))
+    swap (cut_at 46 b.1) (number_of 255 b.0)
+    (λ c q. number_of 255 c.0 >>= (λ r. number_of 255 c.1 >>= (λ s. Ok (((p * 256 + q) * 256 + r) * 256 + s)))) (cut_fault 46 b.1)
+    (number_fault 255 b.0) i))))
 
 pub v4_is : (word : List ℕ) → v4_of word ≡ v4_read word
 v4_is word = v4_parted word ∙ parted_read word
@@ -61,7 +65,8 @@ v4_is word = v4_parted word ∙ parted_read word
 -- ---- an end
 
 -- a number is read of what stands before the colon
-abbrev outer : {Z : Type 0} → (List ℕ → Result (ℕ × List ℕ) LineFault) → (ℕ → List ℕ → List ℕ → Result Z LineFault) → Result (List ℕ × List ℕ) LineFault → Result Z LineFault
+abbrev outer : {Z : Type 0} → (List ℕ → Result (ℕ × List ℕ) LineFault) → (ℕ → List ℕ → List ℕ → Result Z LineFault)
+    → Result (List ℕ × List ℕ) LineFault → Result Z LineFault
 outer read f parts = parts >>= (λ p. read p.0 >>= (λ a. f a.0 a.1 p.1))
 
 -- what stands after a number is cut at the colon
@@ -76,7 +81,8 @@ grown_on b read digit f on (Ok p) =
     ap (λ r. r >>= (λ a. f a.0 a.1 p.1)) (on p.0) ∙ join digit (λ m. said_before 255 m (cut_at 46 p.0)) (λ a. f a.0 a.1 p.1)
 grown_on b read digit f on (Err e) = refl
 
-along : {Z : Type 0} (b : ℕ) (bytes : List ℕ) (read : List ℕ → Result (ℕ × List ℕ) LineFault) (digit : Result ℕ LineFault) (f : ℕ → List ℕ → List ℕ → Result Z LineFault)
+along : {Z : Type 0} (b : ℕ) (bytes : List ℕ) (read : List ℕ → Result (ℕ × List ℕ) LineFault) (digit : Result ℕ LineFault) (f : ℕ → List ℕ
+    → List ℕ → Result Z LineFault)
     → IsNumber digit → ((x : List ℕ) → read (b ∷ x) ≡ (digit >>= (λ m. said_before 255 m (cut_at 46 x)))) → read [] ≡ Err Number
     → ((b == 58) ≡ true → digit ≡ Err Number)
     → ((m : ℕ) → outer (λ x. said_before 255 m (cut_at 46 x)) f (cut_at 58 bytes) ≡ inner f (said_before 255 m (cut_at 46 bytes)))
@@ -110,9 +116,11 @@ digits_first : {Z : Type 0} (f : ℕ → List ℕ → List ℕ → Result Z Line
     → outer (λ x. said_before 255 n (cut_at 46 x)) f (cut_at 58 bytes) ≡ inner f (said_before 255 n (cut_at 46 bytes))
 digits_first f [] n = refl
 digits_first f (b ∷ bytes) n =
-    elim (b == 46) as (λ t. (b == 46) ≡ t → outer (λ x. said_before 255 n (cut_at 46 x)) f (cut_at 58 (b ∷ bytes)) ≡ inner f (said_before 255 n (cut_at 46 (b ∷ bytes)))) [
+    elim (b == 46) as (λ t. (b == 46) ≡ t
+    → outer (λ x. said_before 255 n (cut_at 46 x)) f (cut_at 58 (b ∷ bytes)) ≡ inner f (said_before 255 n (cut_at 46 (b ∷ bytes)))) [
       | true ↦ λ dot. rw (eqb-true b 46 dot) (at_dot n f bytes)
-      | false ↦ λ other. along b bytes (λ x. said_before 255 n (cut_at 46 x)) (with_digit 255 n b) f (digit_fault 255 n b) (λ x. before_at 46 255 n b x other) refl
+      | false ↦ λ other. along b bytes (λ x. said_before 255 n (cut_at 46 x)) (with_digit 255 n b) f (digit_fault 255 n b)
+          (λ x. before_at 46 255 n b x other) refl
           (λ colon. no_digit 58 255 n b refl colon) (λ m. digits_first f bytes m)
     ] refl
 

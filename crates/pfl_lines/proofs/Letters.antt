@@ -18,7 +18,8 @@ letter_more letters i d read next h e =
       on = rw add-one refl
 
 -- all letters
-pub letters_whole : (word rest : List ℕ) (flags i : ℕ) → 6 ≤ i → fold with_letter (0, word) flag_letters ≡ fold with_letter (flags, rest) (drop i flag_letters) →
+pub letters_whole : (word rest : List ℕ) (flags i : ℕ) → 6 ≤ i
+    → fold with_letter (0, word) flag_letters ≡ fold with_letter (flags, rest) (drop i flag_letters) →
     letters_of word ≡ unless_left (flags, rest)
 unfolding letters_of
 letters_whole word rest flags i h read = ap unless_left (read ∙ ap (fold with_letter (flags, rest)) (drop_of_length-le flag_letters {i = i} h))

@@ -1,5 +1,6 @@
 -- Timeouts are read class by class.
-use Rattle.std.proofs.Common.{◌≡◌, ◌<◌, ◌≤◌, ℕ, ◌+◌, List, [], ◌∷◌, ◌++◌, length, take, drop, get_or, set, Option, Some, None, Ok, Err, refl, sym, ap, subst, cond, ◌∙◌, append_assoc, add-one, drop-cons}
+use Rattle.std.proofs.Common.{◌≡◌, ◌<◌, ◌≤◌, ℕ, ◌+◌, List, [], ◌∷◌, ◌++◌, length, take, drop, get_or, set, Option, Some, None, Ok, Err, refl, sym, ap}
+use Rattle.std.proofs.Common.{subst, cond, ◌∙◌, append_assoc, add-one, drop-cons}
 use Rattle.std.specs.Prelude.{suc, true, false, bytes_eq, codes, unwrap_or}
 use Rattle.std.proofs.Math.ListN.{drop_of_length-le}
 use Rattle.std.proofs.lemmas.List.{take_more_set, take_all, append-nil}
@@ -10,7 +11,8 @@ use Rattle.pfl_base.specs.Texts.{class_text}
 use Rattle.pfl_lines.specs.Rules.{behind_word, behind_class, timeout_at, timeouts_at}
 
 -- after `timeout`, the class's word is what is looked for
-pub class_behind : (class : Class) (ws rest : List (List ℕ)) → behind_word (codes "timeout") ws ≡ Some rest → behind_class class ws ≡ behind_word (class_text class) rest
+pub class_behind : (class : Class) (ws rest : List (List ℕ)) → behind_word (codes "timeout") ws ≡ Some rest
+    → behind_class class ws ≡ behind_word (class_text class) rest
 class_behind class [] rest e = cc
 class_behind class (word ∷ []) rest e =
     elim (bytes_eq word (codes "timeout")) as (λ b. cond b (Some []) None ≡ Some rest → None ≡ behind_word (class_text class) rest) [
@@ -18,7 +20,8 @@ class_behind class (word ∷ []) rest e =
       | false ↦ λ h. cc
     ] e
 class_behind class (word ∷ name ∷ ws) rest e =
-    elim (bytes_eq word (codes "timeout")) as (λ b. cond b (Some (name ∷ ws)) None ≡ Some rest → cond b (behind_word (class_text class) (name ∷ ws)) None ≡ behind_word (class_text class) rest) [
+    elim (bytes_eq word (codes "timeout")) as (λ b. cond b (Some (name ∷ ws)) None ≡ Some rest
+    → cond b (behind_word (class_text class) (name ∷ ws)) None ≡ behind_word (class_text class) rest) [
       | true ↦ λ h. ap (λ o. behind_word (class_text class) (unwrap_or o [])) h
       | false ↦ λ h. cc
     ] e

@@ -25,16 +25,19 @@ use Rattle.pfl_lines.specs.declared.search.ScriptLine.{ScriptLine}
 use Rattle.pfl_lines.specs.declared.search.ScriptLine.TheVariants as script
 use Rattle.pfl_lines.specs.declared.session.SessionLine.TheVariants as session
 use Rattle.pfl_lines.specs.Addresses.{end_of, v4_end, v4_of}
-use Rattle.pfl_lines.specs.Commands.{event_at, flush_at, packet_at, bare_frame_event_at, command_of, command_at, past_at, why_event_at, why_place_at, why_at, frame_at, step_at, whole_step, whole_why, parsed}
+use Rattle.pfl_lines.specs.Commands.{event_at, flush_at, packet_at, bare_frame_event_at, command_of, command_at, past_at, why_event_at, why_place_at}
+use Rattle.pfl_lines.specs.Commands.{why_at, frame_at, step_at, whole_step, whole_why, parsed}
 use Rattle.pfl_lines.specs.Numbers.{number_of}
 use Rattle.pfl_lines.specs.Packets.{fields_at, plain_at}
-use Rattle.pfl_lines.specs.Search.{parsed_script, script_of, search_of, choices_of, each_choice, choice_of, move_of, move_at, given_at, any_frame_at, any_cut_at, goal_of, goal_at, question_at, passed_at, unpassed_at, judged_at}
+use Rattle.pfl_lines.specs.Search.{parsed_script, script_of, search_of, choices_of, each_choice, choice_of, move_of, move_at, given_at, any_frame_at}
+use Rattle.pfl_lines.specs.Search.{any_cut_at, goal_of, goal_at, question_at, passed_at, unpassed_at, judged_at}
 use Rattle.pfl_lines.specs.Written.{command_text, event_text}
 use Rattle.pfl_lines.specs.Session.{follow_after, session_of, parsed_session}
 
 -- what events and commands need to compute on literals
 unfoldable of_commands : ℕ
-unfolding number_of v4_of v4_end end_of plain_at fields_at packet_at flush_at bare_frame_event_at event_at step_at past_at why_event_at why_place_at why_at frame_at command_at whole_step whole_why command_of
+unfolding number_of v4_of v4_end end_of plain_at fields_at packet_at flush_at bare_frame_event_at event_at step_at past_at why_event_at
+    why_place_at why_at frame_at command_at whole_step whole_why command_of
 of_commands = 0
 
 -- what goals need
@@ -202,7 +205,8 @@ why_event : parsed_script (codes "why main flush a") ≡ Ok (script.Command (com
 unfolding computing
 why_event = refl
 
-why_event_packet : parsed (codes "why main packet b in udp 192.0.2.9:53 10.0.0.1:1000 80") ≡ Ok (command.WhyStep main_name (event.At B (own.Packet Inbound query)))
+why_event_packet : parsed (codes "why main packet b in udp 192.0.2.9:53 10.0.0.1:1000 80")
+    ≡ Ok (command.WhyStep main_name (event.At B (own.Packet Inbound query)))
 unfolding computing parsed query
 why_event_packet = refl
 

@@ -1,5 +1,6 @@
 -- Addresses and ends that are written read back.
-use Rattle.std.proofs.Common.{◌≡◌, ℕ, ◌+◌, ◌*◌, ◌/◌, ◌%◌, ◌^◌, ◌<◌, ◌≤◌, Bool, true, false, List, [], ◌∷◌, ◌++◌, length, refl, ◌∙◌, ap, sym, subst, arith, append_assoc, length-append, div-add-mod', ne_eqb, le-leb, leb-true}
+use Rattle.std.proofs.Common.{◌≡◌, ℕ, ◌+◌, ◌*◌, ◌/◌, ◌%◌, ◌^◌, ◌<◌, ◌≤◌, Bool, true, false, List, [], ◌∷◌, ◌++◌, length, refl, ◌∙◌, ap, sym, subst}
+use Rattle.std.proofs.Common.{arith, append_assoc, length-append, div-add-mod', ne_eqb, le-leb, leb-true}
 use Rattle.std.specs.Prelude.{Result, Ok, nat_le, not, ◌==◌, codes, if◌then◌else◌}
 use Rattle.std.specs.List.{list_all}
 use Rattle.std.specs.Fmt.{decimal}
@@ -15,7 +16,8 @@ use Rattle.pfl_lines.specs.Addresses.{v4_of, hex_digit, hex_at, group_at, pair_a
 use Rattle.pfl_lines.specs.Numbers.{is_digit, number_of, cut_at}
 use Rattle.pfl_lines.specs.Readings.{◌>>=◌}
 use Rattle.pfl_lines.specs.Laws.{IsAddr, IsEnd, is_mark}
-use Rattle.pfl_lines.proofs.WrittenNumbers.{is_read, reads_by, holds_below, and-first, and-second, and-both, all_weaker, all_digits, number-reads, lacks, cut-reads, number_lacks, digit_is_above}
+use Rattle.pfl_lines.proofs.WrittenNumbers.{is_read, reads_by, holds_below, and-first, and-second, and-both, all_weaker, all_digits, number-reads}
+use Rattle.pfl_lines.proofs.WrittenNumbers.{lacks, cut-reads, number_lacks, digit_is_above}
 use Rattle.pfl_lines.proofs.WrittenWords.{IsPlain}
 
 not-true : (b : Bool) → not b ≡ true → b ≡ false
@@ -53,7 +55,8 @@ dotted a b c d = decimal a ++ 46 ∷ three b c d
 dotted-reads : (a b c d : ℕ) → a ≤ 255 → b ≤ 255 → c ≤ 255 → d ≤ 255 → v4_of (dotted a b c d) ≡ Ok (((a * 256 + b) * 256 + c) * 256 + d)
 unfolding v4_of
 dotted-reads a b c d ha hb hc hd =
-    let e1 : cut_at 46 (dotted a b c d) ≡ Ok (decimal a, three b c d) = cut-reads 46 (decimal a) (three b c d) (number_lacks 46 a (omega arith) (omega arith)) in
+    let e1 : cut_at 46 (dotted a b c d) ≡ Ok (decimal a, three b c d) =
+    cut-reads 46 (decimal a) (three b c d) (number_lacks 46 a (omega arith) (omega arith)) in
     let e2 : cut_at 46 (three b c d) ≡ Ok (decimal b, two c d) = cut-reads 46 (decimal b) (two c d) (number_lacks 46 b (omega arith) (omega arith)) in
     let e3 : cut_at 46 (two c d) ≡ Ok (decimal c, decimal d) = cut-reads 46 (decimal c) (decimal d) (number_lacks 46 c (omega arith) (omega arith)) in
     let n1 : number_of 255 (decimal a) ≡ Ok a = number-reads 255 a ha (omega arith) in
@@ -71,11 +74,13 @@ dots_are n = simp append_assoc
 pub v4-reads : (n : ℕ) → n < 2 ^ 32 → v4_of (address_text (V4 n)) ≡ Ok n
 v4-reads n h =
     ap v4_of (dots_are n)
-    ∙ dotted-reads (n / 2 ^ 24) (n / 2 ^ 16 % 2 ^ 8) (n / 2 ^ 8 % 2 ^ 8) (n % 2 ^ 8) (high_byte n h) (small_byte (n / 2 ^ 16)) (small_byte (n / 2 ^ 8)) (small_byte n)
+    ∙ dotted-reads (n / 2 ^ 24) (n / 2 ^ 16 % 2 ^ 8) (n / 2 ^ 8 % 2 ^ 8) (n % 2 ^ 8) (high_byte n h) (small_byte (n / 2 ^ 16))
+    (small_byte (n / 2 ^ 8)) (small_byte n)
     ∙ ap (λ v. Ok v) (whole n)
 
 -- what holds of digits and of a dot holds of each byte
-all_dotted : (p : ℕ → Bool) (a b c d : ℕ) → ((x : ℕ) → is_digit x ≡ true → p x ≡ true) → p 46 ≡ true → a ≤ 255 → b ≤ 255 → c ≤ 255 → d ≤ 255 → list_all p (dotted a b c d) ≡ true
+all_dotted : (p : ℕ → Bool) (a b c d : ℕ) → ((x : ℕ) → is_digit x ≡ true → p x ≡ true) → p 46 ≡ true → a ≤ 255 → b ≤ 255 → c ≤ 255
+    → d ≤ 255 → list_all p (dotted a b c d) ≡ true
 all_dotted p a b c d digit dot ha hb hc hd =
     let la : list_all p (decimal a) ≡ true = all_weaker is_digit p digit (decimal a) (all_digits a (omega arith)) in
     let lb : list_all p (decimal b) ≡ true = all_weaker is_digit p digit (decimal b) (all_digits b (omega arith)) in
@@ -88,7 +93,8 @@ all_dotted p a b c d digit dot ha hb hc hd =
 all_dots : (p : ℕ → Bool) (n : ℕ) → ((x : ℕ) → is_digit x ≡ true → p x ≡ true) → p 46 ≡ true → n < 2 ^ 32 → list_all p (address_text (V4 n)) ≡ true
 all_dots p n digit dot h =
     ap (list_all p) (dots_are n)
-    ∙ all_dotted p (n / 2 ^ 24) (n / 2 ^ 16 % 2 ^ 8) (n / 2 ^ 8 % 2 ^ 8) (n % 2 ^ 8) digit dot (high_byte n h) (small_byte (n / 2 ^ 16)) (small_byte (n / 2 ^ 8)) (small_byte n)
+    ∙ all_dotted p (n / 2 ^ 24) (n / 2 ^ 16 % 2 ^ 8) (n / 2 ^ 8 % 2 ^ 8) (n % 2 ^ 8) digit dot (high_byte n h) (small_byte (n / 2 ^ 16))
+    (small_byte (n / 2 ^ 8)) (small_byte n)
 
 -- a number or a dot is neither a colon nor a bracket
 lacks_dots : (s n : ℕ) → 57 < s → n < 2 ^ 32 → lacks s (address_text (V4 n)) ≡ true
@@ -97,7 +103,8 @@ lacks_dots s n high h = all_dots (λ b. not (b == s)) n (λ x. digit_is_above s 
 v4_end-reads : (n port : ℕ) → n < 2 ^ 32 → port ≤ 65535 → v4_end (address_text (V4 n) ++ 58 ∷ decimal port) ≡ Ok (record { addr = V4 n; port = port })
 unfolding v4_end
 v4_end-reads n port h small =
-    let e : cut_at 58 (address_text (V4 n) ++ 58 ∷ decimal port) ≡ Ok (address_text (V4 n), decimal port) = cut-reads 58 (address_text (V4 n)) (decimal port) (lacks_dots 58 n (omega arith) h) in
+    let e : cut_at 58 (address_text (V4 n) ++ 58 ∷ decimal port) ≡ Ok (address_text (V4 n), decimal port) =
+    cut-reads 58 (address_text (V4 n)) (decimal port) (lacks_dots 58 n (omega arith) h) in
     let a : v4_of (address_text (V4 n)) ≡ Ok n = v4-reads n h in
     let p : number_of 65535 (decimal port) ≡ Ok port = number-reads 65535 port small (omega arith) in
     rw (e, a, p) refl
@@ -125,7 +132,13 @@ digits-read : (a b c d : ℕ) (rest : List ℕ) → a < 16 → b < 16 → c < 16
     → group_at (digit_text a ∷ digit_text b ∷ digit_text c ∷ digit_text d ∷ rest) ≡ Ok (((a * 16 + b) * 16 + c) * 16 + d, rest)
 unfolding group_at
 digits-read a b c d rest ha hb hc hd =
-    rw (hex-reads a (digit_text b ∷ digit_text c ∷ digit_text d ∷ rest) ha, hex-reads b (digit_text c ∷ digit_text d ∷ rest) hb, hex-reads c (digit_text d ∷ rest) hc, hex-reads d rest hd) refl
+    rw (
+      hex-reads a (digit_text b ∷ digit_text c ∷ digit_text d ∷ rest) ha,
+      hex-reads b
+          (digit_text c ∷ digit_text d ∷ rest) hb,
+      hex-reads c (digit_text d ∷ rest) hc,
+      hex-reads d rest hd,
+    ) refl
 
 digits_whole : (n : ℕ) → (((n / 2 ^ 8 / 16) * 16 + n / 2 ^ 8 % 16) * 16 + n % 2 ^ 8 / 16) * 16 + n % 2 ^ 8 % 16 ≡ n
 digits_whole n = omega (arith, div-add-mod' n 256, div-add-mod' (n / 256) 16, div-add-mod' (n % 256) 16)
@@ -146,7 +159,8 @@ quad_whole n =
     omega (arith, div-add-mod' n 65536, div-add-mod' (n / 2 ^ 16) 65536, div-add-mod' (n / 2 ^ 32) 65536)
 
 quad_reads_parts : (a b c d : ℕ) (rest : List ℕ) → a < 2 ^ 16 → b < 2 ^ 16 → c < 2 ^ 16 → d < 2 ^ 16
-    → quad_at (group_text a ++ 58 ∷ (group_text b ++ 58 ∷ (group_text c ++ 58 ∷ (group_text d ++ rest)))) ≡ Ok ((a * 65536 + b) * 4294967296 + (c * 65536 + d), rest)
+    → quad_at (group_text a ++ 58 ∷ (group_text b ++ 58 ∷ (group_text c ++ 58 ∷ (group_text d ++ rest))))
+    ≡ Ok ((a * 65536 + b) * 4294967296 + (c * 65536 + d), rest)
 unfolding quad_at
 quad_reads_parts a b c d rest ha hb hc hd =
     rw (pair-reads a b (58 ∷ (group_text c ++ 58 ∷ (group_text d ++ rest))) ha hb, pair-reads c d rest hc hd) refl
@@ -177,7 +191,8 @@ some_digits n h =
     let some : 0 < length (decimal a) = decimal_nonempty a (omega (arith, high_byte n h)) in
     omega (arith, length-append (decimal a) (46 ∷ rest))
 
-end_reads_at : (addr : Addr) (port : ℕ) → IsAddr addr → port ≤ 65535 → end_of (host_text addr ++ codes ":" ++ decimal port) ≡ Ok (record { addr = addr; port = port })
+end_reads_at : (addr : Addr) (port : ℕ) → IsAddr addr → port ≤ 65535
+    → end_of (host_text addr ++ codes ":" ++ decimal port) ≡ Ok (record { addr = addr; port = port })
 unfolding end_of
 end_reads_at (V4 n) port h small =
     ap end_of (append_assoc (address_text (V4 n)) (codes ":") (decimal port))
@@ -220,7 +235,8 @@ dots_short a b c d ha hb hc hd =
 v4_short : (n : ℕ) → n < 2 ^ 32 → length (address_text (V4 n)) ≤ 15
 v4_short n h =
     subst (λ (t : List ℕ). length t ≤ 15) (sym (dots_are n))
-    (dots_short (n / 2 ^ 24) (n / 2 ^ 16 % 2 ^ 8) (n / 2 ^ 8 % 2 ^ 8) (n % 2 ^ 8) (high_byte n h) (small_byte (n / 2 ^ 16)) (small_byte (n / 2 ^ 8)) (small_byte n))
+    (dots_short (n / 2 ^ 24) (n / 2 ^ 16 % 2 ^ 8) (n / 2 ^ 8 % 2 ^ 8) (n % 2 ^ 8) (high_byte n h) (small_byte (n / 2 ^ 16))
+    (small_byte (n / 2 ^ 8)) (small_byte n))
 
 hex_marks : (d : ℕ) → d < 16 → is_mark (digit_text d) ≡ true
 hex_marks d h = holds_below (λ k. is_mark (digit_text k)) 16 d h refl

@@ -1,5 +1,6 @@
 -- Events that are written read back.
-use Rattle.std.proofs.Common.{◌≡◌, ℕ, ◌^◌, ◌<◌, ◌≤◌, Bool, true, false, List, [], ◌∷◌, ◌++◌, length, refl, ◌∙◌, ap, sym, subst, arith, append_assoc, length-append, le-ltb}
+use Rattle.std.proofs.Common.{◌≡◌, ℕ, ◌^◌, ◌<◌, ◌≤◌, Bool, true, false, List, [], ◌∷◌, ◌++◌, length, refl, ◌∙◌, ap, sym, subst, arith, append_assoc}
+use Rattle.std.proofs.Common.{length-append, le-ltb}
 use Rattle.std.specs.Prelude.{◌&&◌, Ok, Option, Some, None, IfSome, is_some, nat_lt, not, codes, if◌then◌else◌}
 use Rattle.std.specs.Fmt.{decimal}
 use Rattle.std.proofs.lemmas.List.Folds.{list_all-append}
@@ -20,7 +21,8 @@ use Rattle.pfl_language.specs.declared.event.Event.TheVariants as events
 use Rattle.pfl_language.specs.declared.event.FrameEvent.TheVariants as frame
 use Rattle.pfl_lines.specs.declared.draft.EventDraft.{EventDraft}
 use Rattle.pfl_lines.specs.declared.draft.EventDraft.TheVariants as event_draft
-use Rattle.pfl_lines.specs.Commands.{packet_at, tick_at, kill_at, bare_node_event_at, flush_at, restart_at, cut_event_at, bare_frame_event_at, event_at, whole_event, packet_unless}
+use Rattle.pfl_lines.specs.Commands.{packet_at, tick_at, kill_at, bare_node_event_at, flush_at, restart_at, cut_event_at, bare_frame_event_at}
+use Rattle.pfl_lines.specs.Commands.{event_at, whole_event, packet_unless}
 use Rattle.pfl_lines.specs.Laws.{IsTyped, IsStateName, IsTypedEvent, is_mark}
 use Rattle.pfl_lines.specs.Numbers.{number_of, cut_at}
 use Rattle.pfl_lines.specs.Parts.{node_at, dir_at, name_of}
@@ -45,7 +47,8 @@ unfolding name_of
 name-reads name is =
     let creator : name.creator ≤ greatest = is.creator in
     let id : name.id < 2 ^ 64 = is.id in
-    let cut : cut_at 46 (decimal name.creator ++ 46 ∷ decimal name.id) ≡ Ok (decimal name.creator, decimal name.id) = cut-reads 46 (decimal name.creator) (decimal name.id) (number_lacks 46 name.creator (omega arith) (omega arith)) in
+    let cut : cut_at 46 (decimal name.creator ++ 46 ∷ decimal name.id) ≡ Ok (decimal name.creator, decimal name.id) =
+    cut-reads 46 (decimal name.creator) (decimal name.id) (number_lacks 46 name.creator (omega arith) (omega arith)) in
     ap name_of (append_assoc (decimal name.creator) (codes ".") (decimal name.id))
     ∙ rw (cut, number-reads greatest name.creator creator (omega arith), number-reads 18446744073709551615 name.id (omega arith) id) refl
 
@@ -88,7 +91,8 @@ abbrev pub draft_of : Event → EventDraft
 draft_of (events.At node (own.Packet dir p)) = event_draft.Packet node dir p
 draft_of e = event_draft.Whole e
 
-packet_reads : (node : NodeId) (dir : Dir) (p : PacketFields) → IsTyped p → packet_at (node_text node ∷ dir_text dir ∷ fields_words p) ≡ Ok (event_draft.Packet node dir p, [])
+packet_reads : (node : NodeId) (dir : Dir) (p : PacketFields) → IsTyped p
+    → packet_at (node_text node ∷ dir_text dir ∷ fields_words p) ≡ Ok (event_draft.Packet node dir p, [])
 unfolding packet_at
 packet_reads node dir p is = rw (node-reads node (dir_text dir ∷ fields_words p), dir-reads dir (fields_words p), fields-read p is) refl
 

@@ -1,5 +1,6 @@
 -- The lines of commands are read as those commands.
-use Rattle.std.proofs.Common.{◌≡◌, ℕ, ◌<◌, ◌≤◌, Bool, true, false, ◌&&◌, ◌||◌, List, [], ◌∷◌, ◌++◌, length, refl, ◌∙◌, ap, sym, arith, append_assoc, le-ltb, le-leb, leb-true, eqb-true}
+use Rattle.std.proofs.Common.{◌≡◌, ℕ, ◌<◌, ◌≤◌, Bool, true, false, ◌&&◌, ◌||◌, List, [], ◌∷◌, ◌++◌, length, refl, ◌∙◌, ap, sym, arith, append_assoc}
+use Rattle.std.proofs.Common.{le-ltb, le-leb, leb-true, eqb-true}
 use Rattle.std.specs.Prelude.{Option, Some, None, Ok, Err, nat_le, ◌==◌, bytes_eq, codes}
 use Rattle.std.specs.Fmt.{decimal}
 use Rattle.std.specs.List.{AllByRecursion, list_all, list_any, join_with_byte}
@@ -14,11 +15,13 @@ use Rattle.pfl_language.specs.declared.event.FrameEvent.TheVariants as frame
 use Rattle.pfl_language.specs.declared.command.Command.{Command}
 use Rattle.pfl_language.specs.declared.command.Command.TheVariants as commands
 use Rattle.pfl_language.specs.BranchWords.{is_letter, is_name_byte}
-use Rattle.pfl_lines.specs.Commands.{begins_event, step_at, back_at, forward_at, fork_at, drop_at, show_at, past_at, why_at, why_event_at, why_place_at, frame_at, excise_at, restore_at, log_at, command_at, command_of, whole_step, whole_why, parsed}
+use Rattle.pfl_lines.specs.Commands.{begins_event, step_at, back_at, forward_at, fork_at, drop_at, show_at, past_at, why_at, why_event_at}
+use Rattle.pfl_lines.specs.Commands.{why_place_at, frame_at, excise_at, restore_at, log_at, command_at, command_of, whole_step, whole_why, parsed}
 use Rattle.pfl_lines.specs.declared.fault.LineFault.TheVariants.{Number}
 use Rattle.pfl_lines.specs.EventWords.{is_event_word, words_of_events}
 use Rattle.pfl_lines.specs.Numbers.{number_of}
-use Rattle.pfl_lines.specs.Laws.{CommandsReadBack, EventWordsAreNoNumbers, IsBranchWord, IsTypedCommand, IsTypedEvent, NamesAreWords, StepsReadBack, WhysReadBack, is_mark, is_plain}
+use Rattle.pfl_lines.specs.Laws.{CommandsReadBack, EventWordsAreNoNumbers, IsBranchWord, IsTypedCommand, IsTypedEvent, NamesAreWords, StepsReadBack}
+use Rattle.pfl_lines.specs.Laws.{WhysReadBack, is_mark, is_plain}
 use Rattle.pfl_lines.specs.Parts.{branch_at}
 use Rattle.pfl_lines.specs.Written.{command_text, event_words, event_text}
 use Rattle.pfl_lines.proofs.WrittenNumbers.{and-first, and-second, and-both, all_weaker}
@@ -41,7 +44,8 @@ one_of false b P first second e = second e
 name_marks : (b : ℕ) → is_name_byte b ≡ true → is_mark b ≡ true
 name_marks b is =
     one_of (is_letter b || (nat_le 48 b && nat_le b 57)) (b == 45) (is_mark b ≡ true)
-    (one_of (is_letter b) (nat_le 48 b && nat_le b 57) (is_mark b ≡ true) (marks 97 122 b (omega arith) (omega arith)) (marks 48 57 b (omega arith) (omega arith)))
+    (one_of (is_letter b) (nat_le 48 b && nat_le b 57) (is_mark b ≡ true) (marks 97 122 b (omega arith) (omega arith))
+    (marks 48 57 b (omega arith) (omega arith)))
     (λ e. ap is_mark (eqb-true b 45 e)) is
 
 pub names_are_words : NamesAreWords
@@ -51,7 +55,8 @@ names_are_words (c ∷ cs) is =
     let few : length cs ≤ 15 = leb-true (length cs) 15 (and-second (is_letter c && list_all is_name_byte cs) _ is) in
     and-both (nat_le 1 (length (c ∷ cs)) && nat_le (length (c ∷ cs)) 32) (list_all is_mark (c ∷ cs))
     (and-both (nat_le 1 (length (c ∷ cs))) (nat_le (length (c ∷ cs)) 32) (le-leb 1 (length (c ∷ cs)) (omega arith)) (le-leb (length (c ∷ cs)) 32 (omega arith)))
-    (and-both _ _ (marks 97 122 c (omega arith) (omega arith) (and-first _ _ front)) (all_weaker is_name_byte is_mark name_marks cs (and-second (is_letter c) _ front)))
+    (and-both _ _ (marks 97 122 c (omega arith) (omega arith) (and-first _ _ front))
+    (all_weaker is_name_byte is_mark name_marks cs (and-second (is_letter c) _ front)))
 
 branch-reads : (name : List ℕ) (ws : List (List ℕ)) → IsBranchWord name → branch_at (name ∷ ws) ≡ Ok (name, ws)
 branch-reads name ws is = rw (le-ltb 32 (length name) (plain-is 32 name is).short) refl
@@ -199,7 +204,8 @@ command-plain : (c : Command) → IsTypedCommand c → ArePlain (command_bounds 
 command-plain (commands.Step name e) is = step-plain 4 (codes "step") name e refl is
 command-plain (commands.Back name n) is = count-plain 4 (codes "back") name n refl is
 command-plain (commands.Forward name n) is = count-plain 7 (codes "forward") name n refl is
-command-plain (commands.Fork from place name) is = (plain-is 4 (codes "fork") refl, (plain-is 32 from is.0, (number_plain place is.1, (plain-is 32 name is.2, tt))))
+command-plain (commands.Fork from place name) is =
+    (plain-is 4 (codes "fork") refl, (plain-is 32 from is.0, (number_plain place is.1, (plain-is 32 name is.2, tt))))
 command-plain (commands.Drop name) is = branch-plain 4 (codes "drop") name refl is
 command-plain (commands.Show name) is = branch-plain 4 (codes "show") name refl is
 command-plain (commands.Past name place) is = count-plain 4 (codes "past") name place refl is
@@ -252,7 +258,8 @@ no_event_word word n false is reads = refl
 -- ---- the commands
 
 command-reads : (c : Command) → IsTypedCommand c → command_of (command_words c) ≡ Ok c
-unfolding command_of command_at step_at back_at forward_at fork_at drop_at show_at past_at why_at why_event_at why_place_at frame_at excise_at restore_at log_at whole_step whole_why
+unfolding command_of command_at step_at back_at forward_at fork_at drop_at show_at past_at why_at why_event_at why_place_at frame_at
+    excise_at restore_at log_at whole_step whole_why
 command-reads (commands.Step name e) is = rw (branch-reads name (event_words e) is.0, event-reads e is.1, whole-reads e is.1) refl
 command-reads (commands.Back name n) is = rw (branch-reads name (decimal n ∷ []) is.0, number n is.1) refl
 command-reads (commands.Forward name n) is = rw (branch-reads name (decimal n ∷ []) is.0, number n is.1) refl
@@ -271,7 +278,8 @@ command-reads (commands.Restore name) is = rw (branch-reads name [] is) refl
 command-reads (commands.Log name) is = rw (branch-reads name [] is) refl
 
 -- a line of plain words for which it has room says what the words say
-line-reads : (bounds : List ℕ) (ws : List (List ℕ)) (c : Command) → ArePlain bounds ws → room bounds ≤ 512 → command_of ws ≡ Ok c → parsed (join_with_byte 32 ws) ≡ Ok c
+line-reads : (bounds : List ℕ) (ws : List (List ℕ)) (c : Command) → ArePlain bounds ws → room bounds ≤ 512 → command_of ws ≡ Ok c
+    → parsed (join_with_byte 32 ws) ≡ Ok c
 unfolding parsed
 line-reads bounds ws c plain fits reads = rw (checked-joined bounds ws plain fits, words-joined bounds ws plain) reads
 

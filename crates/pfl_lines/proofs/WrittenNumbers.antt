@@ -1,5 +1,6 @@
 -- Numbers that are written in decimal read back.
-use Rattle.std.proofs.Common.{◌≡◌, ℕ, ◌<◌, ◌≤◌, ◌^◌, Bool, true, false, cond, ◌&&◌, List, [], ◌∷◌, ◌++◌, length, refl, ◌∙◌, ap, sym, subst, arith, rules, le-leb, leb-true, ne_eqb, eqb-true, zero, suc, inl, inr, eq-or-lt_of_le}
+use Rattle.std.proofs.Common.{◌≡◌, ℕ, ◌<◌, ◌≤◌, ◌^◌, Bool, true, false, cond, ◌&&◌, List, [], ◌∷◌, ◌++◌, length, refl, ◌∙◌, ap, sym, subst, arith}
+use Rattle.std.proofs.Common.{rules, le-leb, leb-true, ne_eqb, eqb-true, zero, suc, inl, inr, eq-or-lt_of_le}
 use Rattle.std.specs.Prelude.{Result, Ok, Err, nat_le, not, ◌==◌, if◌then◌else◌}
 use Rattle.std.specs.List.{list_all}
 use Rattle.std.specs.Fmt.{decimal}

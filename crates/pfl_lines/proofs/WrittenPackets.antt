@@ -171,7 +171,10 @@ segment-plain Tcp p is =
         number-plain 10 p.seq (omega arith) (omega arith) (omega arith),
         (
           number-plain 10 p.ack (omega arith) (omega arith) (omega arith),
-          (number-plain 5 p.window (omega arith) (omega arith) (omega arith), (number-plain 5 p.len (omega arith) (omega arith) (omega arith), scale-plain p.scale is.packet.scale)),
+          (
+            number-plain 5 p.window (omega arith) (omega arith) (omega arith),
+            (number-plain 5 p.len (omega arith) (omega arith) (omega arith), scale-plain p.scale is.packet.scale),
+          ),
         ),
       ),
     )

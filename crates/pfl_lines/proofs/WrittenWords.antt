@@ -1,5 +1,6 @@
 -- Words that are joined by one space are the words of that line.
-use Rattle.std.proofs.Common.{◌≡◌, ℕ, ◌+◌, ◌<◌, ◌≤◌, true, false, List, [], ◌∷◌, ◌++◌, length, refl, ◌∙◌, ap, arith, le-leb, leb-true, ne_eqb, le-ltb, length-append}
+use Rattle.std.proofs.Common.{◌≡◌, ℕ, ◌+◌, ◌<◌, ◌≤◌, true, false, List, [], ◌∷◌, ◌++◌, length, refl, ◌∙◌, ap, arith, le-leb, leb-true, ne_eqb, le-ltb}
+use Rattle.std.proofs.Common.{length-append}
 use Rattle.std.specs.Prelude.{⊤, Ok, Err, nat_le, not, ◌==◌, ◌||◌, if◌then◌else◌}
 use Rattle.std.specs.List.{list_all, join_with_byte}
 use Rattle.std.proofs.lemmas.List.Folds.{list_all-append}
@@ -45,7 +46,8 @@ words_next b (c ∷ w) bytes marks =
     let e : is_blank b ≡ false = mark_is b (and-first _ _ marks) in
     let rest : list_all is_mark (c ∷ w) ≡ true = and-second (is_mark b) _ marks in
     let f : is_blank c ≡ false = mark_is c (and-first _ _ rest) in
-    ap (λ t. if t then words (c ∷ w ++ 32 ∷ bytes) else if not (is_blank c) then with_first b (words (c ∷ w ++ 32 ∷ bytes)) else (b ∷ []) ∷ words (c ∷ w ++ 32 ∷ bytes)) e
+    ap (λ t. if t then words (c ∷ w ++ 32 ∷ bytes) else if not (is_blank c) then with_first b (words (c ∷ w ++ 32 ∷ bytes))
+    else (b ∷ []) ∷ words (c ∷ w ++ 32 ∷ bytes)) e
     ∙ ap (λ t. if not t then with_first b (words (c ∷ w ++ 32 ∷ bytes)) else (b ∷ []) ∷ words (c ∷ w ++ 32 ∷ bytes)) f
     ∙ ap (with_first b) (words_next c w bytes rest)
 
@@ -95,7 +97,8 @@ text-joined (most ∷ bounds) (w ∷ v ∷ ws) all =
     ∙ and-both (list_all is_text w) (list_all is_text (32 ∷ join_with_byte 32 (v ∷ ws))) (plain_text most w all.0) (text-joined bounds (v ∷ ws) all.1)
 text-joined [] (w ∷ ws) all = absurd all
 
-pub checked-joined : (bounds : List ℕ) (ws : List (List ℕ)) → ArePlain bounds ws → room bounds ≤ 512 → checked (join_with_byte 32 ws) ≡ Ok (join_with_byte 32 ws)
+pub checked-joined : (bounds : List ℕ) (ws : List (List ℕ)) → ArePlain bounds ws → room bounds ≤ 512
+    → checked (join_with_byte 32 ws) ≡ Ok (join_with_byte 32 ws)
 checked-joined bounds ws all short =
     let line : List ℕ = join_with_byte 32 ws in
     let few : length line ≤ room bounds = length-joined bounds ws all in

@@ -3,7 +3,8 @@
 ghost use Rattle.std.specs.Prelude.{◌≡◌, ◌<◌, IfOk};
 ghost use Rattle.pfl_lines.specs.inner.Readings.{Gives};
 ghost use Rattle.pfl_lines.specs.inner.Addresses.{v4_front, v4_read, v4_end_read};
-ghost use Rattle.pfl_lines.specs.Addresses.{hex_digit, mark_at, hex_at, group_at, pair_at, quad_at, v6_at, v6_of, v6_end, end_of, addr_of, net_at_word, single_port_of, port_range_of, ports_at_word, v4_pool, v6_pool, pool_at_word};
+ghost use Rattle.pfl_lines.specs.Addresses.{hex_digit, mark_at, hex_at, group_at, pair_at, quad_at, v6_at, v6_of, v6_end, end_of, addr_of};
+ghost use Rattle.pfl_lines.specs.Addresses.{net_at_word, single_port_of, port_range_of, ports_at_word, v4_pool, v6_pool, pool_at_word};
 
 use crate::fault::LineFault;
 use crate::numbers::{cut, number_before, number_of};

@@ -4,7 +4,11 @@ ghost use Rattle.std.specs.Prelude.{◌≡◌, false, bytes_eq, codes};
 ghost use Rattle.std.specs.List.{list_all};
 ghost use Rattle.pfl_lines.specs.Words.{words};
 ghost use Rattle.pfl_lines.specs.inner.Readings.{Gives};
-ghost use Rattle.pfl_lines.specs.Commands.{packet_at, tick_at, kill_at, bare_node_event_at, flush_at, restart_at, ticket_at, cut_event_at, bare_frame_event_at, node_event_by, frame_event_by, event_by, event_at, step_at, back_at, forward_at, fork_at, drop_at, show_at, past_at, begins_event, why_event_at, why_place_at, why_at, frame_at, excise_at, restore_at, log_at, names_at, command_by, command_at, finished, whole_event, whole_step, whole_why, whole_command, command_of, is_text, checked, parsed};
+ghost use Rattle.pfl_lines.specs.Commands.{packet_at, tick_at, kill_at, bare_node_event_at, flush_at, restart_at, ticket_at, cut_event_at};
+ghost use Rattle.pfl_lines.specs.Commands.{bare_frame_event_at, node_event_by, frame_event_by, event_by, event_at, step_at, back_at, forward_at};
+ghost use Rattle.pfl_lines.specs.Commands.{fork_at, drop_at, show_at, past_at, begins_event, why_event_at, why_place_at, why_at, frame_at, excise_at};
+ghost use Rattle.pfl_lines.specs.Commands.{restore_at, log_at, names_at, command_by, command_at, finished, whole_event, whole_step, whole_why};
+ghost use Rattle.pfl_lines.specs.Commands.{whole_command, command_of, is_text, checked, parsed};
 
 use crate::draft::{CommandDraft, EventDraft};
 use crate::event_words::{bare_frame_event, bare_node_event, is_event_word};

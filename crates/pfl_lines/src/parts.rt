@@ -3,7 +3,8 @@
 ghost use Rattle.std.specs.Prelude.{◌≡◌, ◌≤◌, IfOk};
 ghost use Rattle.pfl_lines.specs.Words.{words};
 ghost use Rattle.pfl_lines.specs.inner.Readings.{Gives};
-ghost use Rattle.pfl_lines.specs.Parts.{number_at, end_at, node_at, dir_at, numbered_proto, proto_of, proto_at, name_of, name_at, with_letter, letters_of, flags_at_word, flags_at, branch_at};
+ghost use Rattle.pfl_lines.specs.Parts.{number_at, end_at, node_at, dir_at, numbered_proto, proto_of, proto_at, name_of, name_at, with_letter};
+ghost use Rattle.pfl_lines.specs.Parts.{letters_of, flags_at_word, flags_at, branch_at};
 
 use crate::addresses::end_of;
 use crate::fault::LineFault;

@@ -8,7 +8,9 @@ ghost use Rattle.pfl_base.specs.Numbers.{greatest};
 ghost use Rattle.pfl_lines.specs.Words.{words};
 ghost use Rattle.pfl_lines.specs.inner.Readings.{Gives};
 ghost use Rattle.pfl_lines.specs.Parts.{number_at, proto_at};
-ghost use Rattle.pfl_lines.specs.Rules.{action_at, rule_dir_at, net_at, ports_at, pool_at, any_of, any_at, class_at, behind_word, option_at, flag_word_at, any_flags_at, behind_class, timeout_at, timeouts_at, option_names, misplaced, rule_ended, rule_of};
+ghost use Rattle.pfl_lines.specs.Rules.{action_at, rule_dir_at, net_at, ports_at, pool_at, any_of, any_at, class_at, behind_word, option_at};
+ghost use Rattle.pfl_lines.specs.Rules.{flag_word_at, any_flags_at, behind_class, timeout_at, timeouts_at, option_names, misplaced, rule_ended};
+ghost use Rattle.pfl_lines.specs.Rules.{rule_of};
 
 use crate::addresses::{net_at_word, pool_at_word, ports_at_word};
 use crate::fault::LineFault;

@@ -5,7 +5,9 @@ ghost use Rattle.std.specs.Option.{option_map};
 ghost use Rattle.pfl_lines.specs.Words.{words};
 ghost use Rattle.pfl_lines.specs.inner.Parts.{parts_behind};
 ghost use Rattle.pfl_lines.specs.inner.Readings.{Gives};
-ghost use Rattle.pfl_lines.specs.Search.{parts_of, judged_at, passed_at, unpassed_at, question_at, question_by, scope_at, goal_at, goal_of, any_cut_at, any_frame_at, any_frame_by, given_at, move_at, move_of, choice_of, choices_of, search_of, searched, commanded, script_of, parsed_script, says_search, SaysCommand};
+ghost use Rattle.pfl_lines.specs.Search.{parts_of, judged_at, passed_at, unpassed_at, question_at, question_by, scope_at, goal_at, goal_of};
+ghost use Rattle.pfl_lines.specs.Search.{any_cut_at, any_frame_at, any_frame_by, given_at, move_at, move_of, choice_of, choices_of, search_of};
+ghost use Rattle.pfl_lines.specs.Search.{searched, commanded, script_of, parsed_script, says_search, SaysCommand};
 
 use crate::commands::{checked, command_of, event_at, parse_line, whole_event};
 use crate::event_words::bare_frame_event;

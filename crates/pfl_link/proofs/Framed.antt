@@ -46,7 +46,8 @@ module _ {K X Y : Type 0} {R : K → K → Ordering} (f : X → Y) where
   len-map_values m = length-valued (λ e. (e.0, f e.1)) m.list
 
   -- what is set is set under its value
-  pub map_values-set_at : IsTotalOrder R → IsAntisymmetric R → (m : Map R X) (k : K) (at : Option X) → map_values f (set_at m k at) ≡ set_at (map_values f m) k (option_map f at)
+  pub map_values-set_at : IsTotalOrder R → IsAntisymmetric R → (m : Map R X) (k : K) (at : Option X)
+      → map_values f (set_at m k at) ≡ set_at (map_values f m) k (option_map f at)
   map_values-set_at o exact m k at = same_map o exact _ _ (λ q.
       get-map_values (set_at m k at) q ∙ (ap (option_map f) (get-set_at o exact m k at q)
       ∙ (through (eq_by_cmp R q k) (get m q) ∙ (ap (cond (eq_by_cmp R q k) (option_map f at)) (sym (get-map_values m q))
@@ -67,4 +68,6 @@ entries_valued (r ∷ rows) = ap (λ (es : List (ℕ × InFlight)). entry_of r �
 -- frames in the order of their tickets are the entries of their map
 pub entries-frames_of : (rows : List Ticketed) → IsRising nat_cmp ticket_of rows → maps.entries (frames_of rows) ≡ map entry_of rows
 entries-frames_of rows rising =
-    entries-map_values (λ r. r.frame) (map_of nat_cmp ticket_of rows) ∙ (ap (map {B = ℕ × InFlight} (λ (e : ℕ × Ticketed). (e.0, (e.1).frame))) (entries-map_of nat_cmp_total ticket_of rows rising) ∙ entries_valued rows)
+    entries-map_values (λ r. r.frame) (map_of nat_cmp ticket_of rows)
+    ∙ (ap (map {B = ℕ × InFlight} (λ (e : ℕ × Ticketed). (e.0, (e.1).frame))) (entries-map_of nat_cmp_total ticket_of rows rising)
+    ∙ entries_valued rows)

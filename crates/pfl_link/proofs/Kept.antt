@@ -1,5 +1,6 @@
 -- What each operation keeps of a link.
-use Rattle.std.proofs.Common.{◌≡◌, ◌≤◌, ◌<◌, ◌+◌, ◌-◌, ℕ, Bool, true, false, cond, Option, Some, None, is_some, inl, inr, sym, ◌∙◌, ap, subst, refl, arith, nat_le, length, length-take}
+use Rattle.std.proofs.Common.{◌≡◌, ◌≤◌, ◌<◌, ◌+◌, ◌-◌, ℕ, Bool, true, false, cond, Option, Some, None, is_some, inl, inr, sym, ◌∙◌, ap, subst, refl}
+use Rattle.std.proofs.Common.{arith, nat_le, length, length-take}
 use Rattle.std.proofs.lemmas.Bool.Decides.{nat_tests}
 use Rattle.std.proofs.lemmas.Cmp.{nat_cmp_total}
 use Rattle.std.proofs.lemmas.Map.Lookups.{exact_unsigned}
@@ -81,7 +82,8 @@ module _ (l : Link) (is : IsLink l) where
   -- a frame that is cut is no longer than it was
   pub cut_kept : (ticket : ℕ) (f : InFlight) (n : ℕ) → maps.get l.frames ticket ≡ Some f → IsLink (with_place ticket (Some (cut_to f n)) l.next l)
   cut_kept ticket f n stood = record {
-    few = rw (len-insert nat_cmp_total l.frames ticket (cut_to f n) ∙ ap (λ (o : Option InFlight). cond (is_some o) (maps.len l.frames) (maps.len l.frames + 1)) stood) is.few;
+    few = rw (len-insert nat_cmp_total l.frames ticket (cut_to f n)
+        ∙ ap (λ (o : Option InFlight). cond (is_some o) (maps.len l.frames) (maps.len l.frames + 1)) stood) is.few;
     below = λ q h found. elim (get-set_at_cases nat_cmp_total exact_unsigned l.frames ticket (Some (cut_to f n)) q h found) [
       | inl here ↦ is.below q f (ap (maps.get l.frames) here.0 ∙ stood)
       | inr there ↦ is.below q h there.1
@@ -95,4 +97,5 @@ module _ (l : Link) (is : IsLink l) where
 
 -- to take what does not stand there changes nothing
 pub nothing_taken : (l : Link) (ticket next : ℕ) → next ≡ l.next → None ≡ maps.get l.frames ticket → with_place ticket None next l ≡ l
-nothing_taken l ticket next same none = λ i. record { limit = l.limit; mtu = l.mtu; next = same i; frames = set_at-same nat_cmp_total exact_unsigned l.frames ticket None (sym none) i }
+nothing_taken l ticket next same none =
+    λ i. record { limit = l.limit; mtu = l.mtu; next = same i; frames = set_at-same nat_cmp_total exact_unsigned l.frames ticket None (sym none) i }

@@ -22,12 +22,14 @@ pub len_frames : (rows : List Ticketed) → maps.len (by_ticket rows) ≡ maps.l
 len_frames rows = sym (len-map_values (λ r. r.frame) (by_ticket rows))
 
 -- the frame under a ticket is that of the row
-pub get_frame : (rows : List Ticketed) (ticket : ℕ) (row : Option Ticketed) → row ≡ maps.get (by_ticket rows) ticket → option_map (λ r. r.frame) row ≡ maps.get (frames_of rows) ticket
+pub get_frame : (rows : List Ticketed) (ticket : ℕ) (row : Option Ticketed) → row ≡ maps.get (by_ticket rows) ticket
+    → option_map (λ r. r.frame) row ≡ maps.get (frames_of rows) ticket
 get_frame rows ticket row is = ap (option_map (λ r. r.frame)) is ∙ sym (get-map_values (λ r. r.frame) (by_ticket rows) ticket)
 
 -- a link without rows is the empty one,
 pub empty_is : (limit mtu next : ℕ) (rows : RowList Ticketed) → rows.list ≡ [] → link_of limit mtu next rows ≡ empty_link limit mtu next
-empty_is limit mtu next rows is = ap (λ (f : Map nat_cmp InFlight). record { limit = limit; mtu = mtu; next = next; frames = f }) (ap frames_of is ∙ frames_of-none)
+empty_is limit mtu next rows is =
+    ap (λ (f : Map nat_cmp InFlight). record { limit = limit; mtu = mtu; next = next; frames = f }) (ap frames_of is ∙ frames_of-none)
 
 empty_link_is : (limit mtu next : ℕ) → next ≤ 4294967295 → IsLink (empty_link limit mtu next)
 empty_link_is limit mtu next h = record {
@@ -39,7 +41,8 @@ empty_link_is limit mtu next h = record {
 
 -- and it is kept
 pub empty_kept : (limit mtu next : ℕ) (rows : RowList Ticketed) → rows.list ≡ [] → rows.limit ≡ limit → next ≤ 4294967295 → IsKept limit mtu next rows
-empty_kept limit mtu next rows none room h = record { link = subst IsLink (sym (empty_is limit mtu next rows none)) (empty_link_is limit mtu next h); room = room }
+empty_kept limit mtu next rows none room h =
+    record { link = subst IsLink (sym (empty_is limit mtu next rows none)) (empty_link_is limit mtu next h); room = room }
 
 -- The row goes under the ticket, and the frame is the row's. `whole` is the link whose fields are the others.
 module _ (limit mtu next : ℕ) (rows : RowList Ticketed) (kept : IsKept limit mtu next rows) (whole : Link) (fields : link_of limit mtu next rows ≡ whole)

@@ -23,7 +23,8 @@ module _ {K X Y : Type 0} (R : K → K → Ordering) (f : X → Y) where
   -- other values under the same keys stand in the same order
   pub is_sorted-valued : (es : List (K × X)) → is_sorted R (map (λ e. (e.0, f e.1)) es) ≡ is_sorted R es
   is_sorted-valued [] = refl
-  is_sorted-valued (e ∷ es) = ap (λ b. b && is_sorted R (map (λ x. (x.0, f x.1)) es)) (below_all-valued e.0 es) ∙ ap (λ b. below_all R e.0 es && b) (is_sorted-valued es)
+  is_sorted-valued (e ∷ es) = ap (λ b. b && is_sorted R (map (λ x. (x.0, f x.1)) es)) (below_all-valued e.0 es)
+      ∙ ap (λ b. below_all R e.0 es && b) (is_sorted-valued es)
 
 -- the map with another value at each key
 unfoldable pub map_values : {K X Y : Type 0} {R : K → K → Ordering} → (X → Y) → Map R X → Map R Y

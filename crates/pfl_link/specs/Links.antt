@@ -56,10 +56,12 @@ with_frame l ticket f = record l { frames = maps.insert l.frames ticket f }
 
 -- a frame is stored as its receiver and its bytes
 abbrev pub coded_in_flight : Coded InFlight
-coded_in_flight = code_by (NodeId × List ℕ) (coded× node_id.the_row.coded (coded_list coded_ℕ)) (λ f. (f.to, f.bytes)) (λ p. record { to = p.0; bytes = p.1 }) (λ _. refl)
+coded_in_flight = code_by (NodeId × List ℕ) (coded× node_id.the_row.coded (coded_list coded_ℕ)) (λ f. (f.to, f.bytes))
+    (λ p. record { to = p.0; bytes = p.1 }) (λ _. refl)
 
 -- a link is stored as the tuple of its fields
 abbrev pub coded_link : Coded Link
 coded_link =
-    code_by (ℕ × (ℕ × (ℕ × Map nat_cmp InFlight))) (coded× coded_ℕ (coded× coded_ℕ (coded× coded_ℕ (maps.code coded_ℕ coded_in_flight)))) (λ l. (l.limit, (l.mtu, (l.next, l.frames))))
+    code_by (ℕ × (ℕ × (ℕ × Map nat_cmp InFlight))) (coded× coded_ℕ (coded× coded_ℕ (coded× coded_ℕ (maps.code coded_ℕ coded_in_flight))))
+    (λ l. (l.limit, (l.mtu, (l.next, l.frames))))
     (λ p. record { limit = p.0; mtu = p.1.0; next = p.1.1.0; frames = p.1.1.1 }) (λ _. refl)

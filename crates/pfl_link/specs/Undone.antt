@@ -40,5 +40,6 @@ HasSameCopy (change.Cut f n) = Unit {0}
 -- what is kept is stored as the tuple of its fields
 abbrev pub coded_link_undone : Coded LinkUndone
 coded_link_undone =
-    code_by (ℕ × (Option InFlight × LinkChange)) (coded× coded_ℕ (coded× (coded_option coded_in_flight) link_change.the_row.coded)) (λ u. (u.ticket, (u.frame, u.change)))
+    code_by (ℕ × (Option InFlight × LinkChange)) (coded× coded_ℕ (coded× (coded_option coded_in_flight) link_change.the_row.coded))
+    (λ u. (u.ticket, (u.frame, u.change)))
     (λ p. record { ticket = p.0; frame = p.1.0; change = p.1.1 }) (λ _. refl)

@@ -1,7 +1,8 @@
 //! The merge, and what is behind.
 
 ghost use Rattle.std.specs.Prelude.{◌≡◌};
-ghost use Rattle.pfl_merge.specs.Merging.{is_ahead as is_further, stale_source, stale_destination, stale_src as behind_src, stale_dst as behind_dst, last_use as used_last, merged};
+ghost use Rattle.pfl_merge.specs.Merging.{is_ahead as is_further, stale_source, stale_destination, stale_src as behind_src, stale_dst as behind_dst};
+ghost use Rattle.pfl_merge.specs.Merging.{last_use as used_last, merged};
 ghost use Rattle.pfl_track.specs.States.{IsState};
 ghost use Rattle.pfl_merge.specs.Laws.{Keeps, Rises, SourceInOrder, DestinationInOrder};
 

@@ -21,7 +21,8 @@ one_fits limit entries least none = grind (arith, nat_tests)
 pub fresh-asks : (l : Limits) (r : Rules) (boot clock : ℕ) → 1 ≤ l.queue → is_overfull (ask (record (new_node l r boot 1 0) { clock = clock }) no_name) ≡ false
 fresh-asks l r boot clock least = one_fits l.queue (maps.len (maps.empty {X = Mark} {R = name_cmp})) least (len-empty name_cmp Mark)
 
-pub asks-as : (n : Node) (l : Limits) (r : Rules) (boot clock : ℕ) → n ≡ new_node l r boot 1 0 → 1 ≤ l.queue → is_overfull (ask (record n { clock = clock }) no_name) ≡ false
+pub asks-as : (n : Node) (l : Limits) (r : Rules) (boot clock : ℕ) → n ≡ new_node l r boot 1 0 → 1 ≤ l.queue
+    → is_overfull (ask (record n { clock = clock }) no_name) ≡ false
 asks-as n l r boot clock is least = ap (λ (m : Node). is_overfull (ask (record m { clock = clock }) no_name)) is ∙ fresh-asks l r boot clock least
 
 -- what it is then

@@ -51,7 +51,12 @@ pub retried-counted : (n : Node) → is_overcounted (retried_client n) ≡ is_ov
 unfolding retried_client
 retried-counted n = by (asks_again n.client) (is_requested n.queue no_name)
   where
-    by : (a b : Bool) → is_overcounted (record (if a then push_if (not b) (record n { queue = if b then n.queue else record n.queue { requests = n.queue.requests ++ no_name ∷ [] } }) else n) { client = retried n.client n.clock }) ≡ is_overcounted n
+    by : (a b : Bool) → is_overcounted
+        (record (if a then push_if (not b)
+        (record n { queue = if b then n.queue else record n.queue { requests = n.queue.requests ++ no_name ∷ [] } }) else n) {
+          client =
+              retried n.client n.clock;
+        }) ≡ is_overcounted n
     by true true = refl
     by true false = refl
     by false b = refl
@@ -67,7 +72,8 @@ full_alone true = refl
 full_alone false = refl
 
 -- else its end is judged
-pub retry-late : (n : Node) → bulk.ask_refusal n.client n.limits.bulk_ms n.clock ≡ None → is_overcounted n ≡ false → retry_refusal n ≡ points_refusal (retried_client n ∷ [])
+pub retry-late : (n : Node) → bulk.ask_refusal n.client n.limits.bulk_ms n.clock ≡ None → is_overcounted n ≡ false
+    → retry_refusal n ≡ points_refusal (retried_client n ∷ [])
 retry-late n e low =
     ap (λ (o : Option Refusal). option_or o (refused_by ((is_overfull (retried_client n), QueueFull) ∷ []))) e
     ∙ (full_alone (is_overfull (retried_client n))

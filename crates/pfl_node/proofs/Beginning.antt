@@ -14,7 +14,8 @@ use Rattle.pfl_node.specs.Starting.{with_new}
 use Rattle.pfl_receive.proofs.ForCallers.desk.{keeps_next_id, put-node}
 
 -- its name was on no queue
-pub fresh-name : (n : Node) (name : StateName) → AreParts n → name.creator ≡ n.creator → name.id ≡ n.next_id → (k : Mark) → maps.get n.queue.marks name ≡ Some k → ⊥
+pub fresh-name : (n : Node) (name : StateName) → AreParts n → name.creator ≡ n.creator → name.id ≡ n.next_id → (k : Mark)
+    → maps.get n.queue.marks name ≡ Some k → ⊥
 fresh-name n name is creator id k at = let below = (is.marks name k at).0 creator in absurd (omega (arith, id, below))
 
 within : (b : Bool) (len limit : ℕ) → len < limit → cond b len (len + 1) ≤ limit
@@ -27,7 +28,8 @@ started-node n s is may =
     let next = keeps_next_id n (n.next_id + 1) is (omega arith) in
     let id = may.id in
     put-node (record n { next_id = n.next_id + 1 }) s next (OwnsKeys-unused n.states s may.unused)
-    (subst (λ (k : ℕ). k ≤ n.limits.states) (sym (len-insert names_total n.states s.name s)) (within (maps.contains_key n.states s.name) (maps.len n.states) n.limits.states may.room))
+    (subst (λ (k : ℕ). k ≤ n.limits.states) (sym (len-insert names_total n.states s.name s))
+    (within (maps.contains_key n.states s.name) (maps.len n.states) n.limits.states may.room))
     (record { is = may.is; given = λ own. omega arith; rule = may.rule; last = may.last; peer_change = may.peer_change; updates = may.updates })
     (λ k at. absurd (fresh-name n s.name is may.creator may.id k at))
 

@@ -14,7 +14,7 @@ use Rattle.pfl_edits.specs.Maps.{entries_sorted}
 use Rattle.pfl_edits.proofs.ForCallers.{len-entries}
 use Rattle.pfl_receive.specs.table.Tables.{States}
 use Rattle.pfl_track.specs.declared.state.State.{State}
-use Rattle.pfl_receive.specs.desk.Changes.{count_lost, without_held, is_held, forgotten, tell_clear}
+use Rattle.pfl_receive.specs.desk.Changes.{count_lost, without_held, is_held, forgotten, announce_clear}
 use Rattle.pfl_receive.specs.desk.Drafts.{Draft, Writes}
 use Rattle.pfl_receive.specs.desk.Nodes.{Node}
 use Rattle.pfl_receive.proofs.ForCallers.desk.{writes-none, writes-then, writes-more}
@@ -26,17 +26,20 @@ use Rattle.pfl_node.proofs.Expired.{Entries, left, right, less_is}
 others_stay : (name : StateName) (es : Entries) → T (below_all name_cmp name es) → filter (λ e. not (eq_by_cmp name_cmp name e.0)) es ≡ es
 others_stay name [] t = refl
 others_stay name (e ∷ es) t =
-    ap (λ r. cond (not (is_eq r)) (e ∷ filter (λ g. not (eq_by_cmp name_cmp name g.0)) es) (filter (λ g. not (eq_by_cmp name_cmp name g.0)) es)) (less_is _ (left _ _ t))
+    ap (λ r. cond (not (is_eq r)) (e ∷ filter (λ g. not (eq_by_cmp name_cmp name g.0)) es)
+    (filter (λ g. not (eq_by_cmp name_cmp name g.0)) es)) (less_is _ (left _ _ t))
     ∙ ap (λ (gs : Entries). e ∷ gs) (others_stay name es (right _ _ t))
 
-first_gone : (name : StateName) (es : Entries) → T (is_sorted name_cmp es) → slice_get (map (λ e. e.0) es) 0 ≡ Some name → map (λ e. e.0) es ≡ name ∷ map (λ e. e.0) (filter (λ e. not (eq_by_cmp name_cmp name e.0)) es)
+first_gone : (name : StateName) (es : Entries) → T (is_sorted name_cmp es) → slice_get (map (λ e. e.0) es) 0 ≡ Some name
+    → map (λ e. e.0) es ≡ name ∷ map (λ e. e.0) (filter (λ e. not (eq_by_cmp name_cmp name e.0)) es)
 first_gone name [] t first = absurd (cc)
 first_gone name (e ∷ es) t first =
     let same : e.0 ≡ name = cc in
     let own : eq_by_cmp name_cmp name e.0 ≡ true = ap (λ n. eq_by_cmp name_cmp n e.0) (sym same) ∙ (eq_by_cmp_equiv names_total).refl e.0 in
     let others : T (below_all name_cmp name es) = subst (λ n. T (below_all name_cmp n es)) same (left _ _ t) in
     (λ i. same i ∷ map (λ (g : StateName × State). g.0) (sym (others_stay name es others) i))
-    ∙ ap (λ b. name ∷ map (λ (g : StateName × State). g.0) (cond (not b) (e ∷ filter (λ g. not (eq_by_cmp name_cmp name g.0)) es) (filter (λ g. not (eq_by_cmp name_cmp name g.0)) es))) (sym own)
+    ∙ ap (λ b. name ∷ map (λ (g : StateName × State). g.0)
+    (cond (not b) (e ∷ filter (λ g. not (eq_by_cmp name_cmp name g.0)) es) (filter (λ g. not (eq_by_cmp name_cmp name g.0)) es))) (sym own)
 
 pub keys-next : (m : States) (name : StateName) → slice_get (maps.keys m) 0 ≡ Some name → maps.keys m ≡ name ∷ maps.keys (maps.remove m name)
 unfolding maps.entries maps.remove maps.retain_keys
@@ -108,7 +111,8 @@ module _ (a b : Draft) (so : IsEmptied a b) (name : StateName) (next : IsNextNam
         rest = ap emptied same ∙ (sym next.rest ∙ so.rest);
         fewer = omega (arith, few, long, left);
         writes =
-            writes-more (4 * (maps.len a.node.states - maps.len b.node.states) + 4) (4 * (maps.len a.node.states - maps.len d.node.states)) a d (omega (arith, few, long, left))
+            writes-more (4 * (maps.len a.node.states - maps.len b.node.states) + 4)
+            (4 * (maps.len a.node.states - maps.len d.node.states)) a d (omega (arith, few, long, left))
             (writes-then (4 * (maps.len a.node.states - maps.len b.node.states)) 4 a b d so.writes more);
       }
 
@@ -131,6 +135,6 @@ emptied-done a b so none =
 
 -- ---- and what is announced to the peer
 
-pub cleared-is : (n m : Node) (creator bound : ℕ) → m ≡ emptied n → creator ≡ n.creator → bound ≡ n.next_id - 1 → tell_clear m creator bound ≡ cleared n
+pub cleared-is : (n m : Node) (creator bound : ℕ) → m ≡ emptied n → creator ≡ n.creator → bound ≡ n.next_id - 1 → announce_clear m creator bound ≡ cleared n
 unfolding cleared
-cleared-is n m creator bound same by up_to = (λ i. tell_clear (same i) (by i) (up_to i))
+cleared-is n m creator bound same by up_to = (λ i. announce_clear (same i) (by i) (up_to i))

@@ -1,5 +1,6 @@
 -- The states of a node that have expired, in the order in which they do: the first, and those that are left without it.
-use Rattle.std.specs.Prelude.{◌≡◌, suc, ◌==◌, ◌&&◌, ◌||◌, ℕ, ◌≤◌, Bool, true, false, not, nat_lt, nat_le, List, [], ◌∷◌, map, filter, length, Option, Some, None, if◌then◌else◌, refl}
+use Rattle.std.specs.Prelude.{◌≡◌, suc, ◌==◌, ◌&&◌, ◌||◌, ℕ, ◌≤◌, Bool, true, false, not, nat_lt, nat_le, List, [], ◌∷◌, map, filter, length, Option}
+use Rattle.std.specs.Prelude.{Some, None, if◌then◌else◌, refl}
 use Rattle.std.specs.List.{AllByRecursion, slice_get}
 use Rattle.std.specs.Option.{option_map, option_and_then}
 use Rattle.std.specs.declared.cmp.Ordering.{Ordering}
@@ -21,7 +22,8 @@ use Rattle.pfl_rules.specs.Scaling.{scaled}
 use Rattle.pfl_track.specs.declared.state.State.{State}
 use Rattle.pfl_track.specs.Tracking.{expiry}
 use Rattle.pfl_receive.specs.table.declared.row.Row.{Row}
-use Rattle.pfl_receive.proofs.ForCallers.table.{state_before, TimedBy, row_of, first_expiring-states, IsInOrder, NoneBefore, IsInOrder-in_order, rest_in_order, in_order-filter, state_before-asymmetric, state_before-passed_on}
+use Rattle.pfl_receive.proofs.ForCallers.table.{state_before, TimedBy, row_of, first_expiring-states, IsInOrder, NoneBefore, IsInOrder-in_order}
+use Rattle.pfl_receive.proofs.ForCallers.table.{rest_in_order, in_order-filter, state_before-asymmetric, state_before-passed_on}
 use Rattle.pfl_receive.specs.table.Tables.{Table, States, AreStates, states_of, row_expiry, first_expiring}
 use Rattle.pfl_receive.specs.desk.Nodes.{Node, AreParts}
 use Rattle.pfl_node.specs.Purging.{expiry_among, expires_before, expired_among}
@@ -57,10 +59,11 @@ filter-all p (x ∷ xs) a = ap (λ b. cond b (x ∷ filter p xs) (filter p xs)) 
 -- two tests at once
 filter-both : {X : Type 0} (p q : X → Bool) (xs : List X) → filter q (filter p xs) ≡ filter (λ x. p x && q x) xs
 filter-both p q [] = refl
-filter-both p q (x ∷ xs) = elim (p x) as (λ b. filter q (cond b (x ∷ filter p xs) (filter p xs)) ≡ cond (b && q x) (x ∷ filter (λ y. p y && q y) xs) (filter (λ y. p y && q y) xs)) [
-  | true ↦ ap (λ (ys : List _). cond (q x) (x ∷ ys) ys) (filter-both p q xs)
-  | false ↦ filter-both p q xs
-]
+filter-both p q (x ∷ xs) = elim (p x) as
+    (λ b. filter q (cond b (x ∷ filter p xs) (filter p xs)) ≡ cond (b && q x) (x ∷ filter (λ y. p y && q y) xs) (filter (λ y. p y && q y) xs)) [
+      | true ↦ ap (λ (ys : List _). cond (q x) (x ∷ ys) ys) (filter-both p q xs)
+      | false ↦ filter-both p q xs
+    ]
 
 -- tests that answer alike
 filter-alike : {X : Type 0} (p q : X → Bool) (xs : List X) → ((x : X) → p x ≡ q x) → filter p xs ≡ filter q xs
@@ -111,7 +114,8 @@ apart-put before s (t ∷ ts) a b = elim (before s t) as (λ c. AreApart (cond c
 
 apart-in_order : (before : State → State → Bool) (ss : List State) → AreApart ss → AreApart (in_order before ss)
 apart-in_order before [] a = tt
-apart-in_order before (s ∷ ss) a = apart-put before s (in_order before ss) (all-in_order (λ t. is_name s.name t.name ≡ false) before ss a.0) (apart-in_order before ss a.1)
+apart-in_order before (s ∷ ss) a =
+    apart-put before s (in_order before ss) (all-in_order (λ t. is_name s.name t.name ≡ false) before ss a.0) (apart-in_order before ss a.1)
 
 -- ---- the states of a table
 
@@ -159,7 +163,8 @@ entries-apart (e ∷ es) t f = (below-apart e.1 e.0 es f.0 (left _ _ t) f.1, ent
 above : (a b : StateName) → name_cmp a b ≡ Less → eq_by_cmp name_cmp b a ≡ false
 above a b e = ap is_eq (names_total.antisymm b a ∙ ap ordering_reverse e)
 
-found_lower : (e : StateName × State) (es gs : Entries) → T (below_all name_cmp e.0 gs) → AllByRecursion (λ g. found name_cmp g.0 es ≡ Some g.1) gs → AllByRecursion (λ g. found name_cmp g.0 (e ∷ es) ≡ Some g.1) gs
+found_lower : (e : StateName × State) (es gs : Entries) → T (below_all name_cmp e.0 gs)
+    → AllByRecursion (λ g. found name_cmp g.0 es ≡ Some g.1) gs → AllByRecursion (λ g. found name_cmp g.0 (e ∷ es) ≡ Some g.1) gs
 found_lower e es [] t a = tt
 found_lower e es (g ∷ gs) t a = (
   ap (λ b. cond b (Some e.1) (found name_cmp g.0 es)) (above e.0 g.0 (less_is _ (left _ _ t))) ∙ a.0,
@@ -185,7 +190,8 @@ module _ (m : States) (are : AreStates m) where
   pub values-apart : AreApart (maps.values m)
   values-apart = entries-apart (maps.entries m) (entries_sorted m) filed
 
-  entries-stand : (es : Entries) → AreFiled es → AllByRecursion (λ e. found name_cmp e.0 (maps.entries m) ≡ Some e.1) es → AllByRecursion (λ s. maps.get m s.name ≡ Some s) (map (λ e. e.1) es)
+  entries-stand : (es : Entries) → AreFiled es → AllByRecursion (λ e. found name_cmp e.0 (maps.entries m) ≡ Some e.1) es
+      → AllByRecursion (λ s. maps.get m s.name ≡ Some s) (map (λ e. e.1) es)
   entries-stand [] f a = tt
   entries-stand (e ∷ es) f a = (ap (maps.get m) f.0 ∙ (get-entries m e.0 ∙ a.0), entries-stand es f.1 a.1)
 
@@ -193,13 +199,21 @@ module _ (m : States) (are : AreStates m) where
   pub values-stand : AllByRecursion (λ s. maps.get m s.name ≡ Some s) (maps.values m)
   values-stand = entries-stand (maps.entries m) filed (entries-found (maps.entries m) (entries_sorted m))
 
-  entries-without : (name : StateName) (es : Entries) → AreFiled es → map (λ e. e.1) (filter (λ e. not (eq_by_cmp name_cmp name e.0)) es) ≡ filter (λ s. not (is_name name s.name)) (map (λ e. e.1) es)
+  entries-without : (name : StateName) (es : Entries) → AreFiled es
+      → map (λ e. e.1) (filter (λ e. not (eq_by_cmp name_cmp name e.0)) es) ≡ filter (λ s. not (is_name name s.name)) (map (λ e. e.1) es)
   entries-without name [] f = refl
   entries-without name (e ∷ es) f =
       let same : eq_by_cmp name_cmp name e.0 ≡ is_name name e.1.name = ties name e.0 ∙ ap (is_name name) (sym f.0) in
-      elim (is_name name e.1.name) as (λ b. eq_by_cmp name_cmp name e.0 ≡ b → map (λ e. e.1) (filter (λ e. not (eq_by_cmp name_cmp name e.0)) (e ∷ es)) ≡ cond (not b) (e.1 ∷ filter (λ s. not (is_name name s.name)) (map (λ e. e.1) es)) (filter (λ s. not (is_name name s.name)) (map (λ e. e.1) es))) [
-        | true ↦ λ t. ap (λ b. map (λ (g : StateName × State). g.1) (cond (not b) (e ∷ filter (λ g. not (eq_by_cmp name_cmp name g.0)) es) (filter (λ g. not (eq_by_cmp name_cmp name g.0)) es))) t ∙ entries-without name es f.1
-        | false ↦ λ t. ap (λ b. map (λ (g : StateName × State). g.1) (cond (not b) (e ∷ filter (λ g. not (eq_by_cmp name_cmp name g.0)) es) (filter (λ g. not (eq_by_cmp name_cmp name g.0)) es))) t ∙ ap (λ (ss : List State). e.1 ∷ ss) (entries-without name es f.1)
+      elim (is_name name e.1.name) as (λ b. eq_by_cmp name_cmp name e.0 ≡ b
+      → map (λ e. e.1) (filter (λ e. not (eq_by_cmp name_cmp name e.0)) (e ∷ es))
+      ≡ cond (not b) (e.1 ∷ filter (λ s. not (is_name name s.name)) (map (λ e. e.1) es))
+      (filter (λ s. not (is_name name s.name)) (map (λ e. e.1) es))) [
+        | true ↦ λ t. ap (λ b. map (λ (g : StateName × State). g.1)
+            (cond (not b) (e ∷ filter (λ g. not (eq_by_cmp name_cmp name g.0)) es) (filter (λ g. not (eq_by_cmp name_cmp name g.0)) es))) t
+            ∙ entries-without name es f.1
+        | false ↦ λ t. ap (λ b. map (λ (g : StateName × State). g.1)
+            (cond (not b) (e ∷ filter (λ g. not (eq_by_cmp name_cmp name g.0)) es) (filter (λ g. not (eq_by_cmp name_cmp name g.0)) es))) t
+            ∙ ap (λ (ss : List State). e.1 ∷ ss) (entries-without name es f.1)
       ] same
     where
       ties : (a b : StateName) → eq_by_cmp name_cmp a b ≡ is_name a b
@@ -228,12 +242,15 @@ module _ (due : State → ℕ) where
   others s (t ∷ ts) a = (ap not a.0, others s ts a.1)
 
   -- the first, and those of other names
-  first-rest : (ss : List State) (s : State) → AreApart ss → slice_get (in_order before ss) 0 ≡ Some s → in_order before ss ≡ s ∷ in_order before (filter (λ t. not (is_name s.name t.name)) ss)
+  first-rest : (ss : List State) (s : State) → AreApart ss → slice_get (in_order before ss) 0 ≡ Some s
+      → in_order before ss ≡ s ∷ in_order before (filter (λ t. not (is_name s.name t.name)) ss)
   first-rest ss s are e =
       let split = with_rest (in_order before ss) s e in
       let apart_all : AreApart (s ∷ split.0) = subst AreApart split.1 (apart-in_order before ss are) in
       let other = λ (t : State). not (is_name s.name t.name) in
-      split.1 ∙ ap (λ (ts : List State). s ∷ ts) (sym (rest_in_order before (state_before-asymmetric due) (state_before-passed_on due) other ss s split.0 split.1 (ap not (is_name-itself s.name s.name refl)) (filter-all other split.0 (others s split.0 apart_all.0))))
+      split.1 ∙ ap (λ (ts : List State). s ∷ ts)
+      (sym (rest_in_order before (state_before-asymmetric due) (state_before-passed_on due) other ss s split.0 split.1
+      (ap not (is_name-itself s.name s.name refl)) (filter-all other split.0 (others s split.0 apart_all.0))))
 
   module _ (clock : ℕ) where
     -- a state that has expired
@@ -259,7 +276,8 @@ module _ (due : State → ℕ) where
     late-all s [] none f = refl
     late-all s (t ∷ ts) none f = ap (λ b. cond b (t ∷ filter is_open ts) (filter is_open ts)) (late s t none.0 f) ∙ late-all s ts none.1 f
 
-    first_of : (ss : List State) → IsInOrder before ss → slice_get (filter is_open ss) 0 ≡ option_and_then (λ s. if is_open s then Some s else None) (slice_get ss 0)
+    first_of : (ss : List State) → IsInOrder before ss
+        → slice_get (filter is_open ss) 0 ≡ option_and_then (λ s. if is_open s then Some s else None) (slice_get ss 0)
     first_of [] is = refl
     first_of (s ∷ ss) is = elim (is_open s) as (λ b. is_open s ≡ b → slice_get (cond b (s ∷ filter is_open ss) (filter is_open ss)) 0 ≡ cond b (Some s) None) [
       | true ↦ λ e. refl
@@ -267,7 +285,9 @@ module _ (due : State → ℕ) where
     ] refl
 
     -- the first to expire is the first that has expired, if one has
-    pub first-open : (ss : List State) → slice_get (in_order before (filter is_open ss)) 0 ≡ option_and_then (λ s. if is_open s then Some s else None) (slice_get (in_order before ss) 0)
+    pub first-open : (ss : List State)
+        → slice_get (in_order before (filter is_open ss)) 0 ≡ option_and_then (λ s. if is_open s then Some s else None)
+        (slice_get (in_order before ss) 0)
     first-open ss =
         ap (λ (ts : List State). slice_get ts 0) (in_order-filter before (state_before-asymmetric due) (state_before-passed_on due) is_open ss)
         ∙ first_of (in_order before ss) (IsInOrder-in_order before (state_before-asymmetric due) (state_before-passed_on due) ss)
@@ -284,7 +304,8 @@ due_state a states clock r = if nat_le (row_expiry a states r) clock then Some r
 
 -- the first that has expired is the state of the first row, if that has expired
 pub first-row : (timeout : State → ℕ) (a : Adaptive) (states clock : ℕ) (t : Table) → TimedBy timeout t
-    → slice_get (in_order (state_before (scaled_expiry timeout a states)) (filter (λ s. nat_le (scaled_expiry timeout a states s) clock) (maps.values (states_of t)))) 0
+    → slice_get (in_order (state_before (scaled_expiry timeout a states))
+    (filter (λ s. nat_le (scaled_expiry timeout a states s) clock) (maps.values (states_of t)))) 0
     ≡ option_and_then (due_state a states clock) (first_expiring a states t)
 first-row timeout a states clock t by =
     let due = scaled_expiry timeout a states in
@@ -292,7 +313,9 @@ first-row timeout a states clock t by =
     ∙ (as_row (slice_get (in_order (state_before due) (maps.values (states_of t))) 0)
     ∙ ap (option_and_then (due_state a states clock)) (sym (first_expiring-states timeout t by a states)))
   where
-    as_row : (o : Option State) → option_and_then (λ s. if nat_le (scaled_expiry timeout a states s) clock then Some s else None) o ≡ option_and_then (due_state a states clock) (option_map (row_of timeout) o)
+    as_row : (o : Option State)
+        → option_and_then (λ s. if nat_le (scaled_expiry timeout a states s) clock then Some s else None) o
+        ≡ option_and_then (due_state a states clock) (option_map (row_of timeout) o)
     as_row None = refl
     as_row (Some s) = refl
 
@@ -326,7 +349,8 @@ module _ (k : ℕ) where
   -- each state that has expired stands under its name
   pub expired-stand : (n : Node) → AreParts n → AllByRecursion (λ s. maps.get n.states s.name ≡ Some s) (expired_among k n)
   expired-stand n is =
-      all-in_order (λ (s : State). maps.get n.states s.name ≡ Some s) (expires_before k n) _ (all-filter (λ (s : State). maps.get n.states s.name ≡ Some s) _ (maps.values n.states) (values-stand n.states is.states))
+      all-in_order (λ (s : State). maps.get n.states s.name ≡ Some s) (expires_before k n) _
+      (all-filter (λ (s : State). maps.get n.states s.name ≡ Some s) _ (maps.values n.states) (values-stand n.states is.states))
 
   -- so does the first
   pub first-stands : (n : Node) (s : State) → AreParts n → slice_get (expired_among k n) 0 ≡ Some s → maps.get n.states s.name ≡ Some s
@@ -335,14 +359,17 @@ module _ (k : ℕ) where
   -- no more have expired than there are
   pub expired-few : (n : Node) → length (expired_among k n) ≤ maps.len n.states
   expired-few n =
-      let ordered : length (expired_among k n) ≡ length (filter (λ s. nat_le (expiry_among k n s) n.clock) (maps.values n.states)) = length-in_order (expires_before k n) _ in
+      let ordered : length (expired_among k n) ≡ length (filter (λ s. nat_le (expiry_among k n s) n.clock) (maps.values n.states)) =
+      length-in_order (expires_before k n) _ in
       let few = few-filter (λ s. nat_le (expiry_among k n s) n.clock) (maps.values n.states) in
       let long = length-values (maps.entries n.states) in
       omega (arith, ordered, few, long, len-entries n.states)
 
   -- without the first the others are left
-  pub expired-without : (n m : Node) (s : State) → AreParts n → m.states ≡ maps.remove n.states s.name → m.limits ≡ n.limits → m.rules ≡ n.rules → m.clock ≡ n.clock → slice_get (expired_among k n) 0 ≡ Some s → expired_among k n ≡ s ∷ expired_among k m
+  pub expired-without : (n m : Node) (s : State) → AreParts n → m.states ≡ maps.remove n.states s.name → m.limits ≡ n.limits
+      → m.rules ≡ n.rules → m.clock ≡ n.clock → slice_get (expired_among k n) 0 ≡ Some s → expired_among k n ≡ s ∷ expired_among k m
   expired-without n m s is states limits rules clock e =
-      let without = ap (λ (ss : List State). s ∷ in_order (expires_before k n) (filter (λ t. nat_le (expiry_among k n t) n.clock) ss)) (sym (values-without n.states is.states s.name)) in
+      let without = ap (λ (ss : List State). s ∷ in_order (expires_before k n) (filter (λ t. nat_le (expiry_among k n t) n.clock) ss))
+      (sym (values-without n.states is.states s.name)) in
       left-rest (expiry_among k n) n.clock (maps.values n.states) s (values-apart n.states is.states) e
       ∙ (without ∙ sym (λ i. s ∷ expired_among k (record n { states = states i; limits = limits i; rules = rules i; clock = clock i })))

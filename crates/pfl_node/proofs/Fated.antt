@@ -1,5 +1,6 @@
 -- What a packet does, by cases.
-use Rattle.std.specs.Prelude.{◌≡◌, ℕ, Bool, true, false, nat_le, List, [], ◌∷◌, length, IfSome, ◌<◌, slice_get, Option, Some, None, zero, suc, if◌then◌else◌, refl}
+use Rattle.std.specs.Prelude.{◌≡◌, ℕ, Bool, true, false, nat_le, List, [], ◌∷◌, length, IfSome, ◌<◌, slice_get, Option, Some, None, zero, suc}
+use Rattle.std.specs.Prelude.{if◌then◌else◌, refl}
 use Rattle.std.proofs.Common.{◌∙◌, ap, sym, subst, arith}
 use Rattle.pfl_base.specs.declared.direction.Dir.{Dir}
 use Rattle.pfl_base.specs.declared.packet.Packet.{Packet}
@@ -24,7 +25,8 @@ use Rattle.pfl_node.specs.Packets.{handled, handled_by, followed, packet_points,
 
 -- ---- a packet of a state
 
-pub handled-some : (n : Node) (dir : Dir) (p : Packet) (s : State) → found n.states (key p dir) dir ≡ Some s → handled n dir p ≡ followed n dir p s (tracked s p dir n.clock)
+pub handled-some : (n : Node) (dir : Dir) (p : Packet) (s : State) → found n.states (key p dir) dir ≡ Some s
+    → handled n dir p ≡ followed n dir p s (tracked s p dir n.clock)
 unfolding handled
 handled-some n dir p s at = ap (handled_by n dir p) at
 
@@ -35,7 +37,8 @@ points-some n dir p s at =
     ap (λ (h : Handled). h.node ∷ before_rules n dir p (found n.states (key p dir) dir)) (handled-some n dir p s at)
     ∙ ap (λ (o : Option State). (followed n dir p s (tracked s p dir n.clock)).node ∷ before_rules n dir p o) at
 
-pub found-replaces : (n : Node) (dir : Dir) (p : Packet) (s t : State) → AreParts n → IsPacket p → found n.states (key p dir) dir ≡ Some s → tracked s p dir n.clock ≡ Moved t → MayReplace n t
+pub found-replaces : (n : Node) (dir : Dir) (p : Packet) (s t : State) → AreParts n → IsPacket p → found n.states (key p dir) dir ≡ Some s
+    → tracked s p dir n.clock ≡ Moved t → MayReplace n t
 found-replaces n dir p s t is packet at moved =
     let used = tracked-used s p dir n.clock t moved in
     let stands = found-stands n.states (key p dir) dir s is.states at in
@@ -79,7 +82,9 @@ within_list [] i r e = absurd (cc)
 within_list (q ∷ rules) zero r e = omega arith
 within_list (q ∷ rules) (suc i) r e = let h = within_list rules i r e in omega arith
 
-pub new-starts : (n : Node) (wire stack : Key) (dir : Dir) (p : Packet) (number : ℕ) (r : Rule) (no_sync : Bool) → IsPacket p → AreKeys wire stack → key_in_use n.states wire stack ≡ false → nat_le n.limits.states (maps.len n.states) ≡ false → slice_get n.rules.list number ≡ Some r
+pub new-starts : (n : Node) (wire stack : Key) (dir : Dir) (p : Packet) (number : ℕ) (r : Rule) (no_sync : Bool) → IsPacket p
+    → AreKeys wire stack → key_in_use n.states wire stack ≡ false → nat_le n.limits.states (maps.len n.states) ≡ false
+    → slice_get n.rules.list number ≡ Some r
     → MayStart n (start_state (next_name n) wire stack dir p (Some number) no_sync n.clock)
 new-starts n wire stack dir p number r no_sync packet keys unused room stands = record {
   creator = refl;

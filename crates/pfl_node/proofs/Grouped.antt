@@ -1,5 +1,6 @@
 -- The groups of a frame: how they are made one after another, and that the frame has a spelling.
-use Rattle.std.proofs.Common.{◌≡◌, ℕ, zero, suc, ◌+◌, ◌-◌, ◌^◌, ◌<◌, ◌≤◌, Bool, true, false, cond, List, [], ◌∷◌, ◌++◌, map, take, drop, length, get_or, append_assoc, add-one, Option, Some, None, refl, sym, ◌∙◌, ap, subst, arith}
+use Rattle.std.proofs.Common.{◌≡◌, ℕ, zero, suc, ◌+◌, ◌-◌, ◌^◌, ◌<◌, ◌≤◌, Bool, true, false, cond, List, [], ◌∷◌, ◌++◌, map, take, drop, length}
+use Rattle.std.proofs.Common.{get_or, append_assoc, add-one, Option, Some, None, refl, sym, ◌∙◌, ap, subst, arith}
 use Rattle.std.specs.Prelude.{◌==◌, Vec, IfSome, IfOk, IsSome, Result, Ok, Err, if◌then◌else◌}
 use Rattle.std.specs.List.{AllByRecursion, flat_map, slice_get, sum_by}
 use Rattle.std.specs.Option.{option_map_or}
@@ -42,7 +43,8 @@ pub record OneOf (ms : List Message) (a : Action) : Type 0 where
   pub action : action_of message ≡ a
   pub fits : RuleFits message
 
-one-named : (n : Node) (o : Option State) (make : State → Message) (a : Action) → ((s : State) → action_of (make s) ≡ a) → ((s : State) → o ≡ Some s → RuleFits (make s)) → IsSome o → OneOf (option_map_or (λ s. make s ∷ []) o []) a
+one-named : (n : Node) (o : Option State) (make : State → Message) (a : Action) → ((s : State) → action_of (make s) ≡ a)
+    → ((s : State) → o ≡ Some s → RuleFits (make s)) → IsSome o → OneOf (option_map_or (λ s. make s ∷ []) o []) a
 one-named n None make a acts fits some = absurd (cc)
 one-named n (Some s) make a acts fits some = record { message = make s; is = refl; action = acts s; fits = fits s refl }
 
@@ -50,16 +52,20 @@ few-rules : (rule : Option ℕ) (most : ℕ) → most ≤ 256 → IfSome rule (�
 few-rules None most h below = below
 few-rules (Some r) most h below = omega arith
 
-state-fits : (n : Node) → AreParts n → (s : State) (o : Option State) → ((t : State) → o ≡ Some t → IfSome t.rule (λ r. r < length n.rules.list)) → o ≡ Some s → IfSome s.rule (λ r. r < 2 ^ 32 - 1)
+state-fits : (n : Node) → AreParts n → (s : State) (o : Option State)
+    → ((t : State) → o ≡ Some t → IfSome t.rule (λ r. r < length n.rules.list)) → o ≡ Some s → IfSome s.rule (λ r. r < 2 ^ 32 - 1)
 state-fits n is s o each at = few-rules s.rule (length n.rules.list) (few n.rules.list is.rules.faultless) (each s at)
 
 pub tells-one : (n : Node) → AreParts n → (e : Entry) → IsTold n e → OneOf (messages_of n e) (entry_action e)
 tells-one n is (Marked Insert number name) told =
-    one-named n (maps.get n.states name) (λ s. message.Insert (state_record n s)) action.Insert (λ s. refl) (λ s at. state-fits n is s (maps.get n.states name) (λ t there. (is.each name t there).rule) at) told
+    one-named n (maps.get n.states name) (λ s. message.Insert (state_record n s)) action.Insert (λ s. refl)
+    (λ s at. state-fits n is s (maps.get n.states name) (λ t there. (is.each name t there).rule) at) told
 tells-one n is (Marked InsertAck number name) told = record { message = message.InsertAck name; is = refl; action = refl; fits = tt }
 tells-one n is (Marked Update number name) told =
-    one-named n (maps.get n.states name) (λ s. message.Update (state_record n s)) action.Update (λ s. refl) (λ s at. state-fits n is s (maps.get n.states name) (λ t there. (is.each name t there).rule) at) told
-tells-one n is (Marked UpdateShort number name) told = one-named n (maps.get n.states name) (λ s. message.UpdateShort (update_record n s)) action.UpdateShort (λ s. refl) (λ s at. tt) told
+    one-named n (maps.get n.states name) (λ s. message.Update (state_record n s)) action.Update (λ s. refl)
+    (λ s at. state-fits n is s (maps.get n.states name) (λ t there. (is.each name t there).rule) at) told
+tells-one n is (Marked UpdateShort number name) told =
+    one-named n (maps.get n.states name) (λ s. message.UpdateShort (update_record n s)) action.UpdateShort (λ s. refl) (λ s at. tt) told
 tells-one n is (Marked Delete number name) told = record { message = message.DeleteShort name; is = refl; action = refl; fits = tt }
 tells-one n is (Request name) told = record { message = message.UpdateRequest name; is = refl; action = refl; fits = tt }
 tells-one n is (Status status) told = record { message = message.Bulk n.creator status; is = refl; action = refl; fits = tt }
@@ -91,17 +97,21 @@ parts : (x y : Message) (ms : List Message) → like x y ≡ false → neighbour
 parts x y ms other =
     let first = joined-begins y (neighbours like ms) in
     ap (joined like x) first.is
-    ∙ (ap (λ b. if b then (x ∷ y ∷ first.rest) ∷ first.others else (x ∷ []) ∷ (y ∷ first.rest) ∷ first.others) other ∙ ap (λ (gs : List (List Message)). (x ∷ []) ∷ gs) (sym first.is))
+    ∙ (ap (λ b. if b then (x ∷ y ∷ first.rest) ∷ first.others else (x ∷ []) ∷ (y ∷ first.rest) ∷ first.others) other
+    ∙ ap (λ (gs : List (List Message)). (x ∷ []) ∷ gs) (sym first.is))
 
 -- the message of an entry in front of others
-in_front : (n : Node) (e : Entry) (es : List Entry) (m : Message) → messages_of n e ≡ m ∷ [] → flat_map (messages_of n) (e ∷ es) ≡ m ∷ flat_map (messages_of n) es
+in_front : (n : Node) (e : Entry) (es : List Entry) (m : Message) → messages_of n e ≡ m ∷ []
+    → flat_map (messages_of n) (e ∷ es) ≡ m ∷ flat_map (messages_of n) es
 in_front n e es m is = ap (λ (ms : List Message). ms ++ flat_map (messages_of n) es) is
 
 -- what a message begins whose group has the first of these entries, k in number
 abbrev Front : Node → List Entry → Message → ℕ → Type 0
-Front n es m k = neighbours like (m ∷ flat_map (messages_of n) es) ≡ (m ∷ flat_map (messages_of n) (take k es)) ∷ neighbours like (flat_map (messages_of n) (drop k es))
+Front n es m k = neighbours like (m ∷ flat_map (messages_of n) es) ≡ (m ∷ flat_map (messages_of n) (take k es))
+    ∷ neighbours like (flat_map (messages_of n) (drop k es))
 
-front-more : (n : Node) (e : Entry) (es : List Entry) (m f : Message) (k : ℕ) → messages_of n e ≡ f ∷ [] → like m f ≡ true → Front n es f k → Front n (e ∷ es) m (1 + k)
+front-more : (n : Node) (e : Entry) (es : List Entry) (m f : Message) (k : ℕ) → messages_of n e ≡ f ∷ [] → like m f ≡ true → Front n es f k
+    → Front n (e ∷ es) m (1 + k)
 front-more n e es m f k is same front =
     let more : 1 + k ≡ suc k = omega arith in
     rw more
@@ -145,12 +155,14 @@ like-as : (m f : Message) (a b : Action) (t : Bool) → action_of m ≡ a → ac
 like-as m f a b t acts is h =
     ap (λ x. one_action x (action_of f)) acts ∙ (ap (λ x. one_action a x) is ∙ other_way (action_number a) (action_number b) t h)
 
-front-run : (n : Node) → AreParts n → (a : Action) (es : List Entry) → AllByRecursion (IsTold n) es → (m : Message) → action_of m ≡ a → Front n es m (run_of a es)
+front-run : (n : Node) → AreParts n → (a : Action) (es : List Entry) → AllByRecursion (IsTold n) es → (m : Message) → action_of m ≡ a
+    → Front n es m (run_of a es)
 front-run n is a [] told m acts = refl
 front-run n is a (e ∷ es) told m acts =
     let one = tells-one n is e told.0 in
     elim (one_action (entry_action e) a) as (λ t. one_action (entry_action e) a ≡ t → Front n (e ∷ es) m (cond t (1 + run_of a es) 0)) [
-      | true ↦ λ h. front-more n e es m one.message (run_of a es) one.is (like-as m one.message a (entry_action e) true acts one.action h) (front-run n is a es told.1 one.message (one.action ∙ same-action (entry_action e) a h))
+      | true ↦ λ h. front-more n e es m one.message (run_of a es) one.is (like-as m one.message a (entry_action e) true acts one.action h)
+          (front-run n is a es told.1 one.message (one.action ∙ same-action (entry_action e) a h))
       | false ↦ λ h. front-last n e es m one.message one.is (like-as m one.message a (entry_action e) false acts one.action h)
     ] refl
 
@@ -159,7 +171,8 @@ alike a = grind (arith, nat_tests)
 
 -- the groups of entries: the run in front, and those of the others
 pub run-first : (n : Node) → AreParts n → (e : Entry) (es : List Entry) → AllByRecursion (IsTold n) (e ∷ es) →
-    groups_of n (e ∷ es) ≡ flat_map (messages_of n) (take (run_of (entry_action e) (e ∷ es)) (e ∷ es)) ∷ groups_of n (drop (run_of (entry_action e) (e ∷ es)) (e ∷ es))
+    groups_of n (e ∷ es) ≡ flat_map (messages_of n) (take (run_of (entry_action e) (e ∷ es)) (e ∷ es))
+    ∷ groups_of n (drop (run_of (entry_action e) (e ∷ es)) (e ∷ es))
 run-first n is e es told =
     let one = tells-one n is e told.0 in
     let k = run_of (entry_action e) es in
@@ -180,12 +193,14 @@ all-same : (a b : Action) (ms : List Message) → b ≡ a → AllByRecursion (λ
 all-same a b [] e all = tt
 all-same a b (m ∷ ms) e all = (all.0 ∙ e, all-same a b ms e all.1)
 
-joined-alike : (P : Message → Type 0) (x : Message) (groups : List (List Message)) → P x → AllByRecursion (Alike P) groups → AllByRecursion (Alike P) (joined like x groups)
+joined-alike : (P : Message → Type 0) (x : Message) (groups : List (List Message)) → P x → AllByRecursion (Alike P) groups
+    → AllByRecursion (Alike P) (joined like x groups)
 joined-alike P x [] p all = ((tt, (p, tt)), tt)
 joined-alike P x ([] ∷ groups) p all = absurd all.0
 joined-alike P x ((y ∷ ys) ∷ groups) p all =
     elim (like x y) as (λ b. like x y ≡ b → AllByRecursion (Alike P) (if b then (x ∷ y ∷ ys) ∷ groups else (x ∷ []) ∷ (y ∷ ys) ∷ groups)) [
-      | true ↦ λ h. let same = sym (same-action (action_of x) (action_of y) h) in (((same, all-same (action_of x) (action_of y) ys same all.0.0), (p, all.0.1)), all.1)
+      | true ↦ λ h. let same = sym (same-action (action_of x) (action_of y) h)
+          in (((same, all-same (action_of x) (action_of y) ys same all.0.0), (p, all.0.1)), all.1)
       | false ↦ λ h. ((tt, (p, tt)), all)
     ] refl
 
@@ -215,7 +230,8 @@ one-group : (P : Message → Type 0) (ms : List Message) → length ms < 2 ^ 16 
 one-group P [] short alike = alike
 one-group P (m ∷ ms) short alike = (short, alike.0, alike.1)
 
-short-groups : (P : Message → Type 0) (groups : List (List Message)) → sum_by group_len groups < 2 ^ 16 → AllByRecursion (Alike P) groups → AllByRecursion (IsGroupOf P) groups
+short-groups : (P : Message → Type 0) (groups : List (List Message)) → sum_by group_len groups < 2 ^ 16 → AllByRecursion (Alike P) groups
+    → AllByRecursion (IsGroupOf P) groups
 short-groups P [] short all = tt
 short-groups P (g ∷ groups) short all =
     let sum = sum_by-cons group_len g groups in
@@ -227,7 +243,9 @@ actions-told : (n : Node) → AreParts n → (es : List Entry) → AllByRecursio
 actions-told n is [] told = refl
 actions-told n is (e ∷ es) told =
     let one = tells-one n is e told.0 in
-    ap (map action_of) (in_front n e es one.message one.is) ∙ (ap (λ a. a ∷ map action_of (flat_map (messages_of n) es)) one.action ∙ ap (λ (as_told : List Action). entry_action e ∷ as_told) (actions-told n is es told.1))
+    ap (map action_of) (in_front n e es one.message one.is)
+    ∙ (ap (λ a. a ∷ map action_of (flat_map (messages_of n) es)) one.action
+    ∙ ap (λ (as_told : List Action). entry_action e ∷ as_told) (actions-told n is es told.1))
 
 fits-told : (n : Node) → AreParts n → (es : List Entry) → AllByRecursion (IsTold n) es → AllByRecursion RuleFits (flat_map (messages_of n) es)
 fits-told n is [] told = tt
@@ -235,11 +253,14 @@ fits-told n is (e ∷ es) told =
     let one = tells-one n is e told.0 in
     subst (AllByRecursion RuleFits) (sym (in_front n e es one.message one.is)) (one.fits, fits-told n is es told.1)
 
-joined-actions : (x : Message) (groups : List (List Message)) → joined one_action (action_of x) (map (map action_of) groups) ≡ map (map action_of) (joined like x groups)
+joined-actions : (x : Message) (groups : List (List Message))
+    → joined one_action (action_of x) (map (map action_of) groups) ≡ map (map action_of) (joined like x groups)
 joined-actions x [] = refl
 joined-actions x ([] ∷ groups) = refl
 joined-actions x ((y ∷ ys) ∷ groups) =
-    elim (like x y) as (λ b. (if b then (action_of x ∷ action_of y ∷ map action_of ys) ∷ map (map action_of) groups else (action_of x ∷ []) ∷ (action_of y ∷ map action_of ys) ∷ map (map action_of) groups) ≡ map (map action_of) (if b then (x ∷ y ∷ ys) ∷ groups else (x ∷ []) ∷ (y ∷ ys) ∷ groups)) [
+    elim (like x y) as (λ b. (if b then (action_of x ∷ action_of y ∷ map action_of ys) ∷ map (map action_of) groups
+    else (action_of x ∷ []) ∷ (action_of y ∷ map action_of ys) ∷ map (map action_of) groups)
+    ≡ map (map action_of) (if b then (x ∷ y ∷ ys) ∷ groups else (x ∷ []) ∷ (y ∷ ys) ∷ groups)) [
       | true ↦ refl
       | false ↦ refl
     ]
@@ -257,7 +278,8 @@ actions_len group = 4 + sum_by record_len group
 
 groups-len : (groups : List (List Message)) → sum_by actions_len (map (map action_of) groups) ≡ sum_by group_len groups
 groups-len [] = refl
-groups-len (g ∷ groups) = omega (arith, sum_by-cons actions_len (map action_of g) (map (map action_of) groups), sum_by-cons group_len g groups, records-len g, groups-len groups)
+groups-len (g ∷ groups) = omega
+    (arith, sum_by-cons actions_len (map action_of g) (map (map action_of) groups), sum_by-cons group_len g groups, records-len g, groups-len groups)
 
 pub frame-bytes : (n : Node) → AreParts n → (es : List Entry) → AllByRecursion (IsTold n) es → frame_len (groups_of n es) ≡ entry_bytes es
 frame-bytes n is es told =
@@ -265,13 +287,15 @@ frame-bytes n is es told =
     ap (λ (k : ℕ). 20 + k) (sym (groups-len (neighbours like ms)))
     ∙ (ap (λ (groups : List (List Action)). 20 + sum_by actions_len groups) (sym (neighbours-actions ms)) ∙ ap bytes_of (actions-told n is es told))
 
-pub can-be-sent : (n : Node) → AreParts n → (es : List Entry) → AllByRecursion (IsTold n) es → entry_bytes es < 2 ^ 16 → (f : Frame) → f.groups ≡ groups_of n es → IsSendable f
+pub can-be-sent : (n : Node) → AreParts n → (es : List Entry) → AllByRecursion (IsTold n) es → entry_bytes es < 2 ^ 16 → (f : Frame)
+    → f.groups ≡ groups_of n es → IsSendable f
 can-be-sent n is es told short f groups =
     let ms = flat_map (messages_of n) es in
     let bytes = ap frame_len groups ∙ frame-bytes n is es told in
     let here = frame-bytes n is es told in
     record {
-      groups = subst (AllByRecursion (IsGroupOf RuleFits)) (sym groups) (short-groups RuleFits (neighbours like ms) (omega (arith, here, short)) (neighbours-alike RuleFits ms (fits-told n is es told)));
+      groups = subst (AllByRecursion (IsGroupOf RuleFits)) (sym groups)
+          (short-groups RuleFits (neighbours like ms) (omega (arith, here, short)) (neighbours-alike RuleFits ms (fits-told n is es told)));
       short = omega (arith, bytes, short);
     }
 
@@ -294,10 +318,14 @@ all-left P [] (suc k) all = tt
 all-left P (x ∷ xs) zero all = all
 all-left P (x ∷ xs) (suc k) all = all-left P xs k all.1
 
-pub messages-more : (n : Node) (es : List Entry) (i : ℕ) (d : Entry) (now next : List Message) (m : Message) → i < length es → now ≡ flat_map (messages_of n) (take i es) → messages_of n (get_or es i d) ≡ m ∷ [] → next ≡ now ++ m ∷ [] → next ≡ flat_map (messages_of n) (take (i + 1) es)
+pub messages-more : (n : Node) (es : List Entry) (i : ℕ) (d : Entry) (now next : List Message) (m : Message) → i < length es
+    → now ≡ flat_map (messages_of n) (take i es) → messages_of n (get_or es i d) ≡ m ∷ [] → next ≡ now ++ m ∷ []
+    → next ≡ flat_map (messages_of n) (take (i + 1) es)
 messages-more n es i d now next m below so is more =
     rw (add-one, take-suc es i d below)
-    (more ∙ (ap (λ (ms : List Message). ms ++ m ∷ []) so ∙ (ap (λ (ms : List Message). flat_map (messages_of n) (take i es) ++ ms) (sym (in_front n (get_or es i d) [] m is)) ∙ sym (flat_map-append (messages_of n) (take i es) (get_or es i d ∷ [])))))
+    (more ∙ (ap (λ (ms : List Message). ms ++ m ∷ []) so
+    ∙ (ap (λ (ms : List Message). flat_map (messages_of n) (take i es) ++ ms) (sym (in_front n (get_or es i d) [] m is))
+    ∙ sym (flat_map-append (messages_of n) (take i es) (get_or es i d ∷ [])))))
 
 -- the groups so far, and those of the entries that are left
 pub record IsGrouped (n : Node) (all left : List Entry) (groups : List (List Message)) : Type 0 where
@@ -305,7 +333,9 @@ pub record IsGrouped (n : Node) (all left : List Entry) (groups : List (List Mes
   pub rest : groups ++ groups_of n left ≡ groups_of n all
 
 -- one group more
-pub grouped-more : (n : Node) → AreParts n → (all left : List Entry) (now next : List (List Message)) (group : List Message) (e : Entry) (k : ℕ) → IsGrouped n all left now → slice_get left 0 ≡ Some e → k ≡ run_of (entry_action e) left
+pub grouped-more : (n : Node) → AreParts n
+    → (all left : List Entry) (now next : List (List Message)) (group : List Message) (e : Entry) (k : ℕ) → IsGrouped n all left now
+    → slice_get left 0 ≡ Some e → k ≡ run_of (entry_action e) left
     → group ≡ flat_map (messages_of n) (take k left) → next ≡ now ++ group ∷ [] → IsGrouped n all (drop k left) next
 grouped-more n is all [] now next group e k so first run made more = absurd (some_is_none e (sym first))
 grouped-more n is all (d ∷ es) now next group e k so first run made more =
@@ -317,7 +347,8 @@ grouped-more n is all (d ∷ es) now next group e k so first run made more =
       rest =
           ap (λ (gs : List (List Message)). gs ++ groups_of n (drop k (d ∷ es))) (more ∙ ap (λ (g : List Message). now ++ g ∷ []) made)
           ∙ (append_assoc now (flat_map (messages_of n) (take k (d ∷ es)) ∷ []) (groups_of n (drop k (d ∷ es)))
-          ∙ (ap (λ (gs : List (List Message)). now ++ gs) (ap (λ (j : ℕ). flat_map (messages_of n) (take j (d ∷ es)) ∷ groups_of n (drop j (d ∷ es))) at ∙ sym split) ∙ so.rest));
+          ∙ (ap (λ (gs : List (List Message)). now ++ gs)
+          (ap (λ (j : ℕ). flat_map (messages_of n) (take j (d ∷ es)) ∷ groups_of n (drop j (d ∷ es))) at ∙ sym split) ∙ so.rest));
     }
 
 pub lists-more : {A : Type 0} (now next : List (Vec Message A)) (group : Vec Message A) → next ≡ now ++ group ∷ [] → lists next ≡ lists now ++ group.items ∷ []

@@ -45,7 +45,10 @@ bare-not_waiting n name = by (maps.get n.states name)
 
 -- the node with the list that has room, but for its states
 abbrev roomy : Node → Option Held → Node
-roomy n o = record n { held = option_map_or (λ h. let_go n.held h.name) o n.held; counters = record n.counters { freed = n.counters.freed + cond (is_some o) 1 0 } }
+roomy n o = record n {
+  held = option_map_or (λ h. let_go n.held h.name) o n.held;
+  counters = record n.counters { freed = n.counters.freed + cond (is_some o) 1 0 };
+}
 
 -- to make room changes held packets, states, and what is counted as freed
 pub room-rest : (n : Node) → IsDeferrals n.held → bare (with_room n) ≡ bare (roomy n (pushed_out n.held))
@@ -89,7 +92,8 @@ waiting-like n name s are at = by (maps.get n.states name) refl
           let it : s ≡ u = cc in
           record {
             state = record u { ack_wanted = false };
-            at = ap (maps.get (maps.insert n.states u.name (record u { ack_wanted = false }))) same ∙ get-set_at_same names_total names_exact n.states u.name (Some (record u { ack_wanted = false }));
+            at = ap (maps.get (maps.insert n.states u.name (record u { ack_wanted = false }))) same
+                ∙ get-set_at_same names_total names_exact n.states u.name (Some (record u { ack_wanted = false }));
             wire = ap (λ (t : State). t.wire) it;
             stack = ap (λ (t : State). t.stack) it;
             no_sync = ap (λ (t : State). t.no_sync) it;
@@ -125,7 +129,8 @@ room-may n s is at =
       wire = like.wire;
       stack = like.stack;
       no_sync = like.no_sync;
-      is = state_still n (with_room n) s (ap (λ (m : Node). m.creator) rest) (ap (λ (m : Node). m.next_id) rest) (ap (λ (m : Node). m.rules) rest) (ap (λ (m : Node). m.clock) rest) (is.each s.name s at);
+      is = state_still n (with_room n) s (ap (λ (m : Node). m.creator) rest) (ap (λ (m : Node). m.next_id) rest)
+          (ap (λ (m : Node). m.rules) rest) (ap (λ (m : Node). m.clock) rest) (is.each s.name s at);
     }
 
 -- what a packet finds for which room was made
@@ -139,7 +144,10 @@ room-made n name is fresh =
     let limit = is.held_limit in
     let left = with_room-has_room n.held is.deferrals (omega arith) in
     let held : deferring.with_room n.held ≡ (with_room n).held = sym (ap (λ (m : Node). m.held) (room-rest n is.deferrals)) in
-    record { free = subst (λ (d : Deferrals). length d.list < d.limit) held left.room; fresh = subst (λ (d : Deferrals). held_of d name ≡ None) held (left.fresh name fresh) }
+    record {
+      free = subst (λ (d : Deferrals). length d.list < d.limit) held left.room;
+      fresh = subst (λ (d : Deferrals). held_of d name ≡ None) held (left.fresh name fresh);
+    }
 
 -- ---- a packet is held
 
@@ -163,20 +171,35 @@ fresh-held n s is may = by n.held.list (λ i h at. (is.held i h at).0)
 -- ---- a packet that makes a state
 
 -- what is announced to the peer of a new state is what is queued in the end
-pub announced-queue : (n : Node) (s : State) (dir : Dir) (p : Packet) → IsDeferrals n.held → s.no_sync ≡ false → (announced n s dir p).node.queue ≡ (mark n s.name Insert).queue
-announced-queue n s dir p is told = ap (λ b. (cond b (pass n (Some s.name)) (cond (is_deferred n dir) (hold (with_room (mark n s.name Insert)) s p) (pass (mark n s.name Insert) (Some s.name)))).node.queue) told ∙ by (is_deferred n dir)
+pub announced-queue : (n : Node) (s : State) (dir : Dir) (p : Packet) → IsDeferrals n.held → s.no_sync ≡ false
+    → (announced n s dir p).node.queue ≡ (mark n s.name Insert).queue
+announced-queue n s dir p is told =
+    ap (λ b. (cond b (pass n (Some s.name))
+    (cond (is_deferred n dir) (hold (with_room (mark n s.name Insert)) s p) (pass (mark n s.name Insert) (Some s.name)))).node.queue) told
+    ∙ by (is_deferred n dir)
   where
-    by : (b : Bool) → (cond b (hold (with_room (mark n s.name Insert)) s p) (pass (mark n s.name Insert) (Some s.name))).node.queue ≡ (mark n s.name Insert).queue
+    by : (b : Bool) → (cond b (hold (with_room (mark n s.name Insert)) s p) (pass (mark n s.name Insert) (Some s.name))).node.queue
+        ≡ (mark n s.name Insert).queue
     by true = ap (λ (m : Node). m.queue) (room-rest (mark n s.name Insert) is)
     by false = refl
 
 -- a state that is not announced lets its packet go on
 pub announced-quiet : (n : Node) (s : State) (dir : Dir) (p : Packet) → s.no_sync ≡ true → announced n s dir p ≡ pass n (Some s.name)
-announced-quiet n s dir p quiet = ap (λ b. cond b (pass n (Some s.name)) (cond (is_deferred n dir) (hold (with_room (mark n s.name Insert)) s p) (pass (mark n s.name Insert) (Some s.name)))) quiet
+announced-quiet n s dir p quiet =
+    ap (λ b. cond b (pass n (Some s.name))
+    (cond (is_deferred n dir) (hold (with_room (mark n s.name Insert)) s p) (pass (mark n s.name Insert) (Some s.name)))) quiet
 
 -- any other one holds it, where packets are deferred
-pub announced-held : (n : Node) (s : State) (dir : Dir) (p : Packet) → s.no_sync ≡ false → is_deferred n dir ≡ true → announced n s dir p ≡ hold (with_room (mark n s.name Insert)) s p
-announced-held n s dir p told on = ap (λ b. cond b (pass n (Some s.name)) (cond (is_deferred n dir) (hold (with_room (mark n s.name Insert)) s p) (pass (mark n s.name Insert) (Some s.name)))) told ∙ ap (λ b. cond b (hold (with_room (mark n s.name Insert)) s p) (pass (mark n s.name Insert) (Some s.name))) on
+pub announced-held : (n : Node) (s : State) (dir : Dir) (p : Packet) → s.no_sync ≡ false → is_deferred n dir ≡ true
+    → announced n s dir p ≡ hold (with_room (mark n s.name Insert)) s p
+announced-held n s dir p told on =
+    ap (λ b. cond b (pass n (Some s.name))
+    (cond (is_deferred n dir) (hold (with_room (mark n s.name Insert)) s p) (pass (mark n s.name Insert) (Some s.name)))) told
+    ∙ ap (λ b. cond b (hold (with_room (mark n s.name Insert)) s p) (pass (mark n s.name Insert) (Some s.name))) on
 
-pub announced-passed : (n : Node) (s : State) (dir : Dir) (p : Packet) → s.no_sync ≡ false → is_deferred n dir ≡ false → announced n s dir p ≡ pass (mark n s.name Insert) (Some s.name)
-announced-passed n s dir p told off = ap (λ b. cond b (pass n (Some s.name)) (cond (is_deferred n dir) (hold (with_room (mark n s.name Insert)) s p) (pass (mark n s.name Insert) (Some s.name)))) told ∙ ap (λ b. cond b (hold (with_room (mark n s.name Insert)) s p) (pass (mark n s.name Insert) (Some s.name))) off
+pub announced-passed : (n : Node) (s : State) (dir : Dir) (p : Packet) → s.no_sync ≡ false → is_deferred n dir ≡ false
+    → announced n s dir p ≡ pass (mark n s.name Insert) (Some s.name)
+announced-passed n s dir p told off =
+    ap (λ b. cond b (pass n (Some s.name))
+    (cond (is_deferred n dir) (hold (with_room (mark n s.name Insert)) s p) (pass (mark n s.name Insert) (Some s.name)))) told
+    ∙ ap (λ b. cond b (hold (with_room (mark n s.name Insert)) s p) (pass (mark n s.name Insert) (Some s.name))) off

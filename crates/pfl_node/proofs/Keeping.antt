@@ -19,8 +19,9 @@ use Rattle.pfl_receive.specs.merge.declared.merged.Merged.{Merged}
 use Rattle.pfl_language.specs.declared.limits.Limits.{Limits}
 use Rattle.pfl_node.specs.Laws.{RecordsLeaveTheRest}
 use Rattle.pfl_receive.specs.desk.Nodes.{Node, timeout_at}
-use Rattle.pfl_receive.specs.desk.Changes.{is_held, lost, freed, released, is_untold, changed, forgotten}
-use Rattle.pfl_receive.specs.Receiving.{taken, insert_taken, can_import, merge_taken, merged_into, bulk_taken, state_answered, request_taken, ack_taken, is_known, cleared_names, status_taken}
+use Rattle.pfl_receive.specs.desk.Changes.{is_held, lost, freed, released, is_unannounced, changed, forgotten}
+use Rattle.pfl_receive.specs.Receiving.{taken, insert_taken, can_import, merge_taken, merged_into, bulk_taken, state_answered, request_taken}
+use Rattle.pfl_receive.specs.Receiving.{ack_taken, is_known, cleared_names, status_taken}
 
 -- what stays: as one value
 abbrev pub Still : Type 0
@@ -54,7 +55,7 @@ changed-keeps : (n : Node) (s : State) → Keeps n (changed n s)
 unfolding changed
 changed-keeps n s =
     either s.no_sync n _ _ refl
-    (either (is_untold (kind_of n.queue s.name)) n _ _ refl (either (is_tcp s.wire.proto) n _ _ refl refl))
+    (either (is_unannounced (kind_of n.queue s.name)) n _ _ refl (either (is_tcp s.wire.proto) n _ _ refl refl))
 
 forgotten-keeps : (n : Node) (name : StateName) → Keeps n (forgotten n name)
 unfolding forgotten
@@ -79,7 +80,8 @@ taken-keeps : (n : Node) (same_rules : Bool) (m : Message) → Keeps n (taken n 
 unfolding taken
 taken-keeps n b (message.Clear creator bound) = over_all forgotten (cleared_names n creator bound) n forgotten-keeps
 taken-keeps n b (message.Insert r) = insert-keeps n b r r.ack_wanted
-taken-keeps n b (message.InsertAck name) = on_some (maps.get n.states name) (ack_taken n) n n (λ s. either s.ack_wanted n _ n (released-keeps n s.name) refl) refl
+taken-keeps n b (message.InsertAck name) =
+    on_some (maps.get n.states name) (ack_taken n) n n (λ s. either s.ack_wanted n _ n (released-keeps n s.name) refl) refl
 taken-keeps n b (message.Update r) = on_some (maps.get n.states r.name) _ n _ (λ s. merge-keeps n s _) (insert-keeps n b r false)
 taken-keeps n b (message.UpdateShort u) = on_some (maps.get n.states u.name) _ n _ (λ s. merge-keeps n s _) refl
 taken-keeps n b (message.UpdateRequest name) = request-keeps n name

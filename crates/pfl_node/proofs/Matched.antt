@@ -43,7 +43,8 @@ last_all P (y ∷ z ∷ zs) x a e = last_all P (z ∷ zs) x a.1 e
 abbrev Numbered : List Rule → ℕ × Rule → Type 0
 Numbered rules e = slice_get rules e.0 ≡ Some e.1
 
-enumerated : (rules : List Rule) (k : ℕ) (rs : List Rule) → ((j : ℕ) → slice_get rules (k + j) ≡ slice_get rs j) → AllByRecursion (Numbered rules) (enumerate_from k rs)
+enumerated : (rules : List Rule) (k : ℕ) (rs : List Rule) → ((j : ℕ) → slice_get rules (k + j) ≡ slice_get rs j)
+    → AllByRecursion (Numbered rules) (enumerate_from k rs)
 enumerated rules k [] h = tt
 enumerated rules k (r ∷ rs) h =
     let here : k ≡ k + 0 = omega arith in (
@@ -63,10 +64,12 @@ record Decided (p : Packet) (dir : Dir) (r : Rule) : Type 0 where
   matches : matches r p dir ≡ true
   pass : is_pass r.action ≡ true
 
-by_verdict : (rules : List Rule) (p : Packet) (dir : Dir) (number : ℕ) (r : Rule) → (verdict rules p dir).pass ≡ true → (verdict rules p dir).rule ≡ Some number → slice_get rules number ≡ Some r → Decided p dir r
+by_verdict : (rules : List Rule) (p : Packet) (dir : Dir) (number : ℕ) (r : Rule) → (verdict rules p dir).pass ≡ true
+    → (verdict rules p dir).rule ≡ Some number → slice_get rules number ≡ Some r → Decided p dir r
 by_verdict rules p dir number r = by (deciding rules p dir) refl
   where
-    by : (o : Option (ℕ × Rule)) → deciding rules p dir ≡ o → (verdict_by o).pass ≡ true → (verdict_by o).rule ≡ Some number → slice_get rules number ≡ Some r → Decided p dir r
+    by : (o : Option (ℕ × Rule)) → deciding rules p dir ≡ o → (verdict_by o).pass ≡ true → (verdict_by o).rule ≡ Some number
+        → slice_get rules number ≡ Some r → Decided p dir r
     by None is pass rule there = absurd (cc)
     by (Some e) is pass rule there =
         let facts = decided rules p dir e is in
@@ -108,12 +111,14 @@ pool_fits (Some n) p Outbound h e = turned_round n.addr p.src.addr e
 pool_fits (Some n) p Inbound h e = through p.src.addr p.dst.addr n.addr h (turned_round n.addr p.src.addr e)
 
 -- either of them fits
-either_fits : (k : Key) (a b : Option Pool) → option_map_or (λ e. same_family k.near.addr e.addr) a true ≡ true → option_map_or (λ e. same_family k.near.addr e.addr) b true ≡ true
+either_fits : (k : Key) (a b : Option Pool) → option_map_or (λ e. same_family k.near.addr e.addr) a true ≡ true
+    → option_map_or (λ e. same_family k.near.addr e.addr) b true ≡ true
     → option_map_or (λ e. same_family k.near.addr e.addr) (option_or a b) true ≡ true
 either_fits k None b f g = g
 either_fits k (Some n) b f g = f
 
-pub judged-fits : (rules : List Rule) (p : Packet) (dir : Dir) (number : ℕ) (r : Rule) → same_family p.src.addr p.dst.addr ≡ true → (verdict rules p dir).pass ≡ true → (verdict rules p dir).rule ≡ Some number → slice_get rules number ≡ Some r
+pub judged-fits : (rules : List Rule) (p : Packet) (dir : Dir) (number : ℕ) (r : Rule) → same_family p.src.addr p.dst.addr ≡ true
+    → (verdict rules p dir).pass ≡ true → (verdict rules p dir).rule ≡ Some number → slice_get rules number ≡ Some r
     → fits_translation (key p dir) r ≡ true
 judged-fits rules p dir number r family pass rule there =
     let d = by_verdict rules p dir number r pass rule there in

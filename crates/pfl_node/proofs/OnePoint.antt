@@ -39,7 +39,8 @@ or_false true = λ i. true
 or_false false = λ i. false
 
 -- or not
-pub ends-there : {T : Type 0} (t : T) (over : Bool) (meant b : Node) → b ≡ meant → is_overfull b ≡ false → over ≡ is_overcounted b → Went (Ok (t, over)) (meant ∷ [])
+pub ends-there : {T : Type 0} (t : T) (over : Bool) (meant b : Node) → b ≡ meant → is_overfull b ≡ false → over ≡ is_overcounted b
+    → Went (Ok (t, over)) (meant ∷ [])
 ends-there t over meant b same fits counts = (
   ap (λ o. o || false) (ap is_overfull (sym same) ∙ fits),
   counts ∙ (ap is_overcounted same ∙ or_false (is_overcounted meant)),

@@ -33,10 +33,12 @@ use Rattle.pfl_receive.specs.merge.Merging.{merged, stale_src, stale_dst}
 use Rattle.pfl_receive.specs.defer.declared.Held.{Held}
 use Rattle.pfl_receive.specs.defer.Deferring.{pushed_out}
 use Rattle.pfl_receive.specs.desk.Nodes.{Node, timeout_at}
-use Rattle.pfl_receive.specs.desk.Changes.{put_state, mark, is_untold, is_insert, is_held, freed, lost, not_waiting, released, changed, deleted, forgotten, count_stale, count_freed, count_lost, without_held}
+use Rattle.pfl_receive.specs.desk.Changes.{put_state, mark, is_unannounced, is_insert, is_held, freed, lost, not_waiting, released, changed, deleted}
+use Rattle.pfl_receive.specs.desk.Changes.{forgotten, count_stale, count_freed, count_lost, without_held}
 use Rattle.pfl_node.specs.Starting.{Handled, started, judged, by_rule, announced, hold, with_room, with_new, new_state, is_at_max, is_deferred}
 use Rattle.pfl_node.specs.Packets.{handled, handled_by, followed, accepted}
-use Rattle.pfl_receive.specs.Receiving.{taken, insert_taken, can_import, imported, merge_taken, merged_into, bulk_taken, state_answered, request_taken, ack_taken, is_known, cleared_names, status_taken}
+use Rattle.pfl_receive.specs.Receiving.{taken, insert_taken, can_import, imported, merge_taken, merged_into, bulk_taken, state_answered}
+use Rattle.pfl_receive.specs.Receiving.{request_taken, ack_taken, is_known, cleared_names, status_taken}
 
 -- the states of the node are named and keyed rightly
 abbrev Apart : Node → Type 0
@@ -121,7 +123,8 @@ not_waiting-has n name s k at = by (maps.get n.states name) refl
     by (Some t) e = elim (key_cases names_total names_exact s.name t.name) [
       | inl same ↦ record {
         state = record t { ack_wanted = false };
-        at = ap (maps.get (maps.insert n.states t.name (record t { ack_wanted = false }))) same ∙ get-set_at_same names_total names_exact n.states t.name (Some (record t { ack_wanted = false }));
+        at = ap (maps.get (maps.insert n.states t.name (record t { ack_wanted = false }))) same
+            ∙ get-set_at_same names_total names_exact n.states t.name (Some (record t { ack_wanted = false }));
         same =
             let one : t ≡ s = inner t s (sym (under_its_name n name t k e) ∙ (ap (maps.get n.states) (sym same) ∙ at)) in
             record { name = ap (λ (u : State). u.name) one; wire = ap (λ (u : State). u.wire) one; stack = ap (λ (u : State). u.stack) one };
@@ -143,7 +146,7 @@ changed-apart : (n : Node) (s t : State) → Apart n → maps.get n.states s.nam
 unfolding changed
 changed-apart n s t k at same =
     either t.no_sync _ _ (put-known n s t k at same)
-    (either (is_untold (kind_of n.queue t.name)) _ _
+    (either (is_unannounced (kind_of n.queue t.name)) _ _
     (put-known n s (record t { updates = 0 }) k at (record { name = same.name; wire = same.wire; stack = same.stack }))
     (either (is_tcp t.wire.proto) _ _ (put-known n s _ k at (record { name = same.name; wire = same.wire; stack = same.stack })) (put-known n s t k at same)))
 
@@ -195,7 +198,8 @@ merge-apart n s r k at = go (lost n s.name) (merged s r (timeout_at n s.rule r.c
     go : (m : Node) (x : Merged) → Apart m → maps.get m.states s.name ≡ Some s → SameKeys s x.state → Apart (merged_into m x)
     go m x k at same =
         let calm : SameKeys s (record x.state { ack_wanted = false }) = record { name = same.name; wire = same.wire; stack = same.stack } in
-        either (x.stale_src || x.stale_dst) _ _ (changed-apart (count_stale m) s (record x.state { ack_wanted = false }) k at calm) (put-known m s (record x.state { ack_wanted = false }) k at calm)
+        either (x.stale_src || x.stale_dst) _ _ (changed-apart (count_stale m) s (record x.state { ack_wanted = false }) k at calm)
+        (put-known m s (record x.state { ack_wanted = false }) k at calm)
 
 request-apart : (n : Node) (name : StateName) → Apart n → Apart (request_taken n name)
 request-apart n name k = either _ (bulk_taken n) _ k (on_some (maps.get n.states name) (state_answered n) _ (λ s at. either _ _ n k k) k)
@@ -209,7 +213,8 @@ unfolding taken
 taken-apart n b (message.Clear creator bound) k = over_all forgotten (cleared_names n creator bound) n (λ m name l. forgotten-apart m name l) k
 taken-apart n b (message.Insert r) k = insert-apart n b r r.ack_wanted k
 taken-apart n b (message.InsertAck name) k = on_some (maps.get n.states name) (ack_taken n) n (λ s at. either s.ack_wanted _ n (released-apart n s.name k) k) k
-taken-apart n b (message.Update r) k = on_some (maps.get n.states r.name) _ _ (λ s at. merge-apart n s _ k (under_its_name n r.name s k at)) (insert-apart n b r false k)
+taken-apart n b (message.Update r) k =
+    on_some (maps.get n.states r.name) _ _ (λ s at. merge-apart n s _ k (under_its_name n r.name s k at)) (insert-apart n b r false k)
 taken-apart n b (message.UpdateShort u) k = on_some (maps.get n.states u.name) _ _ (λ s at. merge-apart n s _ k (under_its_name n u.name s k at)) k
 taken-apart n b (message.UpdateRequest name) k = request-apart n name k
 taken-apart n b (message.Delete r) k = either (is_known n r.name) _ _ (forgotten-apart n r.name k) k
@@ -226,7 +231,8 @@ one_by : (b : Bool) (x y : Handled) → (b ≡ true → Apart x.node) → (b ≡
 one_by true x y k l = k refl
 one_by false x y k l = l refl
 
-of_some : {X : Type 0} (o : Option X) (f : X → Handled) (d : Handled) → ((x : X) → o ≡ Some x → Apart (f x).node) → Apart d.node → Apart (option_map_or f o d).node
+of_some : {X : Type 0} (o : Option X) (f : X → Handled) (d : Handled) → ((x : X) → o ≡ Some x → Apart (f x).node) → Apart d.node
+    → Apart (option_map_or f o d).node
 of_some None f d k l = l
 of_some (Some x) f d k l = k x refl
 
@@ -249,7 +255,8 @@ hold-apart n s p k has =
 announced-apart : (n : Node) (s : State) (dir : Dir) (p : Packet) → Apart n → maps.get n.states s.name ≡ Some s → Apart (announced n s dir p).node
 announced-apart n s dir p k at =
     one_of s.no_sync _ _ k
-    (one_of (is_deferred n dir) _ _ (hold-apart (with_room (mark n s.name Insert)) s p (room-apart (mark n s.name Insert) k) (room-has (mark n s.name Insert) s k at)) k)
+    (one_of (is_deferred n dir) _ _
+    (hold-apart (with_room (mark n s.name Insert)) s p (room-apart (mark n s.name Insert) k) (room-has (mark n s.name Insert) s k at)) k)
 
 started-apart : (n : Node) (dir : Dir) (p : Packet) (number : ℕ) (r : Rule) → Apart n → Apart (started n dir p number r).node
 unfolding started
@@ -274,7 +281,8 @@ accepted-apart n s t k at same =
     changed-apart (freed n t.name) s (record t { ack_wanted = false }) (freed-apart n t.name k) (ap (λ m. maps.get m s.name) (freed-states n t.name) ∙ at)
     (record { name = same.name; wire = same.wire; stack = same.stack })
 
-followed-apart : (n : Node) (dir : Dir) (p : Packet) (s : State) (x : Tracked) → Apart n → maps.get n.states s.name ≡ Some s → Stays s x → Apart (followed n dir p s x).node
+followed-apart : (n : Node) (dir : Dir) (p : Packet) (s : State) (x : Tracked) → Apart n → maps.get n.states s.name ≡ Some s → Stays s x
+    → Apart (followed n dir p s x).node
 followed-apart n dir p s (Moved t) k at stays = accepted-apart n s t k at (record { name = stays.name; wire = stays.wire; stack = stays.stack })
 followed-apart n dir p s OutOfWindow k at stays = k
 followed-apart n dir p s Reused k at stays = judged-apart (deleted n s) dir p (deleted-apart n s k)

@@ -38,7 +38,8 @@ module _ (k : ℕ) where
   expired-next : (n : Node) (s : State) → AreParts n → slice_get (expired_among k n) 0 ≡ Some s → expired_among k n ≡ s ∷ expired_among k (deleted n s)
   expired-next n s is e =
       let rest = deleted-rest n s in
-      expired-without k n (deleted n s) s is (ap (λ (r : Rest). r.1.1.0) rest) (ap (λ (r : Rest). r.0) rest) (ap (λ (r : Rest). r.1.0) rest) (ap (λ (r : Rest). r.1.1.1.0) rest) e
+      expired-without k n (deleted n s) s is (ap (λ (r : Rest). r.1.1.0) rest) (ap (λ (r : Rest). r.0) rest)
+      (ap (λ (r : Rest). r.1.0) rest) (ap (λ (r : Rest). r.1.1.1.0) rest) e
 
   purged-next : (n : Node) (s : State) → AreParts n → slice_get (expired_among k n) 0 ≡ Some s → purged_among k n ≡ purged_among k (deleted n s)
   unfolding purged_among
@@ -95,7 +96,8 @@ pub record IsNext (k : ℕ) (b : Draft) (s : State) : Type 0 where
   pub rest : purged_among k b.node ≡ purged_among k (deleted b.node s)
   pub room : 5 ≤ b.edits.spare
 
-pub next-is : (a b : Draft) (count : ℕ) (over : Bool) (k : ℕ) (s : State) → AreParts b.node → IsPurged a b count over → k ≡ found a → slice_get (expired_among k b.node) 0 ≡ Some s → IsNext (found a) b s
+pub next-is : (a b : Draft) (count : ℕ) (over : Bool) (k : ℕ) (s : State) → AreParts b.node → IsPurged a b count over → k ≡ found a
+    → slice_get (expired_among k b.node) 0 ≡ Some s → IsNext (found a) b s
 next-is a b count over k s is so same at =
     let first : slice_get (expired_among (found a) b.node) 0 ≡ Some s = rw same at at in
     let expired = expired-next (found a) b.node s is first in
@@ -124,7 +126,8 @@ module _ (a b : Draft) (count : ℕ) (over : Bool) (so : IsPurged a b count over
   pub counted-few : count ≤ 65535
   counted-few = let few = so.few in let all = so.all in omega (arith, few, all, long)
 
-  pub purged-more : (d : Draft) (now : Bool) → d.node ≡ deleted b.node s → Writes 5 b d → is_overfull d.node ≡ false → now ≡ is_overcounted d.node → IsPurged a d (count + 1) (over || now)
+  pub purged-more : (d : Draft) (now : Bool) → d.node ≡ deleted b.node s → Writes 5 b d → is_overfull d.node ≡ false
+      → now ≡ is_overcounted d.node → IsPurged a d (count + 1) (over || now)
   purged-more d now same more fits counts =
       let spare = more.spare in
       let room = so.room in
@@ -173,7 +176,8 @@ or_false : (a : Bool) → a ≡ (a || false)
 or_false true = refl
 or_false false = refl
 
-pub purged-done : (a b : Draft) (count : ℕ) (over : Bool) (k : ℕ) → IsPurged a b count over → k ≡ found a → slice_get (expired_among k b.node) 0 ≡ None → IsDone a b count over
+pub purged-done : (a b : Draft) (count : ℕ) (over : Bool) (k : ℕ) → IsPurged a b count over → k ≡ found a
+    → slice_get (expired_among k b.node) 0 ≡ None → IsDone a b count over
 purged-done a b count over k so same at =
     let empty = none_first (expired_among (found a) b.node) (rw same at at) in
     let long = ap (λ (ss : List State). length ss) empty in
@@ -189,11 +193,14 @@ purged-done a b count over k so same at =
 
 -- ---- where it ends
 
-ends : (xs : List State) (n : Node) → is_overcounted n ≡ false → list_any is_overcounted (folds deleted n xs) ≡ false → is_overcounted (fold deleted n xs) ≡ false
+ends : (xs : List State) (n : Node) → is_overcounted n ≡ false → list_any is_overcounted (folds deleted n xs) ≡ false
+    → is_overcounted (fold deleted n xs) ≡ false
 ends [] n e h = e
 ends (s ∷ xs) n e h = by (ends xs (deleted n s)) (is_overcounted (deleted n s)) refl h
   where
-    by : (is_overcounted (deleted n s) ≡ false → list_any is_overcounted (folds deleted (deleted n s) xs) ≡ false → is_overcounted (fold deleted (deleted n s) xs) ≡ false) → (b : Bool) → is_overcounted (deleted n s) ≡ b → (b || list_any is_overcounted (folds deleted (deleted n s) xs)) ≡ false → is_overcounted (fold deleted (deleted n s) xs) ≡ false
+    by : (is_overcounted (deleted n s) ≡ false → list_any is_overcounted (folds deleted (deleted n s) xs) ≡ false
+        → is_overcounted (fold deleted (deleted n s) xs) ≡ false) → (b : Bool) → is_overcounted (deleted n s) ≡ b
+        → (b || list_any is_overcounted (folds deleted (deleted n s) xs)) ≡ false → is_overcounted (fold deleted (deleted n s) xs) ≡ false
     by rest true is h = absurd (cc)
     by rest false is h = rest is h
 
@@ -202,7 +209,8 @@ pub purged-counted : (n : Node) → is_overcounted n ≡ false → list_any is_o
 unfolding purged purge_points
 purged-counted n e h = ends (expired_states n) n e h
 
-pub purged-ends : {T : Type 0} (n m : Node) (tried : Result (T × Bool) Overfull) → is_overcounted n ≡ false → OnOk tried (m ≡ purged n) → (t : T) → tried ≡ Ok (t, false) → list_any is_overcounted (purge_points n) ≡ false → is_overcounted m ≡ false
+pub purged-ends : {T : Type 0} (n m : Node) (tried : Result (T × Bool) Overfull) → is_overcounted n ≡ false → OnOk tried (m ≡ purged n)
+    → (t : T) → tried ≡ Ok (t, false) → list_any is_overcounted (purge_points n) ≡ false → is_overcounted m ≡ false
 purged-ends n m tried low node t stands none =
     let same : m ≡ purged n = subst (λ (q : Result _ Overfull). OnOk q (m ≡ purged n)) stands node in
     ap is_overcounted same ∙ purged-counted n low none

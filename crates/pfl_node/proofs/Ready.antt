@@ -1,16 +1,17 @@
 -- From a node that is ready to one that is ready again: what an event recorded stands, or is taken back.
-use Rattle.std.specs.Prelude.{◌≡◌, ◌≤◌, ℕ, ◌+◌, ◌*◌, Bool, false, List, [], ◌∷◌, length, Option, None, Result, Ok, Err, IfOk, IfErr, OnOk, OnErr, refl}
+use Rattle.std.specs.Prelude.{◌≡◌, ◌≤◌, ℕ, ◌+◌, ◌*◌, Bool, false, List, [], ◌∷◌, ◌++◌, length, map, Option, None, Result, Ok, Err, IfOk, IfErr, OnOk}
+use Rattle.std.specs.Prelude.{OnErr, refl}
 use Rattle.std.specs.List.{list_any}
 use Rattle.std.proofs.Common.{◌∙◌, ap, sym, subst, arith}
 use Rattle.pfl_base.specs.declared.refusal.Refusal.{Refusal}
-use Rattle.pfl_edits.specs.Changes.{Edits, LeadsBack, back}
+use Rattle.pfl_edits.specs.Changes.{LeadsBack, back}
 use Rattle.pfl_language.specs.declared.limits.Limits.{Limits}
 use Rattle.pfl_language.specs.Limits.{AreLimits}
 use Rattle.pfl_receive.specs.desk.declared.edit.NodeEdit.{NodeEdit}
 use Rattle.pfl_receive.specs.desk.declared.edit.NodeEdit.TheVariants.{OfState, Moved, OfQueue, OfHeld, Server, Client, Clock, NextId, Push, Count}
 use Rattle.pfl_receive.specs.desk.declared.parts.judge.Overfull.{Overfull}
-use Rattle.pfl_receive.specs.desk.Drafts.{Draft, Writes, began}
-use Rattle.pfl_receive.specs.desk.Edits.{Finds, put_back, NodeLeadsBack}
+use Rattle.pfl_receive.specs.desk.Drafts.{Draft, Writes, AllRecorded, began}
+use Rattle.pfl_receive.specs.desk.Edits.{Finds, put_back, NodeLeadsBack, NodeRecorded}
 use Rattle.pfl_receive.specs.desk.inner.Drafting.{most_room}
 use Rattle.pfl_receive.specs.desk.inner.Judging.{Went, judgement}
 use Rattle.pfl_receive.specs.desk.Nodes.{Node, AreParts, IsNode, IsRefusal, is_overcounted, points_refusal}
@@ -82,82 +83,121 @@ back-limits (e ∷ es) n = put_back-limits e (back put_back es n) ∙ back-limit
 
 -- ---- where it ends
 
--- what an event makes of the node n: it stands on the desk d, which is ready again
-pub record Concluded {T : Type 0} (k : ℕ) (n : Node) (d : Draft) (result : Result (T × Edits NodeEdit) Refusal) : Type 0 where
+-- what an event makes of the node n: it stands on the desk d, which is ready again, and its edits were appended to those from before
+pub record Concluded {T W : Type 0} (of : NodeEdit → W) (k : ℕ) (n : Node) (d : Draft) (before after : List W) (result : Result T Refusal) : Type 0 where
   pub node : IsNode d.node
   pub ready : IsReady d.node.limits d.edits
   pub unchanged : OnErr result (d.node ≡ n)
-  pub leads_back : IfOk result (λ r. NodeLeadsBack r.1.list n d.node)
-  pub weight : IfOk result (λ r. length r.1.list ≤ k)
+  pub recorded : OnOk result (NodeRecorded of k n d.node before after)
+
+-- what was recorded since the event began leads back through nodes, where no number is too high
+through : {W : Type 0} (of : NodeEdit → W) (k : ℕ) (n m : Node) (b : Draft) (before after : List W) → AllRecorded of b m before after
+    → length b.edits.list ≤ k → began b ≡ n → is_overcounted m ≡ false → NodeRecorded of k n m before after
+through of k n m b before after r less same low =
+    let few = r.few in
+    record {
+      edits = r.edits;
+      appended = r.appended;
+      leads_back = leads_through r.edits n m (subst (λ (l : Node). LeadsBack Finds AreParts put_back r.edits l m) same r.leads_back) low;
+      few = omega (arith, few, less);
+    }
 
 -- Stands says which answers were given where no number is too high
-module _ {T : Type 0} (k : ℕ) (a b d : Draft) (Stands : T → Type 0)
+module _ {T W : Type 0} (of : NodeEdit → W) (before after : List W) (k : ℕ) (a b d : Draft) (Stands : T → Type 0)
     (is : IsNode a.node) (ready : IsReady a.node.limits a.edits) (writes : Writes k a b) (counted : (t : T) → Stands t → is_overcounted b.node ≡ false)
     (none : d.edits.list ≡ []) (room : d.edits.spare ≡ b.edits.spare + length b.edits.list) where
   so : Carries k (most_edits a.node.limits) a.node b
   so = carried k a b ready writes
 
-  pub concluded : (result : Result (T × Edits NodeEdit) Refusal) → OnErr result (d.node ≡ began b) → IfOk result (λ r. Stands r.0) → OnOk result (d.node ≡ b.node) → OnOk result (AreParts d.node)
-      → IfOk result (λ r. r.1.list ≡ b.edits.list) → IfOk result (λ r. LeadsBack Finds AreParts put_back r.1.list (began b) d.node) → Concluded k a.node d result
-  concluded (Ok r) undone stands kept parts edits leads =
-      let low = ap is_overcounted kept ∙ counted r.0 stands in
-      let limits : a.node.limits ≡ d.node.limits = ap (λ (n : Node). n.limits) (sym so.began) ∙ (back-limits b.edits.list b.node ∙ ap (λ (n : Node). n.limits) (sym kept)) in
-      let few = so.few in
-      let long = ap (λ (es : List NodeEdit). length es) edits in
+  pub concluded : (result : Result T Refusal) → OnErr result (d.node ≡ began b) → IfOk result Stands → OnOk result (d.node ≡ b.node)
+      → OnOk result (AreParts d.node)
+      → OnOk result (AllRecorded of b d.node before after) → Concluded of k a.node d before after result
+  concluded (Ok t) undone stands kept parts recorded =
+      let low = ap is_overcounted kept ∙ counted t stands in
+      let limits : a.node.limits ≡ d.node.limits = ap (λ (n : Node). n.limits) (sym so.began)
+      ∙ (back-limits b.edits.list b.node ∙ ap (λ (n : Node). n.limits) (sym kept)) in
       record {
         node = record { parts = parts; counted = low };
         ready = record { none = none; room = room ∙ (so.room ∙ ap most_edits limits) };
         unchanged = tt;
-        leads_back = leads_through r.1.list a.node d.node (subst (λ (n : Node). LeadsBack Finds AreParts put_back r.1.list n d.node) so.began leads) low;
-        weight = omega (arith, few, long);
+        recorded = through of k a.node d.node b before after recorded so.few so.began low;
       }
-  concluded (Err e) undone stands kept parts edits leads =
+  concluded (Err e) undone stands kept parts recorded =
       let same : d.node ≡ a.node = undone ∙ so.began in
       record {
         node = subst IsNode (sym same) is;
         ready = record { none = none; room = room ∙ (so.room ∙ ap (λ (n : Node). most_edits n.limits) (sym same)) };
         unchanged = same;
-        leads_back = tt;
-        weight = tt;
+        recorded = tt;
       }
 
 -- the same of an event that went through these points
-pub record Settled {T : Type 0} (k : ℕ) (n : Node) (d : Draft) (points : List Node) (result : Result (T × Edits NodeEdit) Refusal) : Type 0 where
+pub record Settled {T W : Type 0} (of : NodeEdit → W) (k : ℕ) (n : Node) (d : Draft) (points : List Node) (before after : List W)
+    (result : Result T Refusal) : Type 0 where
   pub node : IsNode d.node
   pub ready : IsReady d.node.limits d.edits
   pub refused : IfErr result (IsRefusal (points_refusal points))
   pub unchanged : OnErr result (d.node ≡ n)
   pub not_refused : OnOk result (points_refusal points ≡ None)
-  pub leads_back : IfOk result (λ r. NodeLeadsBack r.1.list n d.node)
-  pub weight : IfOk result (λ r. length r.1.list ≤ k)
+  pub recorded : OnOk result (NodeRecorded of k n d.node before after)
 
 -- an event that was carried out to the node n may be judged: where it says that no number was too high, none is in the end
 pub may-settle : {T : Type 0} (n : Node) (tried : Result (T × Bool) Overfull) (points : List Node) → Went tried points
-    → ((t : T) → tried ≡ Ok (t, false) → list_any is_overcounted points ≡ false → is_overcounted n ≡ false) → IfOk tried (λ r. r.1 ≡ false → is_overcounted n ≡ false)
+    → ((t : T) → tried ≡ Ok (t, false) → list_any is_overcounted points ≡ false → is_overcounted n ≡ false)
+    → IfOk tried (λ r. r.1 ≡ false → is_overcounted n ≡ false)
 may-settle n (Ok r) points went counted = λ low. counted r.0 (λ i. Ok (r.0, low i)) (went-counted (Ok r) r.0 points went (λ i. Ok (r.0, low i)))
 may-settle n (Err e) points went counted = tt
 
-module _ {T : Type 0} (k : ℕ) (a b d : Draft) (tried : Result (T × Bool) Overfull) (points : List Node)
-    (is : IsNode a.node) (ready : IsReady a.node.limits a.edits) (writes : Writes k a b) (went : Went tried points) (counted : (t : T) → tried ≡ Ok (t, false) → list_any is_overcounted points ≡ false → is_overcounted b.node ≡ false)
+module _ {T W : Type 0} (of : NodeEdit → W) (before after : List W) (k : ℕ) (a b d : Draft) (tried : Result (T × Bool) Overfull) (points : List Node)
+    (is : IsNode a.node) (ready : IsReady a.node.limits a.edits) (writes : Writes k a b) (went : Went tried points) (counted : (t : T)
+    → tried ≡ Ok (t, false) → list_any is_overcounted points ≡ false → is_overcounted b.node ≡ false)
     (none : d.edits.list ≡ []) (room : d.edits.spare ≡ b.edits.spare + length b.edits.list) where
-  why : (result : Result (T × Edits NodeEdit) Refusal) → IfErr result (IsRefusal (judgement tried)) → IfErr result (IsRefusal (points_refusal points))
-  why (Ok r) refused = tt
+  why : (result : Result T Refusal) → IfErr result (IsRefusal (judgement tried)) → IfErr result (IsRefusal (points_refusal points))
+  why (Ok t) refused = tt
   why (Err e) refused = subst (λ (o : Option Refusal). IsRefusal o e) (sym (went-refusal tried points went)) refused
 
-  free : (result : Result (T × Edits NodeEdit) Refusal) → IfOk result (λ r. tried ≡ Ok (r.0, false)) → OnOk result (points_refusal points ≡ None)
-  free (Ok r) stands = went-refusal tried points went ∙ ap (λ (q : Result (T × Bool) Overfull). judgement q) stands
+  free : (result : Result T Refusal) → IfOk result (λ t. tried ≡ Ok (t, false)) → OnOk result (points_refusal points ≡ None)
+  free (Ok t) stands = went-refusal tried points went ∙ ap (λ (q : Result (T × Bool) Overfull). judgement q) stands
   free (Err e) stands = tt
 
-  pub settled : (result : Result (T × Edits NodeEdit) Refusal) → IfErr result (IsRefusal (judgement tried)) → OnErr result (d.node ≡ began b) → IfOk result (λ r. tried ≡ Ok (r.0, false)) → OnOk result (d.node ≡ b.node) → OnOk result (AreParts d.node)
-      → IfOk result (λ r. r.1.list ≡ b.edits.list) → IfOk result (λ r. LeadsBack Finds AreParts put_back r.1.list (began b) d.node) → Settled k a.node d points result
-  settled result refused undone stands kept parts edits leads =
-      let all = concluded k a b d (λ t. tried ≡ Ok (t, false)) is ready writes (λ t stood. counted t stood (went-counted tried t points went stood)) none room result undone stands kept parts edits leads in
+  pub settled : (result : Result T Refusal) → IfErr result (IsRefusal (judgement tried)) → OnErr result (d.node ≡ began b)
+      → IfOk result (λ t. tried ≡ Ok (t, false)) → OnOk result (d.node ≡ b.node) → OnOk result (AreParts d.node)
+      → OnOk result (AllRecorded of b d.node before after) → Settled of k a.node d points before after result
+  settled result refused undone stands kept parts recorded =
+      let all = concluded of before after k a b d (λ t. tried ≡ Ok (t, false)) is ready writes
+      (λ t stood. counted t stood (went-counted tried t points went stood)) none room result undone stands kept parts recorded in
       record {
         node = all.node;
         ready = all.ready;
         refused = why result refused;
         unchanged = all.unchanged;
         not_refused = free result stands;
-        leads_back = all.leads_back;
-        weight = all.weight;
+        recorded = all.recorded;
       }
+
+-- what was recorded is no more than any larger number either
+pub wider : {W : Type 0} (of : NodeEdit → W) (j k : ℕ) (m n : Node) (before after : List W) → NodeRecorded of j m n before after → j ≤ k
+    → NodeRecorded of k m n before after
+wider of j k m n before after r less = let few =
+    r.few in record { edits = r.edits; appended = r.appended; leads_back = r.leads_back; few = omega (arith, few, less) }
+
+-- ---- an event whose edits are recorded alone
+
+itself : {X : Type 0} (xs : List X) → map (λ x. x) xs ≡ xs
+itself [] = refl
+itself (x ∷ xs) = ap (λ (ys : List _). x ∷ ys) (itself xs)
+
+-- the edits that were recorded alone lead back, and are no more than that
+pub record Alone (k : ℕ) (old new : Node) (edits : List NodeEdit) : Type 0 where
+  pub leads_back : NodeLeadsBack edits old new
+  pub weight : length edits ≤ k
+
+pub alone : (k : ℕ) (old new : Node) (before after : List NodeEdit) → NodeRecorded (λ e. e) k old new before after → before ≡ [] → Alone k old new after
+alone k old new before after r none =
+    let all : after ≡ r.edits = r.appended ∙ (ap (λ (es : List NodeEdit). es ++ map (λ e. e) r.edits) none ∙ itself r.edits) in
+    let few = r.few in
+    let long = ap (λ (es : List NodeEdit). length es) all in
+    record {
+      leads_back = subst (λ (es : List NodeEdit). NodeLeadsBack es old new) (sym all) r.leads_back;
+      weight = omega (arith, few, long);
+    }

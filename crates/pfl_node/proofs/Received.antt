@@ -13,16 +13,21 @@ abbrev step : Bool → Node → Message → Node
 step same = λ m r. taken m same r
 
 -- where no number was too high after a record, none is at the end
-ends : (same : Bool) (ms : List Message) (n : Node) → is_overcounted n ≡ false → list_any is_overcounted (taken_points n same ms) ≡ false → is_overcounted (fold (step same) n ms) ≡ false
+ends : (same : Bool) (ms : List Message) (n : Node) → is_overcounted n ≡ false → list_any is_overcounted (taken_points n same ms) ≡ false
+    → is_overcounted (fold (step same) n ms) ≡ false
 ends same [] n e h = e
 ends same (r ∷ ms) n e h = by (ends same ms (taken n same r)) (is_overcounted (taken n same r)) refl h
   where
-    by : (is_overcounted (taken n same r) ≡ false → list_any is_overcounted (taken_points (taken n same r) same ms) ≡ false → is_overcounted (fold (step same) (taken n same r) ms) ≡ false)
-        → (b : Bool) → is_overcounted (taken n same r) ≡ b → (b || list_any is_overcounted (taken_points (taken n same r) same ms)) ≡ false → is_overcounted (fold (step same) (taken n same r) ms) ≡ false
+    by : (is_overcounted (taken n same r) ≡ false → list_any is_overcounted (taken_points (taken n same r) same ms) ≡ false
+        → is_overcounted (fold (step same) (taken n same r) ms) ≡ false)
+        → (b : Bool) → is_overcounted (taken n same r) ≡ b → (b || list_any is_overcounted (taken_points (taken n same r) same ms)) ≡ false
+        → is_overcounted (fold (step same) (taken n same r) ms) ≡ false
     by rest true is h = absurd (cc)
     by rest false is h = rest is h
 
-pub received-ends : (n b : Node) (f : Frame) (tried : Result (ℕ × Bool) Overfull) → is_overcounted n ≡ false → OnOk tried (b ≡ received n f) → (t : ℕ) → tried ≡ Ok (t, false) → list_any is_overcounted (receive_points n f) ≡ false → is_overcounted b ≡ false
+pub received-ends : (n b : Node) (f : Frame) (tried : Result (ℕ × Bool) Overfull) → is_overcounted n ≡ false
+    → OnOk tried (b ≡ received n f) → (t : ℕ) → tried ≡ Ok (t, false) → list_any is_overcounted (receive_points n f) ≡ false
+    → is_overcounted b ≡ false
 received-ends n b f tried low node t stands none =
     let same : b ≡ received n f = subst (λ (q : Result (ℕ × Bool) Overfull). OnOk q (b ≡ received n f)) stands node in
     ap is_overcounted same ∙ ends (same_rules n f) (records_of f) n low none

@@ -1,5 +1,6 @@
 -- A release lets the oldest packet go that is due, and then releases.
-use Rattle.std.specs.Prelude.{◌≡◌, ◌≤◌, ◌<◌, ℕ, ◌+◌, ◌*◌, length, map, filter, not, nat_le, Bool, true, false, List, [], ◌∷◌, Option, Some, None, is_some, if◌then◌else◌, Result, Ok, Err, IfOk, OnOk, refl}
+use Rattle.std.specs.Prelude.{◌≡◌, ◌≤◌, ◌<◌, ℕ, ◌+◌, ◌*◌, length, map, filter, not, nat_le, Bool, true, false, List, [], ◌∷◌, Option, Some, None}
+use Rattle.std.specs.Prelude.{is_some, if◌then◌else◌, Result, Ok, Err, IfOk, OnOk, refl}
 use Rattle.std.specs.List.{AllByRecursion, IsDistinct, fold, slice_get}
 use Rattle.std.specs.Option.{option_map_or}
 use Rattle.std.proofs.Common.{cond, ◌∙◌, ap, sym, subst, arith}
@@ -9,14 +10,12 @@ use Rattle.pfl_base.specs.declared.refusal.Refusal.{Refusal}
 use Rattle.pfl_base.specs.declared.state_name.StateName.{StateName}
 use Rattle.pfl_base.specs.Names.{is_name}
 use Rattle.pfl_base.proofs.ForCallers.{is_name-itself}
-use Rattle.pfl_edits.specs.Changes.{Edits}
 use Rattle.pfl_edits.specs.Maps as maps
 use Rattle.pfl_receive.specs.defer.declared.Held.{Held}
 use Rattle.pfl_receive.specs.defer.Deferring.{Deferrals, held_of, let_go, due}
 use Rattle.pfl_receive.proofs.ForCallers.defer.{absent_stays}
 use Rattle.pfl_track.specs.declared.state.State.{State}
 use Rattle.pfl_language.specs.declared.limits.Limits.{Limits}
-use Rattle.pfl_receive.specs.desk.declared.edit.NodeEdit.{NodeEdit}
 use Rattle.pfl_receive.specs.desk.Changes.{count_freed, without_held, freed, not_waiting, put_state, released}
 use Rattle.pfl_receive.specs.desk.Drafts.{Draft, Writes}
 use Rattle.pfl_receive.specs.desk.inner.Judging.{judged_as}
@@ -44,12 +43,16 @@ due-first : (p : Held → Bool) (name : StateName) (hs : List Held) → IsDistin
     → names (filter p hs) ≡ name ∷ names (filter p (filter (λ h. not (is_name name h.name)) hs))
 due-first p name [] once e = absurd (cc)
 due-first p name (h ∷ hs) once e =
-    elim (p h) as (λ b. p h ≡ b → slice_get (names (cond b (h ∷ filter p hs) (filter p hs))) 0 ≡ Some name → names (cond b (h ∷ filter p hs) (filter p hs)) ≡ name ∷ names (filter p (filter (λ k. not (is_name name k.name)) (h ∷ hs)))) [
+    elim (p h) as (λ b. p h ≡ b → slice_get (names (cond b (h ∷ filter p hs) (filter p hs))) 0 ≡ Some name
+    → names (cond b (h ∷ filter p hs) (filter p hs)) ≡ name ∷ names (filter p (filter (λ k. not (is_name name k.name)) (h ∷ hs)))) [
       | true ↦ λ is first.
           let same : h.name ≡ name = cc in
           let own : is_name name h.name ≡ true = is_name-itself name h.name (sym same) in
-          let apart : AllByRecursion (λ n. is_name name n ≡ false) (names hs) = subst (λ (n : StateName). AllByRecursion (λ m. is_name n m ≡ false) (names hs)) same (IsDistinct-head is_name h.name (names hs) once) in
-          let rest : filter (λ k. not (is_name name k.name)) (h ∷ hs) ≡ hs = ap (λ b. cond (not b) (h ∷ filter (λ k. not (is_name name k.name)) hs) (filter (λ k. not (is_name name k.name)) hs)) own ∙ others_stay name hs apart in
+          let apart : AllByRecursion (λ n. is_name name n ≡ false) (names hs) =
+          subst (λ (n : StateName). AllByRecursion (λ m. is_name n m ≡ false) (names hs)) same (IsDistinct-head is_name h.name (names hs) once) in
+          let rest : filter (λ k. not (is_name name k.name)) (h ∷ hs) ≡ hs =
+          ap (λ b. cond (not b) (h ∷ filter (λ k. not (is_name name k.name)) hs) (filter (λ k. not (is_name name k.name)) hs)) own
+          ∙ others_stay name hs apart in
           (λ i. same i ∷ names (filter p (sym rest i)))
       | false ↦ λ late first.
           due-first p name hs (IsDistinct-tail is_name h.name (names hs) once) first
@@ -67,7 +70,8 @@ waits n = (n.held, n.clock, n.limits)
 freed-waits : (n : Node) (name : StateName) → waits (freed n name) ≡ (let_go n.held name, n.clock, n.limits)
 freed-waits n name = by (held_of n.held name) refl
   where
-    by : (o : Option Held) → held_of n.held name ≡ o → waits (if is_some o then count_freed (without_held n name) else n) ≡ (let_go n.held name, n.clock, n.limits)
+    by : (o : Option Held) → held_of n.held name ≡ o
+        → waits (if is_some o then count_freed (without_held n name) else n) ≡ (let_go n.held name, n.clock, n.limits)
     by None none = ap (λ (hs : List Held). (record n.held { list = hs }, n.clock, n.limits)) (sym (absent_stays name n.held.list none))
     by (Some h) is = refl
 
@@ -138,7 +142,8 @@ pub record IsNextDue (b : Draft) (name : StateName) : Type 0 where
   pub rest : released_due b.node ≡ released_due (released b.node name)
   pub room : 3 ≤ b.edits.spare
 
-pub next-due : (a b : Draft) (count : ℕ) (name : StateName) → AreParts b.node → IsReleased a b count → slice_get (due_names b.node) 0 ≡ Some name → IsNextDue b name
+pub next-due : (a b : Draft) (count : ℕ) (name : StateName) → AreParts b.node → IsReleased a b count
+    → slice_get (due_names b.node) 0 ≡ Some name → IsNextDue b name
 next-due a b count name is so first =
     let next = due-next b.node name is first in
     let long = ap (λ (ns : List StateName). length ns) next in
@@ -198,6 +203,6 @@ pub judged-low : (m : Node) (judged : Result ℕ Refusal) → OnOk judged (is_ov
 judged-low m judged low count stands = subst (λ (q : Result ℕ Refusal). OnOk q (is_overcounted m ≡ false)) stands low
 
 -- and is not refused
-pub judged-none : (judged : Result ℕ Refusal) (result : Result (ℕ × Edits NodeEdit) Refusal) → IfOk result (λ r. judged ≡ Ok r.0) → OnOk result (judged_as judged ≡ None)
+pub judged-none : (judged : Result ℕ Refusal) (result : Result ℕ Refusal) → IfOk result (λ k. judged ≡ Ok k) → OnOk result (judged_as judged ≡ None)
 judged-none judged (Ok r) stands = ap (λ (q : Result ℕ Refusal). judged_as q) stands
 judged-none judged (Err e) stands = tt

@@ -1,5 +1,6 @@
 -- A frame goes out: what is taken out of the queue, and that it leads back.
-use Rattle.std.proofs.Common.{◌≡◌, ◌≢◌, Bool, true, false, ℕ, ◌+◌, ◌^◌, ◌<◌, ◌≤◌, List, [], ◌∷◌, ◌++◌, length, take, get_or, Option, Some, None, refl, sym, ◌∙◌, ap, subst, arith, length-append}
+use Rattle.std.proofs.Common.{◌≡◌, ◌≢◌, Bool, true, false, ℕ, ◌+◌, ◌^◌, ◌<◌, ◌≤◌, List, [], ◌∷◌, ◌++◌, length, take, get_or, Option, Some, None, refl}
+use Rattle.std.proofs.Common.{sym, ◌∙◌, ap, subst, arith, length-append}
 use Rattle.std.specs.Prelude.{◌==◌, IsSome, Result, Ok, Err, IfOk, IfErr, OnOk, if◌then◌else◌}
 use Rattle.std.specs.List.{AllByRecursion, fold}
 use Rattle.std.specs.Option.{option_map_or}
@@ -8,7 +9,6 @@ use Rattle.std.proofs.lemmas.List.{take_all}
 use Rattle.std.proofs.lemmas.List.Sums.{fold_more}
 use Rattle.pfl_base.specs.declared.refusal.Refusal.TheVariants.{NothingPending, NoMemory}
 use Rattle.pfl_base.specs.declared.refusal.Refusal.{Refusal}
-use Rattle.pfl_edits.specs.Changes.{Edits}
 use Rattle.pfl_edits.specs.Maps as maps
 use Rattle.pfl_track.specs.declared.state.State.{State}
 use Rattle.pfl_receive.specs.queue.declared.Entry.{Entry}
@@ -19,7 +19,6 @@ use Rattle.pfl_receive.specs.queue.inner.Fitting.{entry_bytes}
 use Rattle.pfl_receive.specs.queue.Queues.{pending}
 use Rattle.pfl_receive.specs.queue.Taking.{in_turn, gone, left_by, next_frame}
 use Rattle.pfl_receive.proofs.ForCallers.queue.{frame_carries, pending-in_turn, Stands, frame_stands, frame_begins, frame_fits}
-use Rattle.pfl_receive.specs.desk.declared.edit.NodeEdit.{NodeEdit}
 use Rattle.pfl_receive.specs.desk.Drafts.{Draft, Writes}
 use Rattle.pfl_receive.specs.desk.Nodes.{Node, AreParts, IsRefusal, is_overcounted}
 use Rattle.pfl_receive.specs.desk.inner.Judging.{judged_as}
@@ -75,10 +74,12 @@ pub frame-is : (n m : Node) (es : List Entry) → m ≡ taken_from n → es ≡ 
 unfolding frame_of
 frame-is n m es left same = ap (λ (k : Node). frame_with k es) left ∙ ap (frame_with n) same
 
-pub flushed-is : (n m k : Node) (es : List Entry) → m ≡ taken_from n → es ≡ frame_entries n → k ≡ fold update_count_cleared (record m { push = false }) es → k ≡ flushed n
+pub flushed-is : (n m k : Node) (es : List Entry) → m ≡ taken_from n → es ≡ frame_entries n
+    → k ≡ fold update_count_cleared (record m { push = false }) es → k ≡ flushed n
 unfolding flushed
 flushed-is n m k es left same is =
-    is ∙ (ap (λ (h : Node). fold update_count_cleared (record h { push = false }) es) left ∙ ap (fold update_count_cleared (record (taken_from n) { push = false })) same)
+    is ∙ (ap (λ (h : Node). fold update_count_cleared (record h { push = false }) es) left
+    ∙ ap (fold update_count_cleared (record (taken_from n) { push = false })) same)
 
 -- what its entries carry is there in the node without them
 pub sent-told : (n m : Node) (es : List Entry) → AreParts n → m ≡ taken_from n → es ≡ frame_entries n → AllByRecursion (IsTold m) es
@@ -174,27 +175,32 @@ flushed-counted n m same low =
 
 -- ---- how a flush ends
 
-pub flushed-ends : {T : Type 0} (n m : Node) (sent : Result T Refusal) → is_overcounted n ≡ false → OnOk sent (m ≡ flushed n) → (t : T) → sent ≡ Ok t → is_overcounted m ≡ false
+pub flushed-ends : {T : Type 0} (n m : Node) (sent : Result T Refusal) → is_overcounted n ≡ false → OnOk sent (m ≡ flushed n) → (t : T)
+    → sent ≡ Ok t → is_overcounted m ≡ false
 flushed-ends {T} n m sent low node t stands = let same = subst (λ (q : Result T Refusal). OnOk q (m ≡ flushed n)) stands node in flushed-counted n m same low
 
 -- so what was sent may stand
-pub flushed-counts : {T : Type 0} (n m : Node) (sent : Result T Refusal) → is_overcounted n ≡ false → OnOk sent (m ≡ flushed n) → OnOk sent (is_overcounted m ≡ false)
+pub flushed-counts : {T : Type 0} (n m : Node) (sent : Result T Refusal) → is_overcounted n ≡ false → OnOk sent (m ≡ flushed n)
+    → OnOk sent (is_overcounted m ≡ false)
 flushed-counts n m (Ok t) low node = flushed-counted n m node low
 flushed-counts n m (Err e) low node = tt
 
 -- only want of memory refuses it then
-pub wants-memory : {T U : Type 0} (sent : Result T Refusal) → IfErr sent (λ e. e ≡ NoMemory) → (result : Result U Refusal) → IfErr result (IsRefusal (judged_as sent)) → IfErr result (IsRefusal None)
+pub wants-memory : {T U : Type 0} (sent : Result T Refusal) → IfErr sent (λ e. e ≡ NoMemory) → (result : Result U Refusal)
+    → IfErr result (IsRefusal (judged_as sent)) → IfErr result (IsRefusal None)
 wants-memory sent memory (Ok r) refused = tt
 wants-memory (Ok t) memory (Err e) refused = refused
 wants-memory (Err f) memory (Err e) refused = refused ∙ memory
 
 -- what was returned stands
-pub sent-answer : {T : Type 0} (sent : Result T Refusal) (P : T → Type 0) → IfOk sent P → (result : Result (T × Edits NodeEdit) Refusal) → IfOk result (λ r. sent ≡ Ok r.0) → IfOk result (λ r. P r.0)
+pub sent-answer : {T : Type 0} (sent : Result T Refusal) (P : T → Type 0) → IfOk sent P → (result : Result T Refusal)
+    → IfOk result (λ t. sent ≡ Ok t) → IfOk result P
 sent-answer {T} sent P answer (Ok r) stands = subst (λ (q : Result T Refusal). IfOk q P) stands answer
 sent-answer sent P answer (Err e) stands = tt
 
 -- and so does the node
-pub sent-node : {T : Type 0} (n b m : Node) (sent : Result T Refusal) → OnOk sent (b ≡ flushed n) → (result : Result (T × Edits NodeEdit) Refusal) → IfOk result (λ r. sent ≡ Ok r.0) → OnOk result (m ≡ b) → OnOk result (m ≡ flushed n)
+pub sent-node : {T : Type 0} (n b m : Node) (sent : Result T Refusal) → OnOk sent (b ≡ flushed n) → (result : Result T Refusal)
+    → IfOk result (λ t. sent ≡ Ok t) → OnOk result (m ≡ b) → OnOk result (m ≡ flushed n)
 sent-node {T} n b m sent node (Ok r) stands kept = let here = subst (λ (q : Result T Refusal). OnOk q (b ≡ flushed n)) stands node in kept ∙ here
 sent-node n b m sent node (Err e) stands kept = tt
 

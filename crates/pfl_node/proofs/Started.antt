@@ -26,15 +26,19 @@ module _ (n : Node) (dir : Dir) (p : Packet) where
   judged-none e f = passes e ∙ ap (by_rule n dir p) f
 
   -- by the rule with the number, if there is one
-  pub judged-rule : (number : ℕ) (o : Option Rule) → (verdict n.rules.list p dir).pass ≡ true → (verdict n.rules.list p dir).rule ≡ Some number → slice_get n.rules.list number ≡ o
+  pub judged-rule : (number : ℕ) (o : Option Rule) → (verdict n.rules.list p dir).pass ≡ true
+      → (verdict n.rules.list p dir).rule ≡ Some number → slice_get n.rules.list number ≡ o
       → judged n dir p ≡ option_map_or (started n dir p number) o (pass n None)
   judged-rule number o e f g = passes e ∙ (ap (by_rule n dir p) f ∙ ap (λ (o : Option Rule). option_map_or (started n dir p number) o (pass n None)) g)
 
   module _ (number : ℕ) (r : Rule) where
     tests : Bool → Bool → Bool → Handled
-    tests at_max full used = cond at_max (drop n reason.Max) (cond full (drop n reason.Full) (cond used (drop n reason.Key) (announced (with_new n (new_state n dir p number r)) (new_state n dir p number r) dir p)))
+    tests at_max full used = cond at_max (drop n reason.Max)
+        (cond full (drop n reason.Full)
+        (cond used (drop n reason.Key) (announced (with_new n (new_state n dir p number r)) (new_state n dir p number r) dir p)))
 
-    is_tests : started n dir p number r ≡ tests (is_at_max n number r) (nat_le n.limits.states (maps.len n.states)) (is_taken n.states (new_keys n.states r (key p dir)))
+    is_tests : started n dir p number r ≡ tests (is_at_max n number r) (nat_le n.limits.states (maps.len n.states))
+        (is_taken n.states (new_keys n.states r (key p dir)))
     unfolding started tests
     is_tests = refl
 
@@ -46,11 +50,13 @@ module _ (n : Node) (dir : Dir) (p : Packet) where
     unfolding tests
     started-full a b = is_tests ∙ (λ i. tests (a i) (b i) (is_taken n.states (new_keys n.states r (key p dir))))
 
-    pub started-key : is_at_max n number r ≡ false → nat_le n.limits.states (maps.len n.states) ≡ false → is_taken n.states (new_keys n.states r (key p dir)) ≡ true → started n dir p number r ≡ drop n reason.Key
+    pub started-key : is_at_max n number r ≡ false → nat_le n.limits.states (maps.len n.states) ≡ false
+        → is_taken n.states (new_keys n.states r (key p dir)) ≡ true → started n dir p number r ≡ drop n reason.Key
     unfolding tests
     started-key a b c = is_tests ∙ (λ i. tests (a i) (b i) (c i))
 
-    pub started-new : is_at_max n number r ≡ false → nat_le n.limits.states (maps.len n.states) ≡ false → is_taken n.states (new_keys n.states r (key p dir)) ≡ false
+    pub started-new : is_at_max n number r ≡ false → nat_le n.limits.states (maps.len n.states) ≡ false
+        → is_taken n.states (new_keys n.states r (key p dir)) ≡ false
         → started n dir p number r ≡ announced (with_new n (new_state n dir p number r)) (new_state n dir p number r) dir p
     unfolding tests
     started-new a b c = is_tests ∙ (λ i. tests (a i) (b i) (c i))

@@ -1,5 +1,6 @@
 -- A turn of a bulk update: its names are marked one after another.
-use Rattle.std.specs.Prelude.{◌≡◌, ◌≤◌, ◌<◌, ℕ, zero, suc, ◌+◌, length, filter, take, not, ◌&&◌, nat_le, nat_lt, Bool, true, false, List, [], ◌∷◌, Some, if◌then◌else◌, refl}
+use Rattle.std.specs.Prelude.{◌≡◌, ◌≤◌, ◌<◌, ℕ, zero, suc, ◌+◌, length, filter, take, not, ◌&&◌, nat_le, nat_lt, Bool, true, false, List, [], ◌∷◌}
+use Rattle.std.specs.Prelude.{Some, if◌then◌else◌, refl}
 use Rattle.std.specs.List.{AllByRecursion}
 use Rattle.std.specs.Ordering.{is_lt}
 use Rattle.std.proofs.Common.{cond, get_or, drop, ◌∙◌, ap, sym, subst, arith}
@@ -23,7 +24,7 @@ use Rattle.pfl_track.specs.declared.state.State.{State}
 use Rattle.pfl_wire.specs.declared.message.BulkStatus.{BulkStatus}
 use Rattle.pfl_wire.specs.declared.message.BulkStatus.TheVariants.{End as Finish}
 use Rattle.pfl_language.specs.declared.limits.Limits.{Limits}
-use Rattle.pfl_receive.specs.desk.Changes.{mark, tell_status}
+use Rattle.pfl_receive.specs.desk.Changes.{mark, announce_status}
 use Rattle.pfl_receive.specs.desk.Drafts.{Draft, Writes}
 use Rattle.pfl_receive.specs.desk.inner.Kept.{MayMark}
 use Rattle.pfl_receive.specs.desk.Nodes.{Node, AreParts, ServesSince, is_overfull}
@@ -40,7 +41,8 @@ more_or_same false a n e = omega arith
 
 marked-more : (q : Queue) (name : StateName) (kind : Kind) → pending q ≤ pending (marked q name kind)
 marked-more q name kind =
-    let more = more_or_same (maps.contains_key q.marks name) (maps.len q.marks) _ (len-insert names_total q.marks name (record { name = name; kind = kind; number = q.next })) in
+    let more = more_or_same (maps.contains_key q.marks name) (maps.len q.marks) _
+    (len-insert names_total q.marks name (record { name = name; kind = kind; number = q.next })) in
     omega (arith, more)
 
 still_over : (l p q : ℕ) → p ≤ q → nat_lt l p ≡ true → nat_lt l q ≡ true
@@ -53,10 +55,10 @@ over-queued : (ns : List StateName) (n : Node) → is_overfull n ≡ true → is
 over-queued [] n e = e
 over-queued (name ∷ ns) n e = over-queued ns (mark n name Update) (over-mark n name Update e)
 
-over-status : (n : Node) (status : BulkStatus) → is_overfull n ≡ true → is_overfull (tell_status n status) ≡ true
+over-status : (n : Node) (status : BulkStatus) → is_overfull n ≡ true → is_overfull (announce_status n status) ≡ true
 over-status n status e =
     let long = length-append n.queue.statuses (status ∷ []) in
-    still_over n.queue.limit (pending n.queue) (pending (tell_status n status).queue) (omega (arith, long)) e
+    still_over n.queue.limit (pending n.queue) (pending (announce_status n status).queue) (omega (arith, long)) e
 
 -- ---- which names may be marked
 
@@ -86,10 +88,12 @@ synced true true c e = absurd (cc)
 synced true false c e = refl
 synced false b c e = absurd (cc)
 
-eligible-may : (n : Node) (since : ℕ) → AreParts n → (ss : List State) → AllByRecursion (λ s. maps.get n.states s.name ≡ Some s) ss → AllByRecursion (λ name. MayMark n name Update) (names (filter (is_eligible n since) ss))
+eligible-may : (n : Node) (since : ℕ) → AreParts n → (ss : List State) → AllByRecursion (λ s. maps.get n.states s.name ≡ Some s) ss
+    → AllByRecursion (λ name. MayMark n name Update) (names (filter (is_eligible n since) ss))
 eligible-may n since is [] a = tt
 eligible-may n since is (s ∷ ss) a =
-    elim (is_eligible n since s) as (λ b. is_eligible n since s ≡ b → AllByRecursion (λ name. MayMark n name Update) (names (cond b (s ∷ filter (is_eligible n since) ss) (filter (is_eligible n since) ss)))) [
+    elim (is_eligible n since s) as (λ b. is_eligible n since s ≡ b
+    → AllByRecursion (λ name. MayMark n name Update) (names (cond b (s ∷ filter (is_eligible n since) ss) (filter (is_eligible n since) ss)))) [
       | true ↦ λ e. (told-may n s.name Update s a.0 (synced _ s.no_sync _ e) (is.each s.name s a.0).given (λ same. absurd (cc)), eligible-may n since is ss a.1)
       | false ↦ λ e. eligible-may n since is ss a.1
     ] refl
@@ -102,7 +106,8 @@ turn-may n is = by n.server
     by : (s : BulkServer) → AllByRecursion (λ name. MayMark n name Update) (turn_names s (eligible_names n s) n.limits.batch)
     by server.Idle = tt
     by (server.Serving cursor since) =
-        all_taken _ n.limits.batch _ (all_kept _ (λ name. is_lt (name_cmp cursor name)) _ (eligible-may n since is (maps.values n.states) (values-stand n.states is.states)))
+        all_taken _ n.limits.batch _
+        (all_kept _ (λ name. is_lt (name_cmp cursor name)) _ (eligible-may n since is (maps.values n.states) (values-stand n.states is.states)))
 
 -- ---- how many they are
 
@@ -153,10 +158,12 @@ module _ (d e : Draft) (ns : List StateName) (i : ℕ) (so : IsQueued d e ns i) 
   queued-room room below = let spare = so.writes.spare in omega (arith, spare)
 
   pub queued-next : (x : StateName) → AllByRecursion (λ name. MayMark d.node name Update) ns → i < length ns → MayMark e.node (get_or ns i x) Update
-  queued-next x may below = subst (λ (k : Node). MayMark k (get_or ns i x) Update) (sym so.node) (queued-may (take i ns) d.node (get_or ns i x) (all_at (λ name. MayMark d.node name Update) ns i x may below))
+  queued-next x may below = subst (λ (k : Node). MayMark k (get_or ns i x) Update) (sym so.node)
+      (queued-may (take i ns) d.node (get_or ns i x) (all_at (λ name. MayMark d.node name Update) ns i x may below))
 
   one-more : (x : StateName) → i < length ns → mark e.node (get_or ns i x) Update ≡ queued d.node (take (i + 1) ns)
-  one-more x below = ap (λ (k : Node). mark k (get_or ns i x) Update) so.node ∙ sym (fold_more (λ (k : Node) (name : StateName). mark k name Update) d.node ns i x below)
+  one-more x below = ap (λ (k : Node). mark k (get_or ns i x) Update) so.node
+      ∙ sym (fold_more (λ (k : Node) (name : StateName). mark k name Update) d.node ns i x below)
 
   pub queued-more : (f : Draft) (x : StateName) → i < length ns → f.node ≡ mark e.node (get_or ns i x) Update → Writes 1 e f → IsQueued d f ns (i + 1)
   queued-more f x below is more = record { within = omega arith; node = is ∙ one-more x below; writes = writes-then i 1 d e f so.writes more }
@@ -201,19 +208,28 @@ module _ (n : Node) (few : List StateName) (first : few ≡ first_names n.server
       by : (s : BulkServer) → IsRising name_cmp (λ (name : StateName). name) (first_names s (eligible_names n s) (n.limits.batch + 1))
       by server.Idle = tt
       by (server.Serving cursor since) =
-          rising-take (n.limits.batch + 1) _ (rising-filter (λ name. is_lt (name_cmp cursor name)) _ (rising-names (is_eligible n since) (maps.values n.states) (values-rising n.states is.states)))
+          rising-take (n.limits.batch + 1) _
+          (rising-filter (λ name. is_lt (name_cmp cursor name)) _
+          (rising-names (is_eligible n since) (maps.values n.states) (values-rising n.states is.states)))
 
-  pub turn-is : (ns : List StateName) (next : BulkServer) (last : Bool) → ns ≡ turn_names n.server few n.limits.batch → next ≡ after_turn n.server few n.limits.batch → last ≡ is_last_turn n.server few n.limits.batch → IsTurn n ns next last
+  pub turn-is : (ns : List StateName) (next : BulkServer) (last : Bool) → ns ≡ turn_names n.server few n.limits.batch
+      → next ≡ after_turn n.server few n.limits.batch → last ≡ is_last_turn n.server few n.limits.batch → IsTurn n ns next last
   unfolding turn_of
   turn-is ns next last names names_after last_of_few = record {
-    names = names ∙ (ap (λ (ms : List StateName). turn_names n.server ms n.limits.batch) first ∙ turn_names-first n.server (all_eligible n) (n.limits.batch + 1) n.limits.batch (omega arith));
-    server_after = names_after ∙ (ap (λ (ms : List StateName). after_turn n.server ms n.limits.batch) first ∙ after_turn-first n.server (all_eligible n) (n.limits.batch + 1) n.limits.batch (omega arith));
-    ends = last_of_few ∙ (ap (λ (ms : List StateName). is_last_turn n.server ms n.limits.batch) first ∙ is_last_turn-first n.server (all_eligible n) (n.limits.batch + 1) n.limits.batch (omega arith));
+    names = names ∙ (ap (λ (ms : List StateName). turn_names n.server ms n.limits.batch) first
+        ∙ turn_names-first n.server (all_eligible n) (n.limits.batch + 1) n.limits.batch (omega arith));
+    server_after = names_after
+        ∙ (ap (λ (ms : List StateName). after_turn n.server ms n.limits.batch) first
+        ∙ after_turn-first n.server (all_eligible n) (n.limits.batch + 1) n.limits.batch (omega arith));
+    ends = last_of_few ∙ (ap (λ (ms : List StateName). is_last_turn n.server ms n.limits.batch) first
+        ∙ is_last_turn-first n.server (all_eligible n) (n.limits.batch + 1) n.limits.batch (omega arith));
   }
 
 -- the same, as the code has its server and its limits
-pub turn-by : (n : Node) (few : List StateName) (s : BulkServer) (l : Limits) → few ≡ first_names n.server (all_eligible n) (l.batch + 1) → s ≡ n.server → l ≡ n.limits
-    → (ns : List StateName) (next : BulkServer) (last : Bool) → ns ≡ turn_names s few l.batch → next ≡ after_turn s few l.batch → last ≡ is_last_turn s few l.batch → IsTurn n ns next last
+pub turn-by : (n : Node) (few : List StateName) (s : BulkServer) (l : Limits) → few ≡ first_names n.server (all_eligible n) (l.batch + 1)
+    → s ≡ n.server → l ≡ n.limits
+    → (ns : List StateName) (next : BulkServer) (last : Bool) → ns ≡ turn_names s few l.batch → next ≡ after_turn s few l.batch
+    → last ≡ is_last_turn s few l.batch → IsTurn n ns next last
 turn-by n few s l first serves limits ns next last names names_after ends =
     turn-is n few (first ∙ ap (λ (k : Limits). first_names n.server (all_eligible n) (k.batch + 1)) limits) ns next last
     (names ∙ (λ i. turn_names (serves i) few (limits i).batch))
@@ -247,7 +263,8 @@ module _ (n : Node) (ns : List StateName) (next : BulkServer) (last : Bool) (tur
   pub turned-full : is_overfull (queued n ns) ≡ true → is_overfull (turned n) ≡ true
   unfolding turned
   turned-full e =
-      over-ended (is_last_turn n.server (all_eligible n) n.limits.batch) (queued n (turn_of n)) (ap (λ (ms : List StateName). is_overfull (queued n ms)) (sym turn.names) ∙ e)
+      over-ended (is_last_turn n.server (all_eligible n) n.limits.batch) (queued n (turn_of n))
+      (ap (λ (ms : List StateName). is_overfull (queued n ms)) (sym turn.names) ∙ e)
 
   -- or with the end that is announced
   pub ended-full : (m : Node) → m ≡ queued n ns → is_overfull (ended last m) ≡ true → is_overfull (turned n) ≡ true
@@ -263,7 +280,8 @@ module _ (n : Node) (ns : List StateName) (next : BulkServer) (last : Bool) (tur
   -- the server began before the clock
   pub turned-past : AreParts n → (m k : Node) → m ≡ queued n ns → k ≡ ended last m → ServesSince k next
   turned-past is m k marked done =
-      serves_by n k next (ap (λ (h : Node). h.clock) done ∙ (by last m ∙ (ap (λ (h : Node). h.clock) marked ∙ queued-clock ns n))) (subst (ServesSince n) (sym turn.server_after) (serves-after n n.server (all_eligible n) n.limits.batch is.serving))
+      serves_by n k next (ap (λ (h : Node). h.clock) done ∙ (by last m ∙ (ap (λ (h : Node). h.clock) marked ∙ queued-clock ns n)))
+      (subst (ServesSince n) (sym turn.server_after) (serves-after n n.server (all_eligible n) n.limits.batch is.serving))
     where
       by : (b : Bool) (h : Node) → (ended b h).clock ≡ h.clock
       by true h = refl

@@ -1,5 +1,5 @@
 -- The frame that a node sends (if_pfsync.c).
-use Rattle.std.specs.Prelude.{ℕ, ◌-◌, ◌/◌, ◌==◌, false, List, [], ◌∷◌, Option, Some, None, if◌then◌else◌}
+use Rattle.std.specs.Prelude.{ℕ, ◌*◌, ◌+◌, ◌-◌, ◌/◌, ◌==◌, false, List, [], ◌∷◌, Option, Some, None, if◌then◌else◌, length}
 use Rattle.std.specs.List.{fold, flat_map}
 use Rattle.std.specs.Option.{option_map_or}
 use Rattle.pfl_base.specs.Lists.{neighbours}
@@ -21,6 +21,7 @@ use Rattle.pfl_receive.specs.queue.Queues.{pending}
 use Rattle.pfl_receive.specs.queue.Taking.{next_frame, left_by, one_action}
 use Rattle.pfl_receive.specs.desk.Nodes.{Node, expiry_at}
 use Rattle.pfl_receive.specs.desk.Changes.{put_state}
+use Rattle.pfl_node.specs.Weights.{sent_edits}
 
 -- the seconds that a state has left, truncated
 abbrev pub remaining : Node → State → ℕ
@@ -84,3 +85,7 @@ flushed n =
 -- a node that has nothing pending sends no frame
 abbrev pub send_refusal : Node → Option Refusal
 send_refusal n = if pending n.queue == 0 then Some NothingPending else None
+
+-- sending a frame takes at most this many edits
+abbrev pub flush_edits : Node → ℕ
+flush_edits n = 1 + sent_edits * length (next_frame n.queue n.limits.mtu)

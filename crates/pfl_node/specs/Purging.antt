@@ -1,6 +1,6 @@
 -- What has expired is deleted (pf.conf(5), `interval` and `adaptive.start`; the order, and that the number of states counts which the
 -- purge finds, is this project's profile).
-use Rattle.std.specs.Prelude.{ℕ, Bool, ◌&&◌, ◌||◌, ◌==◌, nat_lt, List, filter, Option, length}
+use Rattle.std.specs.Prelude.{ℕ, ◌*◌, Bool, ◌&&◌, ◌||◌, ◌==◌, nat_lt, List, filter, Option, length}
 use Rattle.std.specs.List.{fold}
 use Rattle.std.specs.Ordering.{is_lt}
 use Rattle.pfl_base.specs.Lists.{in_order, folds}
@@ -12,6 +12,7 @@ use Rattle.pfl_track.specs.Tracking.{expiry, expired}
 use Rattle.pfl_language.specs.declared.node_event.NodeOutcome.TheVariants.{Purged}
 use Rattle.pfl_receive.specs.desk.Nodes.{Node, timeout_among, points_refusal}
 use Rattle.pfl_receive.specs.desk.Changes.{deleted}
+use Rattle.pfl_receive.specs.desk.Weights.{deleted_edits}
 use Rattle.pfl_node.specs.Meanings.{NodeMeaning}
 
 -- the timeout of a state where the node has this many states, in seconds
@@ -46,6 +47,10 @@ purge_points n = folds deleted n (expired_states n)
 -- why a purge is refused: one of its deletions cannot be announced
 abbrev pub purge_refusal : Node → Option Refusal
 purge_refusal n = points_refusal (purge_points n)
+
+-- a purge takes at most this many edits
+abbrev pub purge_edits : Node → ℕ
+purge_edits n = deleted_edits * length (expired_states n)
 
 -- what a purge means
 abbrev pub purge_meaning : Node → NodeMeaning

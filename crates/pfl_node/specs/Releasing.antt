@@ -1,5 +1,5 @@
 -- Held packets whose time has come go out (ifconfig(8), `defer`; if_pfsync.c: the time).
-use Rattle.std.specs.Prelude.{◌==◌, List, [], ◌∷◌, length, map, Option}
+use Rattle.std.specs.Prelude.{ℕ, ◌*◌, ◌==◌, List, [], ◌∷◌, length, map, Option}
 use Rattle.std.specs.List.{fold}
 use Rattle.pfl_base.specs.declared.refusal.Refusal.{Refusal}
 use Rattle.pfl_base.specs.declared.refusal.Refusal.TheVariants.{NothingPending, CountFull, TooEarly}
@@ -8,6 +8,7 @@ use Rattle.pfl_receive.specs.defer.Deferring.{due}
 use Rattle.pfl_language.specs.declared.node_event.NodeOutcome.TheVariants.{Released}
 use Rattle.pfl_receive.specs.desk.Nodes.{Node, is_overcounted, refused_by}
 use Rattle.pfl_receive.specs.desk.Changes.{released}
+use Rattle.pfl_receive.specs.desk.Weights.{released_edits}
 use Rattle.pfl_node.specs.Meanings.{NodeMeaning}
 
 -- the names of the packets that are due, the oldest first
@@ -22,6 +23,10 @@ released_due n = fold released n (due_names n)
 abbrev pub release_refusal : Node → Option Refusal
 release_refusal n = refused_by
     ((length n.held.list == 0, NothingPending) ∷ (length (due_names n) == 0, TooEarly) ∷ (is_overcounted (released_due n), CountFull) ∷ [])
+
+-- a release takes at most this many edits
+abbrev pub release_edits : Node → ℕ
+release_edits n = released_edits * length (due_names n)
 
 -- what a release means
 abbrev pub release_meaning : Node → NodeMeaning

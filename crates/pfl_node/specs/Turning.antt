@@ -1,5 +1,5 @@
 -- A turn of a bulk update: the server queues its next states (if_pfsync.c; turns are this project's profile).
-use Rattle.std.specs.Prelude.{ℕ, Bool, true, not, ◌&&◌, nat_le, List, [], ◌∷◌, map, filter, Option, is_none, if◌then◌else◌, length}
+use Rattle.std.specs.Prelude.{ℕ, ◌+◌, Bool, true, not, ◌&&◌, nat_le, List, [], ◌∷◌, map, filter, Option, is_none, if◌then◌else◌, length}
 use Rattle.std.specs.List.{fold}
 use Rattle.std.specs.Option.{option_map_or}
 use Rattle.pfl_base.specs.declared.refusal.Refusal.{Refusal}
@@ -15,8 +15,9 @@ use Rattle.pfl_bulk.specs.declared.BulkServer.{BulkServer}
 use Rattle.pfl_bulk.specs.declared.BulkServer.TheVariants as server
 use Rattle.pfl_language.specs.declared.node_event.NodeOutcome.TheVariants.{Queued}
 use Rattle.pfl_receive.specs.desk.Nodes.{Node, full_tests, refused_by}
-use Rattle.pfl_receive.specs.desk.Changes.{mark, tell_status}
+use Rattle.pfl_receive.specs.desk.Changes.{mark, announce_status}
 use Rattle.pfl_node.specs.Meanings.{NodeMeaning}
+use Rattle.pfl_node.specs.Weights.{turned_edits}
 
 -- the state may be sent in a bulk update that runs since then
 abbrev pub is_eligible : Node → ℕ → State → Bool
@@ -37,7 +38,7 @@ queued n names = fold (λ m name. mark m name Update) n names
 
 -- after the last turn the end is announced
 abbrev pub ended : Bool → Node → Node
-ended last n = if last then tell_status n Finish else n
+ended last n = if last then announce_status n Finish else n
 
 -- the node after a turn: its names queued, and the end announced after the last
 unfoldable pub turned : Node → Node
@@ -48,6 +49,10 @@ turned n =
 -- a node that serves none queues nothing
 abbrev pub turn_refusal : Node → Option Refusal
 turn_refusal n = refused_by ((not (is_serving n.server), NotSyncing) ∷ full_tests (turned n ∷ []))
+
+-- a turn takes at most this many edits
+abbrev pub turn_edits : Node → ℕ
+turn_edits n = length (turn_of n) + turned_edits
 
 -- what a turn means
 abbrev pub turn_meaning : Node → NodeMeaning

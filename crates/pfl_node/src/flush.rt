@@ -3,10 +3,10 @@
 mod frame;
 
 ghost use Rattle.std.specs.List.{fold};
-ghost use Rattle.std.specs.Prelude.{◌≡◌, ◌≤◌, ◌<◌, ◌+◌, ◌*◌, false, None, length, IfOk, IfErr, OnOk, OnErr};
+ghost use Rattle.std.specs.Prelude.{◌≡◌, ◌≤◌, ◌<◌, ◌+◌, ◌*◌, None, false, IfOk, IfErr, OnOk, OnErr, length};
 ghost use Rattle.pfl_base.specs.declared.refusal.Refusal.TheVariants as refusal;
 ghost use Rattle.pfl_receive.specs.desk.Drafts.{Writes};
-ghost use Rattle.pfl_receive.specs.desk.Edits.{NodeLeadsBack};
+ghost use Rattle.pfl_receive.specs.desk.Edits.{NodeLeadsBack, NodeRecorded};
 ghost use Rattle.pfl_node.specs.Flushing as flushing;
 ghost use Rattle.pfl_receive.specs.desk.Nodes.{Node as Whole, AreParts, IsRefusal};
 ghost use Rattle.pfl_receive.specs.desk.inner.Taking.{taken_from};
@@ -17,13 +17,14 @@ ghost use Rattle.pfl_node.specs.Weights.{sent_edits};
 use crate::flush::frame::bytes_of;
 use crate::node::Node;
 use pfl_base::Refusal;
-use pfl_edits::{Change, NoMemory};
+use pfl_edits::{Change, NoMemory, OfPart, Recorder};
 use pfl_receive::{Desk, Entry, NodeEdit};
 use std::alloc::Allocator;
 
 impl<A: Allocator + Copy> Node<A> {
     /// Sends one frame, the longest prefix of what is pending that fits, and returns its bytes. Where something is pending, there
     /// is room for at least one entry.
+    #[tactic(auto, using(crate::proofs::Ready::alone))]
     pub fn flush(&mut self) -> Result<(Vec<u8, A>, Change<NodeEdit, A>), Refusal>
         ensures refused { IfErr result (IsRefusal (flushing.send_refusal self.old)) }
         ensures unchanged { OnErr result (self.new ≡ self.old) }
@@ -35,11 +36,34 @@ impl<A: Allocator + Copy> Node<A> {
         ensures leads_back { IfOk result (λ r. NodeLeadsBack r.1.list self.old self.new) }
         ensures weight { IfOk result (λ r. length r.1.list ≤ 1 + sent_edits * length (next_frame self.old.queue self.old.limits.mtu)) }
     {
+        let mut edits = Change::new(self.alloc);
+        let bytes = self.flush_on((), &mut edits)?;
+        Ok((bytes, edits))
+    }
+
+    /// As `flush`, with its edits recorded in `to`, as edits of a part.
+    pub fn flush_on<W: OfPart<NodeEdit>, R: Recorder<W>>(
+        &mut self,
+        part: W::Part,
+        to: &mut R,
+    ) -> Result<Vec<u8, A>, Refusal>
+        ensures refused { IfErr result (IsRefusal (flushing.send_refusal self.old)) }
+        ensures unchanged { OnErr result (self.new ≡ self.old) }
+        ensures untaken { OnErr result (R.list to.new ≡ R.list to.old) }
+        ensures not_refused { OnOk result (flushing.send_refusal self.old ≡ None) }
+        ensures node { OnOk result (self.new ≡ flushing.flushed self.old) }
+        ensures bytes { IfOk result (λ bytes. bytes.items ≡ spelling (flushing.frame_of self.old)) }
+        ensures fits { IfOk result (λ bytes. length bytes.items ≤ self.old.limits.mtu) }
+        ensures carries { OnOk result (0 < length (next_frame self.old.queue self.old.limits.mtu)) }
+        ensures recorded { OnOk result (NodeRecorded (W.of part) (flushing.flush_edits self.old) self.old self.new (R.list to.old) (R.list to.new)) }
+        ensures one_more { OnOk result (0 < R.spare to.new) }
+        ensures total { R.spare to.old + length (R.list to.old) ≤ R.spare to.new + length (R.list to.new) }
+    {
         if let Some(refusal) = self.send_refusal() {
             return Err(refusal);
         }
         let sent = send(&mut self.desk, self.alloc);
-        self.desk.conclude(self.alloc, sent)
+        self.desk.conclude(sent, part, to)
     }
 }
 
@@ -67,7 +91,7 @@ fn send<A: Allocator + Copy>(desk: &mut Desk<A>, alloc: A) -> Result<Vec<u8, A>,
 {
     match frame_taken(desk, alloc) {
         Ok((bytes, entries)) => {
-            clear_told(desk, &entries);
+            clear_announced(desk, &entries);
             Ok(bytes)
         }
         Err(_) => Err(Refusal::NoMemory),
@@ -93,7 +117,7 @@ fn frame_taken<A: Allocator + Copy>(
 }
 
 /// No frame is wanted soon any more, and the states that the entries announce have no updates left to announce.
-fn clear_told<A: Allocator>(desk: &mut Desk<A>, entries: &[Entry])
+fn clear_announced<A: Allocator>(desk: &mut Desk<A>, entries: &[Entry])
     requires room { length entries.now < desk.old.edits.spare }
     ensures node { desk.new.node ≡ fold flushing.update_count_cleared (record desk.old.node { push = false }) entries.now }
     ensures writes { Writes (1 + length entries.now) desk.old desk.new }

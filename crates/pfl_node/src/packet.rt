@@ -3,12 +3,12 @@
 mod hold;
 mod start;
 
-ghost use Rattle.std.specs.Prelude.{◌≡◌, ◌≤◌, ◌+◌, ◌∷◌, [], None, Some, IfOk, IfErr, OnOk, OnErr, length, ◌<◌, false};
+ghost use Rattle.std.specs.Prelude.{◌≡◌, ◌≤◌, ◌<◌, ◌+◌, [], ◌∷◌, None, Some, false, IfOk, IfErr, OnOk, OnErr, length};
 ghost use Rattle.pfl_base.specs.Keys.{key as flow_of};
 ghost use Rattle.pfl_base.specs.Packets.{IsPacket};
 ghost use Rattle.pfl_edits.specs.Maps as maps;
 ghost use Rattle.pfl_receive.specs.desk.Changes as to;
-ghost use Rattle.pfl_receive.specs.desk.Edits.{NodeLeadsBack};
+ghost use Rattle.pfl_receive.specs.desk.Edits.{NodeLeadsBack, NodeRecorded};
 ghost use Rattle.pfl_node.specs.inner.Carried.{Handles, Tried};
 ghost use Rattle.pfl_receive.specs.desk.inner.Kept.{MayReplace};
 ghost use Rattle.pfl_receive.specs.desk.Nodes.{Node as Whole, AreParts, IsRefusal, points_refusal};
@@ -21,7 +21,7 @@ ghost use Rattle.pfl_node.specs.Weights.{packet_edits};
 use crate::node::Node;
 use crate::packet::start::{drop_packet, judge, pass};
 use pfl_base::{Dir, Packet, Refusal, key};
-use pfl_edits::Change;
+use pfl_edits::{Change, OfPart, Recorder};
 use pfl_language::{Fate, Reason};
 use pfl_receive::{Desk, NodeEdit, Overfull, Slot};
 use pfl_track::{State, Tracked, track};
@@ -29,6 +29,7 @@ use std::alloc::Allocator;
 
 impl<A: Allocator + Copy> Node<A> {
     /// What becomes of a packet that comes to the node, or leaves its host.
+    #[tactic(auto, using(crate::proofs::Ready::alone))]
     pub fn packet(
         &mut self,
         dir: Dir,
@@ -41,8 +42,30 @@ impl<A: Allocator + Copy> Node<A> {
         ensures leads_back { IfOk result (λ r. NodeLeadsBack r.1.list self.old self.new) }
         ensures weight { IfOk result (λ r. length r.1.list ≤ packet_edits) }
     {
+        let mut edits = Change::new(self.alloc);
+        let fate = self.packet_on(dir, packet, (), &mut edits)?;
+        Ok((fate, edits))
+    }
+
+    /// As `packet`, with its edits recorded in `to`, as edits of a part.
+    pub fn packet_on<W: OfPart<NodeEdit>, R: Recorder<W>>(
+        &mut self,
+        dir: Dir,
+        packet: &Packet,
+        part: W::Part,
+        to: &mut R,
+    ) -> Result<Fate, Refusal>
+        ensures refused { IfErr result (IsRefusal (points_refusal (packet_points self.old dir packet.now))) }
+        ensures unchanged { OnErr result (self.new ≡ self.old) }
+        ensures untaken { OnErr result (R.list to.new ≡ R.list to.old) }
+        ensures not_refused { OnOk result (points_refusal (packet_points self.old dir packet.now) ≡ None) }
+        ensures step { IfOk result (λ fate. record { fate = fate; node = self.new } ≡ handled self.old dir packet.now) }
+        ensures recorded { OnOk result (NodeRecorded (W.of part) packet_edits self.old self.new (R.list to.old) (R.list to.new)) }
+        ensures one_more { OnOk result (0 < R.spare to.new) }
+        ensures total { R.spare to.old + length (R.list to.old) ≤ R.spare to.new + length (R.list to.new) }
+    {
         let tried = handle(&mut self.desk, dir, packet);
-        self.desk.settle(self.alloc, tried)
+        self.desk.settle(tried, part, to)
     }
 }
 
@@ -76,7 +99,10 @@ fn follow<A: Allocator>(
     requires packet { IsPacket packet.now }
     requires found { found desk.old.node.states (flow_of packet.now dir) dir ≡ Some state.now }
     requires room { 14 ≤ desk.old.edits.spare }
-    ensures done { Handles result desk.old desk.new (followed desk.old.node dir packet.now state.now (tracked state.now packet.now dir desk.old.node.clock)) ((followed desk.old.node dir packet.now state.now (tracked state.now packet.now dir desk.old.node.clock)).node ∷ on_the_way desk.old.node state.now (tracked state.now packet.now dir desk.old.node.clock)) }
+    ensures done { Handles result desk.old desk.new
+        (followed desk.old.node dir packet.now state.now (tracked state.now packet.now dir desk.old.node.clock))
+        ((followed desk.old.node dir packet.now state.now (tracked state.now packet.now dir desk.old.node.clock)).node
+        ∷ on_the_way desk.old.node state.now (tracked state.now packet.now dir desk.old.node.clock)) }
 {
     match track(state, packet, dir, desk.clock()) {
         Tracked::Moved(state) => {
@@ -114,7 +140,8 @@ fn reuse<A: Allocator>(
     requires packet { IsPacket packet.now }
     requires stands { maps.get desk.old.node.states closed.now.name ≡ Some closed.now }
     requires room { 14 ≤ desk.old.edits.spare }
-    ensures done { Handles result desk.old desk.new (judged (to.deleted desk.old.node closed.now) dir packet.now) ((judged (to.deleted desk.old.node closed.now) dir packet.now).node ∷ to.deleted desk.old.node closed.now ∷ []) }
+    ensures done { Handles result desk.old desk.new (judged (to.deleted desk.old.node closed.now) dir packet.now)
+        ((judged (to.deleted desk.old.node closed.now) dir packet.now).node ∷ to.deleted desk.old.node closed.now ∷ []) }
 {
     desk.delete(slot, closed)?;
     let before = desk.is_overcounted();

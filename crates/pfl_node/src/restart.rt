@@ -14,9 +14,6 @@ use pfl_edits::NoMemory;
 use pfl_receive::Desk;
 use std::alloc::Allocator;
 
-/// As a request, this name asks for all states.
-const ALL_STATES: StateName = StateName { creator: 0, id: 0 };
-
 impl<A: Allocator + Copy> Node<A> {
     /// The node that this one begins anew as: of its limits, its rules and its clock, of this boot, and asking for all states. It
     /// has memory of its own.
@@ -47,7 +44,7 @@ fn ask_first<A: Allocator>(desk: &mut Desk<A>, clock: Millis)
     ensures writes { Writes 4 desk.old desk.new }
 {
     desk.set_clock(clock);
-    let Ok(()) = desk.ask(ALL_STATES) else {
+    let Ok(()) = desk.ask(StateName::NONE) else {
         unreachable!();
     };
     desk.set_client(BulkClient::first_asked(clock));

@@ -1,19 +1,16 @@
 //! The clock goes on.
 
-ghost use Rattle.std.specs.Prelude.{◌≡◌, ◌≤◌, None, IfOk, IfErr, OnOk, OnErr, length};
-ghost use Rattle.pfl_receive.specs.desk.Edits.{NodeLeadsBack};
+ghost use Rattle.std.specs.Prelude.{◌≡◌, ◌≤◌, ◌<◌, ◌+◌, None, IfOk, IfErr, OnOk, OnErr, length};
+ghost use Rattle.pfl_receive.specs.desk.Edits.{NodeLeadsBack, NodeRecorded};
 ghost use Rattle.pfl_node.specs.Ticking as event;
 ghost use Rattle.pfl_receive.specs.desk.Nodes.{IsRefusal};
 ghost use Rattle.pfl_node.specs.Weights.{ticked_edits};
 
 use crate::node::Node;
-use pfl_base::{Millis, Refusal};
-use pfl_edits::Change;
+use pfl_base::{LAST_MILLISECOND, Millis, Refusal};
+use pfl_edits::{Change, OfPart, Recorder};
 use pfl_receive::NodeEdit;
 use std::alloc::Allocator;
-
-/// The last millisecond that a clock shows.
-const LAST_MILLISECOND: Millis = 1_000_000_000_000;
 
 impl<A: Allocator> Node<A> {
     /// Why the clock does not go on by this many milliseconds, if there is a reason.
@@ -30,6 +27,7 @@ impl<A: Allocator> Node<A> {
 
 impl<A: Allocator + Copy> Node<A> {
     /// Lets the clock go on by this many milliseconds, and returns its new time.
+    #[tactic(auto, using(crate::proofs::Ready::alone))]
     pub fn tick(&mut self, ms: u64) -> Result<(Millis, Change<NodeEdit, A>), Refusal>
         ensures refused { IfErr result (IsRefusal (event.tick_refusal self.old ms)) }
         ensures unchanged { OnErr result (self.new ≡ self.old) }
@@ -39,11 +37,33 @@ impl<A: Allocator + Copy> Node<A> {
         ensures leads_back { IfOk result (λ r. NodeLeadsBack r.1.list self.old self.new) }
         ensures weight { IfOk result (λ r. length r.1.list ≤ ticked_edits) }
     {
+        let mut edits = Change::new(self.alloc);
+        let clock = self.tick_on(ms, (), &mut edits)?;
+        Ok((clock, edits))
+    }
+
+    /// As `tick`, with its edits recorded in `to`, as edits of a part.
+    pub fn tick_on<W: OfPart<NodeEdit>, R: Recorder<W>>(
+        &mut self,
+        ms: u64,
+        part: W::Part,
+        to: &mut R,
+    ) -> Result<Millis, Refusal>
+        ensures refused { IfErr result (IsRefusal (event.tick_refusal self.old ms)) }
+        ensures unchanged { OnErr result (self.new ≡ self.old) }
+        ensures untaken { OnErr result (R.list to.new ≡ R.list to.old) }
+        ensures not_refused { OnOk result (event.tick_refusal self.old ms ≡ None) }
+        ensures node { OnOk result (self.new ≡ event.ticked self.old ms) }
+        ensures clock { IfOk result (λ clock. clock ≡ self.new.clock) }
+        ensures recorded { OnOk result (NodeRecorded (W.of part) ticked_edits self.old self.new (R.list to.old) (R.list to.new)) }
+        ensures one_more { OnOk result (0 < R.spare to.new) }
+        ensures total { R.spare to.old + length (R.list to.old) ≤ R.spare to.new + length (R.list to.new) }
+    {
         if let Some(refusal) = self.tick_refusal(ms) {
             return Err(refusal);
         }
         let clock = self.clock() + ms;
         self.desk.set_clock(clock);
-        self.desk.settle(self.alloc, Ok((clock, false)))
+        self.desk.settle(Ok((clock, false)), part, to)
     }
 }

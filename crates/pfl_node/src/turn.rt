@@ -1,11 +1,11 @@
 //! A turn of a bulk update: the server queues its next states (if_pfsync.c).
 
 ghost use Rattle.std.specs.List.{AllByRecursion};
-ghost use Rattle.std.specs.Prelude.{◌≡◌, ◌≤◌, ◌+◌, ◌∷◌, [], true, None, IfOk, IfErr, OnOk, OnErr, length, take};
+ghost use Rattle.std.specs.Prelude.{◌≡◌, ◌≤◌, ◌<◌, ◌+◌, [], ◌∷◌, None, true, IfOk, IfErr, OnOk, OnErr, length, take};
 ghost use Rattle.pfl_bulk.specs.Bulk.{first_names};
 ghost use Rattle.pfl_node.specs.Turning as turning;
 ghost use Rattle.pfl_receive.specs.desk.Drafts.{Writes};
-ghost use Rattle.pfl_receive.specs.desk.Edits.{NodeLeadsBack};
+ghost use Rattle.pfl_receive.specs.desk.Edits.{NodeLeadsBack, NodeRecorded};
 ghost use Rattle.pfl_receive.specs.desk.inner.Judging.{Went};
 ghost use Rattle.pfl_receive.specs.desk.inner.Kept.{MayMark};
 ghost use Rattle.pfl_receive.specs.desk.Nodes.{Node as Whole, AreParts, IsRefusal, is_overfull};
@@ -15,7 +15,7 @@ ghost use Rattle.pfl_node.specs.Weights.{turned_edits};
 use crate::node::Node;
 use pfl_base::{Millis, Refusal, StateName};
 use pfl_bulk::BulkServer;
-use pfl_edits::Change;
+use pfl_edits::{Change, OfPart, Recorder};
 use pfl_receive::{Desk, Kind, NodeEdit, Overfull};
 use pfl_track::State;
 use pfl_wire::BulkStatus;
@@ -24,12 +24,10 @@ use std::alloc::Allocator;
 /// A turn looks at one name more than it queues, of which there are at most 256.
 const MOST_NAMES: usize = 257;
 
-/// No state of a bulk update has this name.
-const NO_NAME: StateName = StateName { creator: 0, id: 0 };
-
 impl<A: Allocator + Copy> Node<A> {
     /// Queues the next states of the bulk update that the node serves, and returns how many. After the last of them the end is
     /// announced. It looks at the states after its cursor, up to one more that it may send than it sends.
+    #[tactic(auto, using(crate::proofs::Ready::alone))]
     pub fn turn(&mut self) -> Result<(usize, Change<NodeEdit, A>), Refusal>
         ensures refused { IfErr result (IsRefusal (turning.turn_refusal self.old)) }
         ensures unchanged { OnErr result (self.new ≡ self.old) }
@@ -39,11 +37,32 @@ impl<A: Allocator + Copy> Node<A> {
         ensures leads_back { IfOk result (λ r. NodeLeadsBack r.1.list self.old self.new) }
         ensures weight { IfOk result (λ r. length r.1.list ≤ length (turning.turn_of self.old) + turned_edits) }
     {
+        let mut edits = Change::new(self.alloc);
+        let count = self.turn_on((), &mut edits)?;
+        Ok((count, edits))
+    }
+
+    /// As `turn`, with its edits recorded in `to`, as edits of a part.
+    pub fn turn_on<W: OfPart<NodeEdit>, R: Recorder<W>>(
+        &mut self,
+        part: W::Part,
+        to: &mut R,
+    ) -> Result<usize, Refusal>
+        ensures refused { IfErr result (IsRefusal (turning.turn_refusal self.old)) }
+        ensures unchanged { OnErr result (self.new ≡ self.old) }
+        ensures untaken { OnErr result (R.list to.new ≡ R.list to.old) }
+        ensures not_refused { OnOk result (turning.turn_refusal self.old ≡ None) }
+        ensures node { OnOk result (self.new ≡ turning.turned self.old) }
+        ensures count { IfOk result (λ count. count ≡ length (turning.turn_of self.old)) }
+        ensures recorded { OnOk result (NodeRecorded (W.of part) (turning.turn_edits self.old) self.old self.new (R.list to.old) (R.list to.new)) }
+        ensures one_more { OnOk result (0 < R.spare to.new) }
+        ensures total { R.spare to.old + length (R.list to.old) ≤ R.spare to.new + length (R.list to.new) }
+    {
         if !self.server().is_serving() {
             return Err(Refusal::NotSyncing);
         }
         let tried = turn(&mut self.desk);
-        self.desk.settle(self.alloc, tried)
+        self.desk.settle(tried, part, to)
     }
 }
 
@@ -57,11 +76,11 @@ fn turn<A: Allocator>(desk: &mut Desk<A>) -> Result<(usize, bool), Overfull>
     ensures writes { Writes (length (turning.turn_of desk.old.node) + 3) desk.old desk.new }
 {
     let batch = desk.limits().batch as usize;
-    let mut names = [NO_NAME; MOST_NAMES];
+    let mut names = [StateName::NONE; MOST_NAMES];
     let count = next_names(desk, batch + 1, &mut names);
     let turn = desk.server().turn(&names[..count], batch);
     queue_all(desk, turn.names)?;
-    tell_end(desk, turn.is_last)?;
+    announce_end(desk, turn.is_last)?;
     desk.set_server(turn.server);
     Ok((turn.names.len(), desk.is_overcounted()))
 }
@@ -118,14 +137,14 @@ fn queue_all<A: Allocator>(desk: &mut Desk<A>, names: &[StateName]) -> Result<()
 }
 
 /// Announces the end of the bulk update, where the turn is its last.
-fn tell_end<A: Allocator>(desk: &mut Desk<A>, is_last: bool) -> Result<(), Overfull>
+fn announce_end<A: Allocator>(desk: &mut Desk<A>, is_last: bool) -> Result<(), Overfull>
     requires room { 2 ≤ desk.old.edits.spare }
     ensures full { OnErr result (is_overfull (turning.ended is_last desk.old.node) ≡ true) }
     ensures node { OnOk result (desk.new.node ≡ turning.ended is_last desk.old.node) }
     ensures writes { Writes 2 desk.old desk.new }
 {
     if is_last {
-        desk.tell_status(BulkStatus::End)
+        desk.announce_status(BulkStatus::End)
     } else {
         Ok(())
     }

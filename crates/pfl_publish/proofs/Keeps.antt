@@ -1,5 +1,6 @@
 -- Each kind of step keeps the rule of the words.
-use Rattle.std.proofs.Common.{◌≡◌, ℕ, zero, suc, replicate, ◌+◌, ◌-◌, ◌<◌, ◌≢◌, Bool, true, false, cond, ◌||◌, List, [], ◌∷◌, ◌++◌, map, length, get_or, take, set, refl, sym, ap, ◌∙◌, subst, ⊎_elim, arith, length-set, get_or-set_other, get_or-set_same}
+use Rattle.std.proofs.Common.{◌≡◌, ℕ, zero, suc, replicate, ◌+◌, ◌-◌, ◌<◌, ◌≢◌, Bool, true, false, cond, ◌||◌, List, [], ◌∷◌, ◌++◌, map, length}
+use Rattle.std.proofs.Common.{get_or, take, set, refl, sym, ap, ◌∙◌, subst, ⊎_elim, arith, length-set, get_or-set_other, get_or-set_same}
 use Rattle.std.proofs.lemmas.List.{length-take-le, take_more, get_or_append_left, get_or_push, length_push}
 use mathlib.Core.Logic.{dite}
 use mathlib.Core.Option.{none, some, some-injective, some-ne-none}
@@ -15,7 +16,8 @@ use Rattle.pfl_publish.specs.Revisions.{Log, word_index, IsRevision, published, 
 use Rattle.pfl_publish.specs.Views.{blank, with_word, with_next, with_names, with_seen, with_held, without_writer, without_try, united, idle}
 use Rattle.pfl_publish.specs.Rule.{HasWriter, Knows, IsKept}
 use Rattle.pfl_publish.specs.Steps.{StoresWord, StoresNumber, LoadsWord, LoadsNumber}
-use Rattle.pfl_publish.proofs.Lists.{at_end, word_index_apart, word_index_apart_words, word_index_within, each_set, words_at-append, words_at-last, begun_length, begun_append, begun_all}
+use Rattle.pfl_publish.proofs.Lists.{at_end, word_index_apart, word_index_apart_words, word_index_within, each_set, words_at-append, words_at-last}
+use Rattle.pfl_publish.proofs.Lists.{begun_length, begun_append, begun_all}
 
 -- a seat that is not of the two joined has the writer's part after the join only if it had it before
 others_part : (a b : Bool) (j id other writer : ℕ) → (b ≡ true → other ≡ writer) → j ≢ other → j ≡ writer → j ≡ cond a writer (cond b id writer)
@@ -42,7 +44,8 @@ module _ {A : Type 0} where
 
 module _ {H : Type 0} where
   -- what a seat knows stays true once a revision was added
-  grown : (list : Log H) (next next' : List ℕ) (writer seat : ℕ) (x : Published H) (v w : View H) → Knows list next writer seat v → (w.writes ≡ true → (seat ≡ writer) × (w.list ≡ list ++ x ∷ []) × (w.next ≡ next'))
+  grown : (list : Log H) (next next' : List ℕ) (writer seat : ℕ) (x : Published H) (v w : View H) → Knows list next writer seat v
+      → (w.writes ≡ true → (seat ≡ writer) × (w.list ≡ list ++ x ∷ []) × (w.next ≡ next'))
       → w.seen ≡ v.seen → w.old ≡ v.old → w.held ≡ v.held → Knows (list ++ x ∷ []) next' writer seat w
   grown list next next' writer seat x v w k part seen old held = record {
     part = part;
@@ -52,11 +55,13 @@ module _ {H : Type 0} where
         let l : length w.seen ≡ length v.seen = ap (λ (z : Log H). length z) seen in
         let within : length v.seen - 1 < length list = omega (arith, begun_length list v.seen k.begun) in
         let was = k.whole (omega arith) (omega (arith, length_push list x)) in
-        (λ z. take (length (held z)) (words_at (length (seen z) - 1) (list ++ x ∷ []))) ∙ (ap (take (length v.held)) (words_at-append (length v.seen - 1) list (x ∷ []) within) ∙ (was ∙ sym held));
+        (λ z. take (length (held z)) (words_at (length (seen z) - 1) (list ++ x ∷ [])))
+        ∙ (ap (take (length v.held)) (words_at-append (length v.seen - 1) list (x ∷ []) within) ∙ (was ∙ sym held));
   }
 
   -- the writer's part of two seats that are joined is true
-  joined_part : (a b : Bool) (id other writer : ℕ) (vl wl list : Log H) (vn wn next : List ℕ) → (a ≡ true → (id ≡ writer) × (vl ≡ list) × (vn ≡ next)) → (b ≡ true → (other ≡ writer) × (wl ≡ list) × (wn ≡ next))
+  joined_part : (a b : Bool) (id other writer : ℕ) (vl wl list : Log H) (vn wn next : List ℕ)
+      → (a ≡ true → (id ≡ writer) × (vl ≡ list) × (vn ≡ next)) → (b ≡ true → (other ≡ writer) × (wl ≡ list) × (wn ≡ next))
       → (a || b) ≡ true → (id ≡ cond a writer (cond b id writer)) × (cond a vl wl ≡ list) × (cond a vn wn ≡ next)
   joined_part true b id other writer vl wl list vn wn next p q t = p refl
   joined_part false true id other writer vl wl list vn wn next p q t = (refl, (q refl).1, (q refl).2)
@@ -68,62 +73,84 @@ module _ {H : Type 0} where
   either_begun list false x y p q = q
 
   -- a seat that moves keeps the writer's part, or is another one
-  keeps_one : (views : List (View H)) (id writer : ℕ) (v w : View H) → get_elem? views id ≡ some v → w.writes ≡ v.writes → HasWriter views writer → HasWriter (set views id w) writer
+  keeps_one : (views : List (View H)) (id writer : ℕ) (v w : View H) → get_elem? views id ≡ some v → w.writes ≡ v.writes
+      → HasWriter views writer → HasWriter (set views id w) writer
   keeps_one views id writer v w at same one = dite (ℕ_discrete writer id)
-      (λ e. let here : some v ≡ some one.0 = sym at ∙ (ap (get_elem? views) (sym e) ∙ one.1) in
-      (w, subst (λ (i : ℕ). get_elem? (set views id w) i ≡ some w) (sym e) (set_at_some views id v w at), same ∙ (ap (λ (x : View H). x.writes) (some-injective v one.0 here) ∙ one.2)))
+      (λ e. let here : some v ≡ some one.0 = sym at ∙ (ap (get_elem? views) (sym e) ∙ one.1) in (
+        w,
+        subst (λ (i : ℕ). get_elem? (set views id w) i ≡ some w) (sym e) (set_at_some views id v w at),
+        same
+            ∙ (ap (λ (x : View H). x.writes) (some-injective v one.0 here) ∙ one.2),
+      ))
       (λ other. (one.0, set_else views id writer w other ∙ one.1, one.2))
 
   -- a seat that does not write is not the writer's
-  not_writer : (views : List (View H)) (id writer : ℕ) (v : View H) → get_elem? views id ≡ some v → v.writes ≡ false → (one : HasWriter views writer) → writer ≢ id
+  not_writer : (views : List (View H)) (id writer : ℕ) (v : View H) → get_elem? views id ≡ some v → v.writes ≡ false
+      → (one : HasWriter views writer) → writer ≢ id
   not_writer views id writer v at no_part one e =
       let here : some v ≡ some one.0 = sym at ∙ (ap (get_elem? views) (sym e) ∙ one.1) in
       false≢true (sym no_part ∙ (ap (λ (x : View H). x.writes) (some-injective v one.0 here) ∙ one.2))
 
   -- after a split some seat has the writer's part
-  split_one : (a : Bool) (views : List (View H)) (id writer : ℕ) (v left right : View H) → get_elem? views id ≡ some v → v.writes ≡ a → right.writes ≡ a → HasWriter views writer
+  split_one : (a : Bool) (views : List (View H)) (id writer : ℕ) (v left right : View H) → get_elem? views id ≡ some v → v.writes ≡ a
+      → right.writes ≡ a → HasWriter views writer
       → HasWriter (set views id left ++ right ∷ []) (cond a (length (set views id left)) writer)
   split_one true views id writer v left right at is right_is one = (right, at_last (set views id left) right _ refl, right_is)
   split_one false views id writer v left right at is right_is one =
       (one.0, at_longer (set views id left) (right ∷ []) writer one.0 (set_else views id writer left (not_writer views id writer v at is one) ∙ one.1), one.2)
 
   -- after a join some seat has the writer's part
-  join_one : (a b : Bool) (views : List (View H)) (id other writer : ℕ) (v w both spent : View H) → other ≢ id → get_elem? views id ≡ some v → get_elem? views other ≡ some w → v.writes ≡ a → w.writes ≡ b → both.writes ≡ (a || b)
-      → (a ≡ true → id ≡ writer) → get_elem? (set (set views id both) other spent) id ≡ some both → HasWriter views writer → HasWriter (set (set views id both) other spent) (cond a writer (cond b id writer))
+  join_one : (a b : Bool) (views : List (View H)) (id other writer : ℕ) (v w both spent : View H) → other ≢ id
+      → get_elem? views id ≡ some v → get_elem? views other ≡ some w → v.writes ≡ a → w.writes ≡ b → both.writes ≡ (a || b)
+      → (a ≡ true → id ≡ writer) → get_elem? (set (set views id both) other spent) id ≡ some both → HasWriter views writer
+      → HasWriter (set (set views id both) other spent) (cond a writer (cond b id writer))
   join_one true b views id other writer v w both spent apart at there is w_is both_is own stands one =
       (both, subst (λ (i : ℕ). get_elem? (set (set views id both) other spent) i ≡ some both) (own refl) stands, both_is)
   join_one false true views id other writer v w both spent apart at there is w_is both_is own stands one = (both, stands, both_is)
-  join_one false false views id other writer v w both spent apart at there is w_is both_is own stands one =
-      (one.0, set_else (set views id both) other writer spent (not_writer views other writer w there w_is one) ∙ (set_else views id writer both (not_writer views id writer v at is one) ∙ one.1), one.2)
+  join_one false false views id other writer v w both spent apart at there is w_is both_is own stands one = (
+    one.0,
+    set_else (set views id both) other writer spent (not_writer views other writer w there w_is one)
+        ∙ (set_else views id writer both (not_writer views id writer v at is one) ∙ one.1),
+    one.2,
+  )
 
   -- after a join the seat that stays knows what both knew
-  joined_here : (views : List (View H)) (id other : ℕ) (v both spent : View H) → other ≢ id → get_elem? views id ≡ some v → get_elem? (set (set views id both) other spent) id ≡ some both
+  joined_here : (views : List (View H)) (id other : ℕ) (v both spent : View H) → other ≢ id → get_elem? views id ≡ some v
+      → get_elem? (set (set views id both) other spent) id ≡ some both
   joined_here views id other v both spent apart at = set_else (set views id both) other id spent (λ e. apart (sym e)) ∙ set_at_some views id v both at
 
   -- the first seat has the writer's part
   each_blank : (j : ℕ) (v : View H) → get_elem? (blank ∷ []) j ≡ some v → Knows [] [] 0 j v
-  each_blank zero v e = subst (Knows [] [] 0 zero) (some-injective blank v e) record { part = λ _. (refl, refl, refl); begun = refl; older = refl; whole = λ _ _. refl }
+  each_blank zero v e = subst (Knows [] [] 0 zero) (some-injective blank v e) record {
+    part = λ _. (refl, refl, refl);
+    begun = refl;
+    older = refl;
+    whole = λ _ _. refl;
+  }
   each_blank (suc j) v e = absurd (some-ne-none v (sym e))
 
 module _ {S H : Type 0} where
   -- a step that changes no word
-  unmoved : (s : State S (View H)) (r : IsKept s) (i id : ℕ) (cs : List (ℕ × S)) (v w : View H) → get_elem? s.views id ≡ some v → w.writes ≡ v.writes → Knows r.list r.next r.writer id w → IsKept (stepped s i (get_or s.words i 0) id cs w keeps)
-  unmoved s r i id cs v w at same mine = subst (λ (ws : List ℕ). IsKept record { words = ws; homes = s.homes; views = set s.views id w }) (sym (set-get_or s.words i 0)) record {
-    list = r.list;
-    next = r.next;
-    writer = r.writer;
-    wide = r.wide;
-    number = r.number;
-    revisions = r.revisions;
-    whole = r.whole;
-    stored = r.stored;
-    room = r.room;
-    one = keeps_one s.views id r.writer v w at same r.one;
-    each = each_set (Knows r.list r.next r.writer) s.views id w mine (λ j d _. r.each j d);
-  }
+  unmoved : (s : State S (View H)) (r : IsKept s) (i id : ℕ) (cs : List (ℕ × S)) (v w : View H) → get_elem? s.views id ≡ some v
+      → w.writes ≡ v.writes → Knows r.list r.next r.writer id w → IsKept (stepped s i (get_or s.words i 0) id cs w keeps)
+  unmoved s r i id cs v w at same mine =
+      subst (λ (ws : List ℕ). IsKept record { words = ws; homes = s.homes; views = set s.views id w }) (sym (set-get_or s.words i 0)) record {
+        list = r.list;
+        next = r.next;
+        writer = r.writer;
+        wide = r.wide;
+        number = r.number;
+        revisions = r.revisions;
+        whole = r.whole;
+        stored = r.stored;
+        room = r.room;
+        one = keeps_one s.views id r.writer v w at same r.one;
+        each = each_set (Knows r.list r.next r.writer) s.views id w mine (λ j d _. r.each j d);
+      }
 
   -- the writer stores a word of the next revision
-  pub stores : (slots id : ℕ) (me : Me S (View H)) (word b : ℕ) → me.0.writes ≡ true → length me.0.next < 8 → word ≡ word_index (length me.0.list) (length me.0.next)
+  pub stores : (slots id : ℕ) (me : Me S (View H)) (word b : ℕ) → me.0.writes ≡ true → length me.0.next < 8
+      → word ≡ word_index (length me.0.list) (length me.0.next)
       → Allows IsKept slots id me word (λ _. b) (λ _. StoresWord (step slots word b 0 none) me b)
   stores slots id me word b writes some_room at_index s r _ at _ =
       let k = r.each id me.0 at in let known = k.part writes in
@@ -144,21 +171,27 @@ module _ {S H : Type 0} where
           wide = length-set s.words p b ∙ r.wide;
           number = get_or-set_other s.words p 0 b 0 (λ e. omega arith) ∙ r.number;
           revisions = r.revisions;
-          whole = λ n j inside recent hj. get_or-set_other s.words p (word_index n j) b 0 (word_index_apart n (length r.list) j i hj some_room' (omega arith) (omega arith) (λ e. omega arith)) ∙ r.whole n j inside recent hj;
+          whole = λ n j inside recent hj. get_or-set_other s.words p (word_index n j) b 0
+              (word_index_apart n (length r.list) j i hj some_room' (omega arith) (omega arith) (λ e. omega arith)) ∙ r.whole n j inside recent hj;
           stored = λ j h. dite (ℕ_discrete j i)
-              (λ e. ap (λ (z : ℕ). get_or (set s.words p b) (word_index (length r.list) z) 0) e ∙ (get_or-set_same s.words p b 0 within ∙ sym (get_or_push r.next b 0 j (sym e))))
-              (λ other. let l : j < i = omega (arith, length_push r.next b) in get_or-set_other s.words p (word_index (length r.list) j) b 0 (word_index_apart_words (length r.list) j i other) ∙ (r.stored j l ∙ sym (get_or_append_left r.next (b ∷ []) 0 j l)));
+              (λ e. ap (λ (z : ℕ). get_or (set s.words p b) (word_index (length r.list) z) 0) e
+              ∙ (get_or-set_same s.words p b 0 within ∙ sym (get_or_push r.next b 0 j (sym e))))
+              (λ other. let l : j < i = omega (arith, length_push r.next b)
+              in get_or-set_other s.words p (word_index (length r.list) j) b 0 (word_index_apart_words (length r.list) j i other)
+              ∙ (r.stored j l ∙ sym (get_or_append_left r.next (b ∷ []) 0 j l)));
           room = omega (arith, length_push r.next b);
           one = keeps_one s.views id r.writer me.0 w at refl r.one;
           each = each_set (Knows r.list (r.next ++ b ∷ []) r.writer) s.views id w
               record { part = λ _. (known.0, known.1, ap (λ (l : List ℕ). l ++ b ∷ []) known.2); begun = k.begun; older = k.older; whole = k.whole }
-              (λ j d other e. let q = r.each j d e in record { part = λ t. absurd (other ((q.part t).0 ∙ sym known.0)); begun = q.begun; older = q.older; whole = q.whole });
+              (λ j d other e. let q = r.each j d e
+              in record { part = λ t. absurd (other ((q.part t).0 ∙ sym known.0)); begun = q.begun; older = q.older; whole = q.whole });
         },
         refl,
       )
 
   -- the writer stores the number of the next revision, which gets the name h
-  pub publishes : (slots id : ℕ) (me : Me S (View H)) (n : ℕ) (names : List H) (h : H) → me.0.writes ≡ true → names ≡ h ∷ [] → IsRevision (length me.0.list) me.0.next → n ≡ length me.0.list
+  pub publishes : (slots id : ℕ) (me : Me S (View H)) (n : ℕ) (names : List H) (h : H) → me.0.writes ≡ true → names ≡ h ∷ []
+      → IsRevision (length me.0.list) me.0.next → n ≡ length me.0.list
       → Allows IsKept slots id me 0 (λ _. n) (λ _. StoresNumber names (step slots 0 n 0 none) me n)
   publishes slots id me n names h writes names_is revision number s r _ at _ =
       let k = r.each id me.0 at in let known = k.part writes in
@@ -184,21 +217,26 @@ module _ {S H : Type 0} where
               (λ e. subst (IsRevision m) (sym (words_at-last m r.list x e)) (subst (λ (z : ℕ). IsRevision z r.next) (sym e) rev))
               (λ other. let l : m < length r.list = omega arith in subst (IsRevision m) (sym (words_at-append m r.list (x ∷ []) l)) (r.revisions m l));
           whole = λ m i inside recent hi. get_or-set_other s.words 0 (word_index m i) n 0 (λ e. omega arith) ∙ dite (ℕ_discrete m (length r.list))
-              (λ e. ap (λ (z : ℕ). get_or s.words (word_index z i) 0) e ∙ (r.stored i (omega arith) ∙ ap (λ (ws : List ℕ). get_or ws i 0) (sym (words_at-last m r.list x e))))
-              (λ other. let l : m < length r.list = omega arith in r.whole m i l (omega arith) hi ∙ ap (λ (ws : List ℕ). get_or ws i 0) (sym (words_at-append m r.list (x ∷ []) l)));
+              (λ e. ap (λ (z : ℕ). get_or s.words (word_index z i) 0) e
+              ∙ (r.stored i (omega arith) ∙ ap (λ (ws : List ℕ). get_or ws i 0) (sym (words_at-last m r.list x e))))
+              (λ other. let l : m < length r.list = omega arith in r.whole m i l (omega arith) hi
+              ∙ ap (λ (ws : List ℕ). get_or ws i 0) (sym (words_at-append m r.list (x ∷ []) l)));
           stored = λ i h. absurd (omega arith);
           room = omega arith;
           one = keeps_one s.views id r.writer me.0 w at refl r.one;
           each = each_set (Knows list' [] r.writer) s.views id w
-              (grown r.list r.next [] r.writer id x me.0 w k (λ _. (known.0, (λ z. known.1 z ++ map (published (known.2 z)) (names_is z)), refl)) refl refl refl)
-              (λ j d other e. let q = r.each j d e in grown r.list r.next [] r.writer j x d d q (λ t. absurd (other ((q.part t).0 ∙ sym known.0))) refl refl refl);
+              (grown r.list r.next [] r.writer id x me.0 w k
+              (λ _. (known.0, (λ z. known.1 z ++ map (published (known.2 z)) (names_is z)), refl)) refl refl refl)
+              (λ j d other e. let q = r.each j d e
+              in grown r.list r.next [] r.writer j x d d q (λ t. absurd (other ((q.part t).0 ∙ sym known.0))) refl refl refl);
         },
         refl,
       )
 
   -- a seat loads the number, where some revision is published: it then has seen the whole list
   looks_at : (s : State S (View H)) (r : IsKept s) (slots id : ℕ) (me : Me S (View H)) (trying : Bool) → get_elem? s.views id ≡ some me.0 → 0 < length r.list
-      → (w : View H) × (a : Act S) × Valid s.homes me.1 a × IsKept (stepped s 0 (get_or s.words 0 0) id me.1 w a) × LoadsNumber trying (step slots 0 0 0 none) me (get_or s.words 0 0) (w, carried_after me.1 a)
+      → (w : View H) × (a : Act S) × Valid s.homes me.1 a × IsKept (stepped s 0 (get_or s.words 0 0) id me.1 w a)
+      × LoadsNumber trying (step slots 0 0 0 none) me (get_or s.words 0 0) (w, carried_after me.1 a)
   looks_at s r slots id me trying at some_revision =
       let k = r.each id me.0 at in
       let w : View H = with_seen me.0 (get_or s.words 0 0) r.list trying in
@@ -221,15 +259,20 @@ module _ {S H : Type 0} where
       )
 
   -- a viewer loads the number
-  pub looks : (slots id : ℕ) (me : Me S (View H)) (trying : Bool) → 0 < length me.0.seen → Allows IsKept slots id me 0 (λ n. n) (LoadsNumber trying (step slots 0 0 0 none) me)
-  looks slots id me trying some_seen s r _ at _ = let k = r.each id me.0 at in looks_at s r slots id me trying at (omega (arith, begun_length r.list me.0.seen k.begun))
+  pub looks : (slots id : ℕ) (me : Me S (View H)) (trying : Bool) → 0 < length me.0.seen
+      → Allows IsKept slots id me 0 (λ n. n) (LoadsNumber trying (step slots 0 0 0 none) me)
+  looks slots id me trying some_seen s r _ at _ = let k =
+      r.each id me.0 at in looks_at s r slots id me trying at (omega (arith, begun_length r.list me.0.seen k.begun))
 
   -- the writer, who has seen nothing yet, loads the number
-  pub looks_all : (slots id : ℕ) (me : Me S (View H)) (trying : Bool) → me.0.writes ≡ true → 0 < length me.0.list → Allows IsKept slots id me 0 (λ n. n) (LoadsNumber trying (step slots 0 0 0 none) me)
-  looks_all slots id me trying writes some_list s r _ at _ = let k = r.each id me.0 at in looks_at s r slots id me trying at (subst (λ (l : Log H). 0 < length l) (k.part writes).1 some_list)
+  pub looks_all : (slots id : ℕ) (me : Me S (View H)) (trying : Bool) → me.0.writes ≡ true → 0 < length me.0.list
+      → Allows IsKept slots id me 0 (λ n. n) (LoadsNumber trying (step slots 0 0 0 none) me)
+  looks_all slots id me trying writes some_list s r _ at _ = let k =
+      r.each id me.0 at in looks_at s r slots id me trying at (subst (λ (l : Log H). 0 < length l) (k.part writes).1 some_list)
 
   -- a viewer loads a word of the revision at its floor
-  pub loads : (slots id : ℕ) (me : Me S (View H)) (word : ℕ) → 0 < length me.0.seen → length me.0.held < 8 → word ≡ word_index (length me.0.seen - 1) (length me.0.held)
+  pub loads : (slots id : ℕ) (me : Me S (View H)) (word : ℕ) → 0 < length me.0.seen → length me.0.held < 8
+      → word ≡ word_index (length me.0.seen - 1) (length me.0.held)
       → Allows IsKept slots id me word (λ n. n) (LoadsWord (step slots word 0 0 none) me)
   loads slots id me word some_seen some_left at_index s r _ at _ =
       let k = r.each id me.0 at in
@@ -301,7 +344,12 @@ module _ {S H : Type 0} where
               whole = q.whole;
             }) j d)
             (λ (t : (j ≡ end) × (right ≡ d)). subst (Knows r.list r.next writer j) t.1
-            record { part = λ a. (given_part v.writes j end r.writer a t.0, (k.part a).1, (k.part a).2); begun = k.begun; older = k.older; whole = λ _ _. refl })
+            record {
+              part = λ a. (given_part v.writes j end r.writer a t.0, (k.part a).1, (k.part a).2);
+              begun = k.begun;
+              older = k.older;
+              whole = λ _ _. refl;
+            })
             (at_end (set s.views id left) right d j e);
       }
 
@@ -324,7 +372,8 @@ module _ {S H : Type 0} where
         whole = r.whole;
         stored = r.stored;
         room = r.room;
-        one = join_one v.writes w.writes s.views id other r.writer v w both idle apart at here refl refl refl (λ a. (k.part a).0) (joined_here s.views id other v both idle apart at) r.one;
+        one = join_one v.writes w.writes s.views id other r.writer v w both idle apart at here refl refl refl
+            (λ a. (k.part a).0) (joined_here s.views id other v both idle apart at) r.one;
         each = each_set (Knows r.list r.next writer) middle other idle
             record { part = λ t. absurd (false≢true t); begun = refl; older = refl; whole = λ _ _. refl }
             (λ j d not_other e. each_set (λ i u. i ≢ other → Knows r.list r.next writer i u) s.views id both
@@ -343,26 +392,32 @@ module _ {S H : Type 0} where
       }
 
   -- the writer stores the word i of a revision whose words before it are stored
-  pub stores_next : (slots id : ℕ) (me : Me S (View H)) (v : View H) (cs : List (ℕ × S)) (words : List ℕ) (number i word : ℕ) → me ≡ (with_next v (take i words), cs) → v.writes ≡ true → length v.list ≡ number → length words ≡ 8 → i < 8 → word ≡ word_index number i
+  pub stores_next : (slots id : ℕ) (me : Me S (View H)) (v : View H) (cs : List (ℕ × S)) (words : List ℕ) (number i word : ℕ)
+      → me ≡ (with_next v (take i words), cs) → v.writes ≡ true → length v.list ≡ number → length words ≡ 8 → i < 8 → word ≡ word_index number i
       → Allows IsKept slots id me word (λ _. get_or words i 0) (λ _. StoresWord (step slots word (get_or words i 0) 0 none) me (get_or words i 0))
   stores_next slots id me v cs words number i word is writes count long some_room at_index =
       let stored_is : length me.0.next ≡ i = ap (λ (x : Me S (View H)). length x.0.next) is ∙ length-take-le i words (omega arith) in
       let list_is : length me.0.list ≡ number = ap (λ (x : Me S (View H)). length x.0.list) is ∙ count in
-      stores slots id me word (get_or words i 0) (ap (λ (x : Me S (View H)). x.0.writes) is ∙ writes) (omega arith) (at_index ∙ (λ z. word_index (sym list_is z) (sym stored_is z)))
+      stores slots id me word (get_or words i 0) (ap (λ (x : Me S (View H)). x.0.writes) is ∙ writes) (omega arith)
+      (at_index ∙ (λ z. word_index (sym list_is z) (sym stored_is z)))
 
   -- what was stored, once the word i is stored too
-  pub stored_next : (me me' : Me S (View H)) (v : View H) (cs : List (ℕ × S)) (words : List ℕ) (i n : ℕ) → me ≡ (with_next v (take i words), cs) → me' ≡ (with_word me.0 n, me.1) → n ≡ get_or words i 0 → i < length words
+  pub stored_next : (me me' : Me S (View H)) (v : View H) (cs : List (ℕ × S)) (words : List ℕ) (i n : ℕ)
+      → me ≡ (with_next v (take i words), cs) → me' ≡ (with_word me.0 n, me.1) → n ≡ get_or words i 0 → i < length words
       → me' ≡ (with_next v (take (i + 1) words), cs)
   stored_next me me' v cs words i n is next n_is inside =
       next ∙ ((λ z. (with_word (is z).0 (n_is z), (is z).1)) ∙ (λ z. (with_next v (sym (take_more words i 0 inside) z), cs)))
 
   -- the writer stores the number of a revision whose words are all stored
-  pub publishes_next : (slots id : ℕ) (me : Me S (View H)) (number : ℕ) (names : List H) (h : H) → me.0.writes ≡ true → length me.0.list ≡ number → IsRevision number me.0.next → names ≡ h ∷ []
+  pub publishes_next : (slots id : ℕ) (me : Me S (View H)) (number : ℕ) (names : List H) (h : H) → me.0.writes ≡ true
+      → length me.0.list ≡ number → IsRevision number me.0.next → names ≡ h ∷ []
       → Allows IsKept slots id me 0 (λ _. number) (λ _. StoresNumber names (step slots 0 number 0 none) me number)
-  publishes_next slots id me number names h writes count revision names_is = publishes slots id me number names h writes names_is (subst (λ (n : ℕ). IsRevision n me.0.next) (sym count) revision) (sym count)
+  publishes_next slots id me number names h writes count revision names_is =
+      publishes slots id me number names h writes names_is (subst (λ (n : ℕ). IsRevision n me.0.next) (sym count) revision) (sym count)
 
   -- a viewer loads the word i of the revision at its floor
-  pub loads_next : (slots id : ℕ) (me : Me S (View H)) (number i word : ℕ) → number + 1 ≡ length me.0.seen → i ≡ length me.0.held → i < 8 → word ≡ word_index number i → Allows IsKept slots id me word (λ n. n) (LoadsWord (step slots word 0 0 none) me)
+  pub loads_next : (slots id : ℕ) (me : Me S (View H)) (number i word : ℕ) → number + 1 ≡ length me.0.seen → i ≡ length me.0.held → i < 8
+      → word ≡ word_index number i → Allows IsKept slots id me word (λ n. n) (LoadsWord (step slots word 0 0 none) me)
   loads_next slots id me number i word floor held some_left at_index =
       let number_is : number ≡ length me.0.seen - 1 = omega arith in
       loads slots id me word (omega arith) (omega arith) (at_index ∙ (λ z. word_index (number_is z) (held z)))

@@ -34,8 +34,10 @@ first_counts zero v e _ = (ap (λ (y : View). y.left) (sym (some-injective (whol
 first_counts (suc i) v e _ = absurd (some-ne-none v (sym e))
 
 -- a fact of each seat lasts where it holds of the seat that moves, and of each other seat
-each_set : (K : View → Type 0) (vs : List View) (me : ℕ) (w : View) → K w → ((j : ℕ) (d : View) → j ≢ me → get_elem? vs j ≡ some d → K d) → (j : ℕ) (d : View) → get_elem? (set vs me w) j ≡ some d → K d
-each_set K vs me w mine others j d e = ⊎_elim (λ (t : (j ≡ me) × (w ≡ d)). subst K t.1 mine) (λ (t : (j ≢ me) × (get_elem? vs j ≡ some d)). others j d t.0 t.1) (at_set vs me j w d e)
+each_set : (K : View → Type 0) (vs : List View) (me : ℕ) (w : View) → K w → ((j : ℕ) (d : View) → j ≢ me → get_elem? vs j ≡ some d → K d)
+    → (j : ℕ) (d : View) → get_elem? (set vs me w) j ≡ some d → K d
+each_set K vs me w mine others j d e =
+    ⊎_elim (λ (t : (j ≡ me) × (w ≡ d)). subst K t.1 mine) (λ (t : (j ≢ me) × (get_elem? vs j ≡ some d)). others j d t.0 t.1) (at_set vs me j w d e)
 
 abbrev Counted : ℕ → View → Type 0
 Counted n v = 0 < v.parts → (v.left ≡ n) × (v.right ≡ n)
@@ -106,7 +108,8 @@ module _ {S : Type 0} where
   united_parts m v w cs is half half' = let e : m.0.parts ≡ v.parts + w.parts = ap (λ (x : Me S View). x.0.parts) is in omega arith
 
   -- the counts of a whole that agree are one
-  pub united_whole : (m m' : Me S View) (v w : View) (cs : List (ℕ × S)) → m ≡ (united v w, cs) → m' ≡ m → m.0.right ≡ m.0.left → v.parts ≡ 1 → w.parts ≡ 1 → (m'.1 ≡ cs) × (m'.0 ≡ whole v.left) × (v.left ≡ w.left)
+  pub united_whole : (m m' : Me S View) (v w : View) (cs : List (ℕ × S)) → m ≡ (united v w, cs) → m' ≡ m → m.0.right ≡ m.0.left
+      → v.parts ≡ 1 → w.parts ≡ 1 → (m'.1 ≡ cs) × (m'.0 ≡ whole v.left) × (v.left ≡ w.left)
   united_whole m m' v w cs is same agree half half' =
       let all = united_parts m v w cs is half half' in
       let left : m.0.left ≡ v.left = ap (λ (x : Me S View). x.0.left) is in

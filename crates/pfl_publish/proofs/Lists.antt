@@ -1,5 +1,6 @@
 -- Lists of revisions, where they stand among the words, and the views of all seats.
-use Rattle.std.proofs.Common.{◌≡◌, ℕ, zero, suc, ◌+◌, ◌*◌, ◌%◌, ◌<◌, ◌≤◌, ◌≢◌, ◌⊎◌, List, [], ◌∷◌, ◌++◌, length, take, set, refl, sym, ap, ◌∙◌, inl, inr, ⊎_elim, subst, arith, length-take}
+use Rattle.std.proofs.Common.{◌≡◌, ℕ, zero, suc, ◌+◌, ◌*◌, ◌%◌, ◌<◌, ◌≤◌, ◌≢◌, ◌⊎◌, List, [], ◌∷◌, ◌++◌, length, take, set, refl, sym, ap, ◌∙◌, inl}
+use Rattle.std.proofs.Common.{inr, ⊎_elim, subst, arith, length-take}
 use Rattle.std.proofs.lemmas.List.{take-append-le, take_all}
 use mathlib.Core.Option.{some, some-injective, some-ne-none}
 use lib.ListN.{get_elem?}
@@ -37,7 +38,8 @@ module _ {A : Type 0} where
   take_within (suc n) (suc m) (x ∷ xs) h = ap (λ (t : List A). x ∷ t) (take_within n m xs (omega arith))
 
   -- a fact of each seat lasts where it holds of the seat that moves, and of each other seat
-  pub each_set : (K : ℕ → A → Type 0) (vs : List A) (me : ℕ) (w : A) → K me w → ((j : ℕ) (d : A) → j ≢ me → get_elem? vs j ≡ some d → K j d) → (j : ℕ) (d : A) → get_elem? (set vs me w) j ≡ some d → K j d
+  pub each_set : (K : ℕ → A → Type 0) (vs : List A) (me : ℕ) (w : A) → K me w
+      → ((j : ℕ) (d : A) → j ≢ me → get_elem? vs j ≡ some d → K j d) → (j : ℕ) (d : A) → get_elem? (set vs me w) j ≡ some d → K j d
   each_set K vs me w mine others j d e = ⊎_elim (λ (t : (j ≡ me) × (w ≡ d)). let P : ℕ × A → Type 0 = λ x. K x.0 x.1 in subst P (λ i. (sym t.0 i, t.1 i)) mine)
       (λ (t : (j ≢ me) × (get_elem? vs j ≡ some d)). others j d t.0 t.1) (at_set vs me j w d e)
 

@@ -14,11 +14,13 @@ pub no_try : (start : List ℕ) → LoadsOvertaken 0 start start
 no_try start = record { earlier = []; loads = sym (append-nil start); overtaken = refl }
 
 -- one try more was overtaken
-pub one_more : (count count' at now : ℕ) (start middle end : List ℕ) → count' ≡ suc count → LoadsOvertaken count start middle → end ≡ middle ++ at ∷ now ∷ [] → at + 3 ≤ now → LoadsOvertaken count' start end
+pub one_more : (count count' at now : ℕ) (start middle end : List ℕ) → count' ≡ suc count → LoadsOvertaken count start middle
+    → end ≡ middle ++ at ∷ now ∷ [] → at + 3 ≤ now → LoadsOvertaken count' start end
 one_more count count' at now start middle end next before loads moved = record {
   earlier = before.earlier ++ at ∷ now ∷ [];
   loads = loads ∙ ((λ z. before.loads z ++ at ∷ now ∷ []) ∙ append_assoc start before.earlier (at ∷ now ∷ []));
-  overtaken = subst (λ (k : ℕ). AreOvertaken k (before.earlier ++ at ∷ now ∷ [])) (sym next) (before.earlier, at, now, (λ _. before.earlier ++ at ∷ now ∷ []), moved, before.overtaken);
+  overtaken = subst (λ (k : ℕ). AreOvertaken k (before.earlier ++ at ∷ now ∷ [])) (sym next)
+      (before.earlier, at, now, (λ _. before.earlier ++ at ∷ now ∷ []), moved, before.overtaken);
 }
 
 module _ {H : Type 0} where
@@ -35,7 +37,8 @@ module _ {H : Type 0} where
   loads-since a b c ab bc = (ab.0 ++ bc.0, bc.1 ∙ ((λ z. ab.1 z ++ bc.0) ∙ append_assoc a.loads ab.0 bc.0))
 
   -- the loads of the last try after those that were overtaken
-  last_try : (start middle end : Viewer H) (count count' at now : ℕ) → count ≡ count' → LoadsOvertaken count start.loads middle.loads → MakesTry middle end at now → MakesTries start end count' at now
+  last_try : (start middle end : Viewer H) (count count' at now : ℕ) → count ≡ count' → LoadsOvertaken count start.loads middle.loads
+      → MakesTry middle end at now → MakesTries start end count' at now
   last_try start middle end count count' at now same before try = record {
     earlier = before.earlier;
     overtaken = subst (λ (k : ℕ). AreOvertaken k before.earlier) same before.overtaken;
@@ -44,8 +47,10 @@ module _ {H : Type 0} where
   }
 
   -- what is read in the last try
-  pub last_read : (start middle end : Viewer H) (words : List ℕ) (count most : ℕ) → length start.seen ≤ length middle.seen → LoadsOvertaken count start.loads middle.loads → count ≤ most
-      → (n : ℕ) × (now : ℕ) × IsRead middle end words n × MakesTry middle end n now → (n : ℕ) × (now : ℕ) × (count : ℕ) × IsRead start end words n × MakesTries start end count n now × (count ≤ most)
+  pub last_read : (start middle end : Viewer H) (words : List ℕ) (count most : ℕ) → length start.seen ≤ length middle.seen
+      → LoadsOvertaken count start.loads middle.loads → count ≤ most
+      → (n : ℕ) × (now : ℕ) × IsRead middle end words n × MakesTry middle end n now → (n : ℕ) × (now : ℕ) × (count : ℕ)
+      × IsRead start end words n × MakesTries start end count n now × (count ≤ most)
   last_read start middle end words count most older before within is = (
     is.0,
     is.1,
@@ -56,7 +61,8 @@ module _ {H : Type 0} where
   )
 
   -- the last try is overtaken
-  pub last_overtaken : (start middle end : Viewer H) (count count' at now : ℕ) → length start.seen ≤ length middle.seen → LoadsOvertaken count start.loads middle.loads → count ≡ count'
+  pub last_overtaken : (start middle end : Viewer H) (count count' at now : ℕ) → length start.seen ≤ length middle.seen
+      → LoadsOvertaken count start.loads middle.loads → count ≡ count'
       → IsOvertaken middle end at now × MakesTry middle end at now → IsOvertaken start end at now × MakesTries start end count' at now
   last_overtaken start middle end count count' at now older before same is =
       (record { fresh = omega (arith, is.0.fresh); moved = is.0.moved; reached = is.0.reached }, last_try start middle end count count' at now same before is.1)

@@ -7,8 +7,9 @@ use Rattle.pfl_publish.specs.declared.view.View.{View}
 use Rattle.pfl_publish.specs.Revisions.{Log, word_index, IsRevision, words_at, StartsWith}
 
 module _ {H : Type 0} where
-  -- What one seat knows is true. `part`: if it has the writer's part, it is the seat of that number and knows the list and the words stored of the next revision.
-  -- `begun` and `older`: the list begins with what it has seen. `whole`: while the number is at most two past its floor, the words that it holds are the first of that revision
+  -- What one seat knows is true. `part`: if it has the writer's part, it is the seat of that number and knows the list and the words
+  -- stored of the next revision. `begun` and `older`: the list begins with what it has seen. `whole`: while the number is at most two
+  -- past its floor, the words that it holds are the first of that revision
   pub record Knows (list : Log H) (next : List ℕ) (writer seat : ℕ) (v : View H) : Type 0 where
     pub part : v.writes ≡ true → (seat ≡ writer) × (v.list ≡ list) × (v.next ≡ next)
     pub begun : StartsWith list v.seen
@@ -19,8 +20,9 @@ module _ {H : Type 0} where
   abbrev pub HasWriter : List (View H) → ℕ → Type 0
   HasWriter views writer = (v : View H) × (get_elem? views writer ≡ some v) × (v.writes ≡ true)
 
-  -- There is one list of revisions. `number`: the number word is that of the last one. `whole`: the last three stand whole, each in its bank. `stored`: the bank of the next one
-  -- has the words that the writer has stored of it. `one`: some seat has the writer's part, by `each` no other does. `each`: what every seat knows is true; a spent seat knows nothing
+  -- There is one list of revisions. `number`: the number word is that of the last one. `whole`: the last three stand whole, each in its
+  -- bank. `stored`: the bank of the next one has the words that the writer has stored of it. `one`: some seat has the writer's part, by
+  -- `each` no other does. `each`: what every seat knows is true; a spent seat knows nothing
   pub record IsKept {S : Type 0} (s : State S (View H)) : Type 0 where
     pub list : Log H
     pub next : List ℕ

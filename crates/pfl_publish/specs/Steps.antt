@@ -6,8 +6,8 @@ use Rattle.pfl_publish.specs.Revisions.{Log, IsRevision, words_at, StartsWith}
 use Rattle.pfl_publish.specs.Views.{with_word, with_names, with_held, with_seen}
 
 module _ {H : Type 0} where
-  -- What a seat with the view v learns with the number n: all revisions up to it. What it had seen comes first there, and what it held is whole if the number is at most two past its floor.
-  -- The writer's list is what is seen
+  -- What a seat with the view v learns with the number n: all revisions up to it. What it had seen comes first there, and what it held is
+  -- whole if the number is at most two past its floor. The writer's list is what is seen
   pub record Learns (v : View H) (n : ℕ) (seen : Log H) : Type 0 where
     pub number : length seen ≡ n + 1
     pub begun : StartsWith seen v.seen

@@ -23,19 +23,47 @@ module _ {H : Type 0} where
 
   -- the list is one longer, and nothing is stored of the next revision
   abbrev pub with_entry : View H → Published H → View H
-  with_entry v entry = record { writes = v.writes; list = v.list ++ entry ∷ []; next = []; seen = v.seen; old = v.old; trying = v.trying; held = v.held; loads = v.loads }
+  with_entry v entry = record {
+    writes = v.writes;
+    list = v.list ++ entry ∷ [];
+    next = [];
+    seen = v.seen;
+    old = v.old;
+    trying = v.trying;
+    held = v.held;
+    loads = v.loads;
+  }
 
   -- the words that were stored are published, under the name picked
   abbrev pub with_names : View H → List H → View H
-  with_names v names = record { writes = v.writes; list = v.list ++ map (published v.next) names; next = []; seen = v.seen; old = v.old; trying = v.trying; held = v.held; loads = v.loads }
+  with_names v names = record {
+    writes = v.writes;
+    list = v.list ++ map (published v.next) names;
+    next = [];
+    seen = v.seen;
+    old = v.old;
+    trying = v.trying;
+    held = v.held;
+    loads = v.loads;
+  }
 
   -- the number n is loaded: this much is seen, and nothing is held
   abbrev pub with_seen : View H → ℕ → Log H → Bool → View H
-  with_seen v n seen trying = record { writes = v.writes; list = v.list; next = v.next; seen = seen; old = []; trying = trying; held = []; loads = v.loads ++ n ∷ [] }
+  with_seen v n seen trying =
+      record { writes = v.writes; list = v.list; next = v.next; seen = seen; old = []; trying = trying; held = []; loads = v.loads ++ n ∷ [] }
 
   -- one word more is held
   abbrev pub with_held : View H → ℕ → View H
-  with_held v n = record { writes = v.writes; list = v.list; next = v.next; seen = v.seen; old = v.old; trying = v.trying; held = v.held ++ n ∷ []; loads = v.loads }
+  with_held v n = record {
+    writes = v.writes;
+    list = v.list;
+    next = v.next;
+    seen = v.seen;
+    old = v.old;
+    trying = v.trying;
+    held = v.held ++ n ∷ [];
+    loads = v.loads;
+  }
 
   -- what stays with a seat that is split
   abbrev pub without_writer : View H → View H

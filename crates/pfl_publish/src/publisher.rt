@@ -121,7 +121,8 @@ impl<H, A: Allocator> Publisher<H, A> {
     pub fn load(&self, viewer: &mut ViewerSeat<H>, i: usize)
         requires table { viewer.old.table ≡ self.now }
         requires trying { (viewer.old.trying ≡ true) × (length viewer.old.held ≡ i) × (i < 8) }
-        ensures same { (viewer.new.table ≡ viewer.old.table) × (viewer.new.seen ≡ viewer.old.seen) × (viewer.new.trying ≡ true) × (viewer.new.loads ≡ viewer.old.loads) }
+        ensures same { (viewer.new.table ≡ viewer.old.table) × (viewer.new.seen ≡ viewer.old.seen) × (viewer.new.trying ≡ true)
+            × (viewer.new.loads ≡ viewer.old.loads) }
         ensures held { (n : ℕ) × (viewer.new.held ≡ viewer.old.held ++ n ∷ []) }
     {
         viewer.words[i] = load_word(&self.words.shared, &mut viewer.seat, viewer.loaded, i);
@@ -171,7 +172,8 @@ impl<H, A: Allocator> Publisher<H, A> {
         requires { viewer.old.table ≡ self.now }
         ensures seen { SeesOn viewer.old viewer.new }
         ensures closed { viewer.new.trying ≡ false }
-        ensures ok { IfOk result (λ r. (n : ℕ) × (now : ℕ) × (count : ℕ) × IsRead viewer.old viewer.new r.words n × MakesTries viewer.old viewer.new count n now × (count ≤ tries - 1)) }
+        ensures ok { IfOk result (λ r. (n : ℕ) × (now : ℕ) × (count : ℕ) × IsRead viewer.old viewer.new r.words n
+            × MakesTries viewer.old viewer.new count n now × (count ≤ tries - 1)) }
         ensures err { IfErr result (λ o. IsOvertaken viewer.old viewer.new o.at o.now × MakesTries viewer.old viewer.new (tries - 1) o.at o.now) }
         ensures tries { IfErr result (λ o. OvertakenBefore tries viewer.old o.at) }
     {

@@ -47,9 +47,9 @@ impl<H> Play<(), View<H>> for BeginTry {
 }
 
 /// A viewer loads the number, and no try is open.
-pub(crate) struct Look;
+pub(crate) struct LoadNumber;
 
-impl<H> Play<(), View<H>> for Look {
+impl<H> Play<(), View<H>> for LoadNumber {
     ghost use Rattle.std.specs.Prelude.{false};
     ghost use Rattle.pfl_publish.specs.Steps.{LoadsNumber};
 

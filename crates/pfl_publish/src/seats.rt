@@ -73,7 +73,8 @@ impl<H> Model for ViewerSeat<H> {
 
     ghost Value = { Viewer H };
 
-    ghost view = { λ v. record { table = v.seat.table_id; seen = v.seat.me.0.seen; trying = v.seat.me.0.trying; held = v.seat.me.0.held; loads = v.seat.me.0.loads } };
+    ghost view = { λ v.
+        record { table = v.seat.table_id; seen = v.seat.me.0.seen; trying = v.seat.me.0.trying; held = v.seat.me.0.held; loads = v.seat.me.0.loads } };
 
     ghost invariant = { λ v. IsViewerSeat v.seat.me v.loaded v.words };
 }

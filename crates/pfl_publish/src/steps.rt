@@ -5,7 +5,7 @@ ghost use Rattle.pfl_publish.specs.Views.{with_next, with_entry, with_held, with
 ghost use Rattle.pfl_publish.specs.Steps.{Looks};
 
 use crate::names::{Naming, Picked};
-use crate::rule::{BeginTry, JoinSeats, LoadWord, Look, SplitSeat, StoreNumber, StoreWord};
+use crate::rule::{BeginTry, JoinSeats, LoadNumber, LoadWord, SplitSeat, StoreNumber, StoreWord};
 use crate::seats::Revision;
 use crate::words::{NUMBER, REVISION_WORDS, SharedWords, WordsSeat, word_index};
 
@@ -76,7 +76,7 @@ pub(crate) fn look<H>(words: &SharedWords<H>, seat: &mut WordsSeat<H>) -> u64
     ensures table { seat.new.table_id ≡ seat.old.table_id }
     ensures looks { Looks false seat.old.me result seat.new.me }
 {
-    words.load::<Look>(seat, NUMBER)
+    words.load::<LoadNumber>(seat, NUMBER)
 }
 
 /// The writer, who has published a revision and seen none, loads the number.
@@ -86,7 +86,7 @@ pub(crate) fn first_look<H>(words: &SharedWords<H>, seat: &mut WordsSeat<H>) -> 
     ensures table { seat.new.table_id ≡ seat.old.table_id }
     ensures looks { Looks false seat.old.me result seat.new.me }
 {
-    words.load::<Look>(seat, NUMBER)
+    words.load::<LoadNumber>(seat, NUMBER)
 }
 
 /// A viewer loads word `i` of revision `number`, which its try is at.

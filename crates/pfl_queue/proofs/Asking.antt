@@ -1,5 +1,6 @@
 -- Names that are asked for: what their index finds, and what it has when a name comes or goes.
-use Rattle.std.specs.Prelude.{◌≡◌, ◌<◌, ◌≤◌, ℕ, zero, suc, Bool, true, false, ◌||◌, List, [], ◌∷◌, length, take, drop, Some, None, is_some, slice_get, slice_set, get_or, refl, Option}
+use Rattle.std.specs.Prelude.{◌≡◌, ◌<◌, ◌≤◌, ℕ, zero, suc, Bool, true, false, ◌||◌, List, [], ◌∷◌, length, take, drop, Some, None, is_some, slice_get}
+use Rattle.std.specs.Prelude.{slice_set, get_or, refl, Option}
 use Rattle.std.specs.List.{AllByRecursion, IsDistinct, insert, list_any, remove}
 use Rattle.std.specs.Option.{option_map}
 use Rattle.std.specs.Cmp.{eq_by_cmp_equiv}
@@ -34,7 +35,8 @@ asked-found [] name = refl
 asked-found (n ∷ names) name =
     ap (λ b. is_some (cond b (Some n) (row_at by_name_cmp as_key names (as_key name)))) (same_keys name n) ∙ through (is_name name n) (asked-found names name)
   where
-    through : (b : Bool) → is_some (row_at by_name_cmp as_key names (as_key name)) ≡ list_any (is_name name) names → is_some (cond b (Some n) (row_at by_name_cmp as_key names (as_key name))) ≡ (b || list_any (is_name name) names)
+    through : (b : Bool) → is_some (row_at by_name_cmp as_key names (as_key name)) ≡ list_any (is_name name) names
+        → is_some (cond b (Some n) (row_at by_name_cmp as_key names (as_key name))) ≡ (b || list_any (is_name name) names)
     through true later = refl
     through false later = later
 
@@ -56,7 +58,8 @@ is_some-mapped f None = refl
 is_some-mapped f (Some x) = refl
 
 -- a key is found where its name is asked for
-pub asked-test : (listed : List StateName) (m : Map by_name_cmp (Unit {0})) (name : StateName) → HasKeys listed m → is_some (maps.get m (as_key name)) ≡ list_any (is_name name) listed
+pub asked-test : (listed : List StateName) (m : Map by_name_cmp (Unit {0})) (name : StateName) → HasKeys listed m
+    → is_some (maps.get m (as_key name)) ≡ list_any (is_name name) listed
 asked-test listed m name is =
     ap is_some (made-get by_name_total by_name_exact as_key (λ _. tt) listed m (as_key name) is)
     ∙ (is_some-mapped (λ (n : StateName). tt) (row_at by_name_cmp as_key listed (as_key name)) ∙ asked-found listed name)
@@ -68,20 +71,25 @@ asked-len = made-len by_name_total by_name_exact as_key (λ _. tt)
 -- no names
 pub asked-none : (list : List (ByName × Unit {0})) → list ≡ [] → HasKeys [] (maps.from_sorted list)
 asked-none list none =
-    subst (HasKeys []) (sym (ap (λ (es : List (ByName × Unit {0})). maps.from_sorted es) none ∙ map_of-none by_name_cmp)) (made-empty by_name_total by_name_exact as_key (λ _. tt))
+    subst (HasKeys []) (sym (ap (λ (es : List (ByName × Unit {0})). maps.from_sorted es) none ∙ map_of-none by_name_cmp))
+    (made-empty by_name_total by_name_exact as_key (λ _. tt))
 
 -- a name more
-pub asked-more : (listed : List StateName) (i : ℕ) (name : StateName) (m : Map by_name_cmp (Unit {0})) → HasKeys listed m → IsDistinct is_name (insert listed i name) → HasKeys (insert listed i name) (maps.insert m (as_key name) tt)
+pub asked-more : (listed : List StateName) (i : ℕ) (name : StateName) (m : Map by_name_cmp (Unit {0})) → HasKeys listed m
+    → IsDistinct is_name (insert listed i name) → HasKeys (insert listed i name) (maps.insert m (as_key name) tt)
 asked-more listed i name m is once =
     let front = take i listed in
     let back = drop i listed in
-    made-with by_name_total by_name_exact as_key (λ _. tt) front name back m (subst (λ (xs : List StateName). HasKeys xs m) (sym (take-append-drop i listed)) is)
+    made-with by_name_total by_name_exact as_key (λ _. tt) front name back m
+    (subst (λ (xs : List StateName). HasKeys xs m) (sym (take-append-drop i listed)) is)
     (Distinct-without by_name_total by_name_exact as_key front name back (keys_apart (insert listed i name) once)).0
 
 -- a name less
-pub asked-less : (listed : List StateName) (i : ℕ) (d : StateName) (m : Map by_name_cmp (Unit {0})) → i < length listed → HasKeys listed m → HasKeys (remove listed i) (maps.remove m (as_key (get_or listed i d)))
+pub asked-less : (listed : List StateName) (i : ℕ) (d : StateName) (m : Map by_name_cmp (Unit {0})) → i < length listed → HasKeys listed m
+    → HasKeys (remove listed i) (maps.remove m (as_key (get_or listed i d)))
 asked-less listed i d m within is =
-    made-without by_name_total by_name_exact as_key (λ _. tt) (take i listed) (get_or listed i d) (drop (suc i) listed) m (subst (λ (xs : List StateName). HasKeys xs m) (split_at listed i d within) is)
+    made-without by_name_total by_name_exact as_key (λ _. tt) (take i listed) (get_or listed i d) (drop (suc i) listed) m
+    (subst (λ (xs : List StateName). HasKeys xs m) (split_at listed i d within) is)
 
 -- past the end there is nothing to take out
 pub remove-past : {X : Type 0} (xs : List X) (i : ℕ) → length xs ≤ i → remove xs i ≡ xs
@@ -97,7 +105,8 @@ insert-removed (z ∷ xs) zero x y at = refl
 insert-removed (z ∷ xs) (suc i) x y at = ap (λ (ys : List _). z ∷ ys) (insert-removed xs i x y at)
 
 -- so it stands within the list, which is one shorter without it
-pub within-list : {X : Type 0} (xs : List X) (i : ℕ) (x : X) → slice_get xs i ≡ Some x → (i < length xs) × (i ≤ length (remove xs i)) × (length (remove xs i) < length xs)
+pub within-list : {X : Type 0} (xs : List X) (i : ℕ) (x : X) → slice_get xs i ≡ Some x → (i < length xs) × (i ≤ length (remove xs i))
+    × (length (remove xs i) < length xs)
 within-list [] i x at = absurd (cc)
 within-list (z ∷ xs) zero x at = (omega arith, omega arith, omega arith)
 within-list (z ∷ xs) (suc i) x at = let later = within-list xs i x at in (omega (arith, later.0), omega (arith, later.1), omega (arith, later.2))

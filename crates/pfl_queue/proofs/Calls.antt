@@ -19,16 +19,18 @@ called_kept q is (Marking name kind) = elim (mark_fault q name) as (λ o. mark_f
   | None ↦ λ free. marked_kept q is name kind (has_room q name free) (has_number q name free)
   | Some fault ↦ λ free. is
 ] refl
-called_kept q is (MarkingOn name kind) = elim (room_fault q name) as (λ o. room_fault q name ≡ o → IsQueue (if is_some o then q else if nat_lt q.next most_numbers then marked q name kind else q)) [
-  | None ↦ λ free. elim (nat_lt q.next most_numbers) as (λ b. nat_lt q.next most_numbers ≡ b → IsQueue (if b then marked q name kind else q)) [
-    | true ↦ λ low. marked_kept q is name kind free (grind (arith, nat_tests))
-    | false ↦ λ high. is
-  ] refl
-  | Some fault ↦ λ free. is
-] refl
+called_kept q is (MarkingOn name kind) = elim (room_fault q name) as (λ o. room_fault q name ≡ o
+    → IsQueue (if is_some o then q else if nat_lt q.next most_numbers then marked q name kind else q)) [
+      | None ↦ λ free. elim (nat_lt q.next most_numbers) as (λ b. nat_lt q.next most_numbers ≡ b → IsQueue (if b then marked q name kind else q)) [
+        | true ↦ λ low. marked_kept q is name kind free (grind (arith, nat_tests))
+        | false ↦ λ high. is
+      ] refl
+      | Some fault ↦ λ free. is
+    ] refl
 called_kept q is (Unmarking name) = unmarked_kept q is name
 called_kept q is (Asking name) =
-    elim (is_requested q name) as (λ b. is_requested q name ≡ b → IsQueue (if is_some (if b then None else list_fault q) then q else (if b then q else record q { requests = q.requests ++ name ∷ [] }))) [
+    elim (is_requested q name) as (λ b. is_requested q name ≡ b
+    → IsQueue (if is_some (if b then None else list_fault q) then q else (if b then q else record q { requests = q.requests ++ name ∷ [] }))) [
       | true ↦ λ listed. is
       | false ↦ λ new. elim (list_fault q) as (λ o. list_fault q ≡ o → IsQueue (if is_some o then q else record q { requests = q.requests ++ name ∷ [] })) [
         | None ↦ λ free. request_kept q is free name new

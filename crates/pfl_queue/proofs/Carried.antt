@@ -30,7 +30,8 @@ ones (x ∷ xs) = omega (arith, sum_by-cons (λ y. 1) x xs, ones xs)
 pub marks-length : (q : Queue) → length (in_order mark_before (maps.values q.marks)) ≡ maps.len q.marks
 marks-length q =
     let marks = in_order mark_before (maps.values q.marks) in
-    sym (ones marks) ∙ (order-sum mark_before (λ m. 1) (maps.values q.marks) ∙ (ones (maps.values q.marks) ∙ (length-map (entries q.marks) (λ e. e.1) ∙ sym (len-entries q.marks))))
+    sym (ones marks) ∙ (order-sum mark_before (λ m. 1) (maps.values q.marks)
+    ∙ (ones (maps.values q.marks) ∙ (length-map (entries q.marks) (λ e. e.1) ∙ sym (len-entries q.marks))))
 
 pub pending-in_turn : (q : Queue) → length (in_turn q) ≡ pending q
 pending-in_turn q =
@@ -47,7 +48,8 @@ pending-in_turn q =
 
 -- ---- the longest prefix that passes is not empty, where the first element passes
 
-last-filled : {X : Type 0} (front : List X) (fronts : List (List X)) → 0 < length front → AllByRecursion (λ f. 0 < length f) fronts → 0 < length (unwrap_or (last_of (front ∷ fronts)) [])
+last-filled : {X : Type 0} (front : List X) (fronts : List (List X)) → 0 < length front → AllByRecursion (λ f. 0 < length f) fronts
+    → 0 < length (unwrap_or (last_of (front ∷ fronts)) [])
 last-filled front [] first all = first
 last-filled front (g ∷ gs) first all = last-filled g gs all.0 all.1
 
@@ -69,7 +71,8 @@ first-passes p x xs passes =
     let from = from_none xs in
     let others = filter p (map (λ front. x ∷ front) from.more) in
     let longer = filter p (map (λ front. x ∷ front) (prefixes xs)) in
-    let first : longer ≡ (x ∷ []) ∷ others = ap (λ fronts. filter p (map (λ front. x ∷ front) fronts)) from.is ∙ ap (λ b. cond b ((x ∷ []) ∷ others) others) passes in
+    let first : longer ≡ (x ∷ []) ∷ others = ap (λ fronts. filter p (map (λ front. x ∷ front) fronts)) from.is
+    ∙ ap (λ b. cond b ((x ∷ []) ∷ others) others) passes in
     let so = last-filled (x ∷ []) others (omega arith) (all_filter (λ f. 0 < length f) p (map (λ front. x ∷ front) from.more) (all-filled x from.more)) in
     elim (p []) as (λ b. 0 < length (unwrap_or (last_of (cond b ([] ∷ longer) longer)) [])) [
       | true ↦ subst (λ fronts. 0 < length (unwrap_or (last_of ([] ∷ fronts)) [])) (sym first) so

@@ -1,5 +1,6 @@
 -- The longest prefix whose frame has at most mtu bytes is found by adding up.
-use Rattle.std.proofs.Common.{◌≡◌, ℕ, ◌+◌, ◌-◌, ◌*◌, ◌<◌, ◌≤◌, zero, suc, Bool, true, false, cond, List, [], ◌∷◌, ◌++◌, map, take, drop, length, get_or, take-take, Option, Some, refl, sym, ◌∙◌, ap, subst, arith, nat_le, add-one}
+use Rattle.std.proofs.Common.{◌≡◌, ℕ, ◌+◌, ◌-◌, ◌*◌, ◌<◌, ◌≤◌, zero, suc, Bool, true, false, cond, List, [], ◌∷◌, ◌++◌, map, take, drop, length}
+use Rattle.std.proofs.Common.{get_or, take-take, Option, Some, refl, sym, ◌∙◌, ap, subst, arith, nat_le, add-one}
 use Rattle.std.specs.Prelude.{if◌then◌else◌, filter, unwrap_or}
 use Rattle.std.specs.List.{sum_by}
 use Rattle.std.proofs.Math.Seq.{take-suc}
@@ -62,9 +63,11 @@ joined_begins x ((y ∷ ys) ∷ groups) =
       | false ↦ record { rest = []; others = (y ∷ ys) ∷ groups; is = refl }
     ]
 
-joined_bytes : (x y : Action) (ys : List Action) (groups : List (List Action)) → groups_bytes (joined one_action x ((y ∷ ys) ∷ groups)) ≡ record_len x + (header x y + groups_bytes ((y ∷ ys) ∷ groups))
+joined_bytes : (x y : Action) (ys : List Action) (groups : List (List Action))
+    → groups_bytes (joined one_action x ((y ∷ ys) ∷ groups)) ≡ record_len x + (header x y + groups_bytes ((y ∷ ys) ∷ groups))
 joined_bytes x y ys groups =
-    elim (one_action x y) as (λ b. groups_bytes (if b then (x ∷ y ∷ ys) ∷ groups else (x ∷ []) ∷ (y ∷ ys) ∷ groups) ≡ record_len x + ((if b then 0 else 4) + groups_bytes ((y ∷ ys) ∷ groups))) [
+    elim (one_action x y) as (λ b. groups_bytes (if b then (x ∷ y ∷ ys) ∷ groups else (x ∷ []) ∷ (y ∷ ys) ∷ groups)
+    ≡ record_len x + ((if b then 0 else 4) + groups_bytes ((y ∷ ys) ∷ groups))) [
       | true ↦ omega arith
       | false ↦ omega arith
     ]
@@ -104,11 +107,19 @@ bytes-last : (es : List Entry) (e : Entry) → entry_bytes (es ++ e ∷ []) ≡ 
 bytes-last es e =
     let actions = map entry_action es in
     let a = entry_action e in
-    ap bytes_of (map-append entry_action es (e ∷ [])) ∙ (bytes_weight (actions ++ a ∷ []) ∙ (ap (λ n. 20 + n) (weight-last actions a) ∙ omega (arith, bytes_weight actions)))
+    ap bytes_of (map-append entry_action es (e ∷ []))
+    ∙ (bytes_weight (actions ++ a ∷ []) ∙ (ap (λ n. 20 + n) (weight-last actions a) ∙ omega (arith, bytes_weight actions)))
 
 bytes-more : (front back : List Entry) → entry_bytes front ≤ entry_bytes (front ++ back)
 bytes-more front back =
-    omega (arith, ap bytes_of (map-append entry_action front back), bytes_weight (map entry_action front), bytes_weight (map entry_action front ++ map entry_action back), weight-more (map entry_action front) (map entry_action back))
+    omega (
+      arith,
+      ap bytes_of (map-append entry_action front back),
+      bytes_weight (map entry_action front),
+      bytes_weight
+          (map entry_action front ++ map entry_action back),
+      weight-more (map entry_action front) (map entry_action back),
+    )
 
 last-pushed : {X : Type 0} (xs : List X) (x : X) → last_of (xs ++ x ∷ []) ≡ Some x
 last-pushed [] x = refl
@@ -129,29 +140,35 @@ last-map f (z ∷ w ∷ ws) x is = last-cons f (f z) (w ∷ ws) x is
 
 filter-map : {X Y : Type 0} (f : X → Y) (p : Y → Bool) (xs : List X) → filter p (map f xs) ≡ map f (filter (λ x. p (f x)) xs)
 filter-map f p [] = refl
-filter-map f p (x ∷ xs) = elim (p (f x)) as (λ b. cond b (f x ∷ filter p (map f xs)) (filter p (map f xs)) ≡ map f (cond b (x ∷ filter (λ x. p (f x)) xs) (filter (λ x. p (f x)) xs))) [
-  | true ↦ ap (λ ys. f x ∷ ys) (filter-map f p xs)
-  | false ↦ filter-map f p xs
-]
+filter-map f p (x ∷ xs) = elim (p (f x)) as
+    (λ b. cond b (f x ∷ filter p (map f xs)) (filter p (map f xs)) ≡ map f (cond b (x ∷ filter (λ x. p (f x)) xs) (filter (λ x. p (f x)) xs))) [
+      | true ↦ ap (λ ys. f x ∷ ys) (filter-map f p xs)
+      | false ↦ filter-map f p xs
+    ]
 
 none_pass : {X : Type 0} (p : List X → Bool) (xs : List X) → ((j : ℕ) → j ≤ length xs → p (take j xs) ≡ false) → filter p (prefixes xs) ≡ []
 none_pass p [] fail = ap (λ b. cond b ([] ∷ []) []) (fail 0 (omega arith))
 none_pass p (x ∷ xs) fail =
     ap (λ b. cond b ([] ∷ filter p (map (λ front. x ∷ front) (prefixes xs))) (filter p (map (λ front. x ∷ front) (prefixes xs)))) (fail 0 (omega arith))
-    ∙ filter-map (λ front. x ∷ front) p (prefixes xs) ∙ ap (map (λ front. x ∷ front)) (none_pass (λ front. p (x ∷ front)) xs (λ j h. fail (suc j) (omega arith)))
+    ∙ filter-map (λ front. x ∷ front) p (prefixes xs)
+    ∙ ap (map (λ front. x ∷ front)) (none_pass (λ front. p (x ∷ front)) xs (λ j h. fail (suc j) (omega arith)))
 
-last_passes : {X : Type 0} (p : List X → Bool) (xs : List X) (i : ℕ) → i ≤ length xs → p (take i xs) ≡ true → ((j : ℕ) → i < j → j ≤ length xs → p (take j xs) ≡ false) → last_of (filter p (prefixes xs)) ≡ Some (take i xs)
+last_passes : {X : Type 0} (p : List X → Bool) (xs : List X) (i : ℕ) → i ≤ length xs → p (take i xs) ≡ true
+    → ((j : ℕ) → i < j → j ≤ length xs → p (take j xs) ≡ false) → last_of (filter p (prefixes xs)) ≡ Some (take i xs)
 last_passes p [] zero within passes fail = ap (λ b. last_of (cond b ([] ∷ []) [])) passes
 last_passes p [] (suc i) within passes fail = absurd (omega arith)
 last_passes p (x ∷ xs) zero within passes fail =
     let longer = filter p (map (λ front. x ∷ front) (prefixes xs)) in
     ap (λ b. last_of (cond b ([] ∷ longer) longer)) passes
-    ∙ ap (λ ys. last_of ([] ∷ ys)) (filter-map (λ front. x ∷ front) p (prefixes xs) ∙ ap (map (λ front. x ∷ front)) (none_pass (λ front. p (x ∷ front)) xs (λ j h. fail (suc j) (omega arith) (omega arith))))
+    ∙ ap (λ ys. last_of ([] ∷ ys)) (filter-map (λ front. x ∷ front) p (prefixes xs)
+    ∙ ap (map (λ front. x ∷ front)) (none_pass (λ front. p (x ∷ front)) xs (λ j h. fail (suc j) (omega arith) (omega arith))))
 last_passes p (x ∷ xs) (suc i) within passes fail =
     let rest = last_passes (λ front. p (x ∷ front)) xs i (omega arith) passes (λ j above h. fail (suc j) (omega arith) (omega arith)) in
     let shape = filter-map (λ front. x ∷ front) p (prefixes xs) in
     ap (λ ys. last_of (cond (p []) ([] ∷ ys) ys)) shape
-    ∙ (elim (p []) as (λ b. last_of (cond b ([] ∷ map (λ front. x ∷ front) (filter (λ front. p (x ∷ front)) (prefixes xs))) (map (λ front. x ∷ front) (filter (λ front. p (x ∷ front)) (prefixes xs)))) ≡ Some (x ∷ take i xs)) [
+    ∙ (elim (p []) as (λ b. last_of
+    (cond b ([] ∷ map (λ front. x ∷ front) (filter (λ front. p (x ∷ front)) (prefixes xs)))
+    (map (λ front. x ∷ front) (filter (λ front. p (x ∷ front)) (prefixes xs)))) ≡ Some (x ∷ take i xs)) [
       | true ↦ last-cons (λ front. x ∷ front) [] (filter (λ front. p (x ∷ front)) (prefixes xs)) (take i xs) rest
       | false ↦ last-map (λ front. x ∷ front) (filter (λ front. p (x ∷ front)) (prefixes xs)) (take i xs) rest
     ])
@@ -164,7 +181,8 @@ module _ (es : List Entry) (mtu : ℕ) where
   longer : (i j : ℕ) → i ≤ j → entry_bytes (take i es) ≤ entry_bytes (take j es)
   longer i j h =
       let front = take-take i j es h in
-      rw (← front) (subst (λ (ys : List Entry). entry_bytes (take i (take j es)) ≤ entry_bytes ys) (take-append-drop i (take j es)) (bytes-more (take i (take j es)) (drop i (take j es))))
+      rw (← front) (subst (λ (ys : List Entry). entry_bytes (take i (take j es)) ≤ entry_bytes ys) (take-append-drop i (take j es))
+      (bytes-more (take i (take j es)) (drop i (take j es))))
 
   too_long : (i : ℕ) → mtu < entry_bytes (take i es) → nat_le (entry_bytes (take i es)) mtu ≡ false
   too_long i h = grind (arith, nat_tests)
@@ -172,12 +190,16 @@ module _ (es : List Entry) (mtu : ℕ) where
   -- what no frame has room for
   pub nothing_fits : mtu < 20 → [] ≡ longest es mtu
   nothing_fits h =
-      sym (ap (λ fronts. unwrap_or (last_of fronts) []) (none_pass (λ front. nat_le (entry_bytes front) mtu) es (λ j within. too_long j (omega (arith, h, bytes_weight (map entry_action (take j es)))))))
+      sym (ap (λ fronts. unwrap_or (last_of fronts) [])
+      (none_pass (λ front. nat_le (entry_bytes front) mtu) es
+      (λ j within. too_long j (omega (arith, h, bytes_weight (map entry_action (take j es)))))))
 
   -- or all fit,
   pub all_fit : (left i : ℕ) → i ≡ length es → left + entry_bytes (take i es) ≡ mtu → take (length es) es ≡ longest es mtu
   all_fit left i end sum =
-      rw (← end) (sym (ap (λ o. unwrap_or o []) (last_passes (λ front. nat_le (entry_bytes front) mtu) es i (omega (arith, end)) (grind (arith, nat_tests)) (λ j above h. absurd (omega (arith, end))))))
+      rw (← end) (sym (ap (λ o. unwrap_or o [])
+      (last_passes (λ front. nat_le (entry_bytes front) mtu) es i (omega (arith, end)) (grind (arith, nat_tests))
+      (λ j above h. absurd (omega (arith, end))))))
 
   -- What the next entry costs.
   module _ (i : ℕ) (d : Entry) (within : i < length es) (left cost : ℕ) (before : Option Action) (action : Action)
@@ -200,7 +222,8 @@ module _ (es : List Entry) (mtu : ℕ) where
     pub last_more : Some action ≡ last_of (map entry_action (take (i + 1) es))
     last_more =
         rw (add-one, take-suc es i d within)
-        (ap Some is ∙ sym (ap last_of (map-append entry_action (take i es) (get_or es i d ∷ [])) ∙ last-pushed (map entry_action (take i es)) (entry_action (get_or es i d))))
+        (ap Some is ∙ sym (ap last_of (map-append entry_action (take i es) (get_or es i d ∷ []))
+        ∙ last-pushed (map entry_action (take i es)) (entry_action (get_or es i d))))
 
 -- A frame has room for no more entries than it has bytes for the least of them.
 
@@ -220,7 +243,8 @@ many_bytes [] = omega arith
 many_bytes (x ∷ []) = omega (arith, least_record x)
 many_bytes (x ∷ y ∷ ys) = omega (arith, least_record x, many_bytes (y ∷ ys))
 
-bounded_fronts : {X : Type 0} (p : List X → Bool) (n : ℕ) (xs : List X) → ((j : ℕ) → n < j → j ≤ length xs → p (take j xs) ≡ false) → filter p (prefixes (take n xs)) ≡ filter p (prefixes xs)
+bounded_fronts : {X : Type 0} (p : List X → Bool) (n : ℕ) (xs : List X) → ((j : ℕ) → n < j → j ≤ length xs → p (take j xs) ≡ false)
+    → filter p (prefixes (take n xs)) ≡ filter p (prefixes xs)
 bounded_fronts p zero [] fail = refl
 bounded_fronts p (suc n) [] fail = refl
 bounded_fronts p zero (x ∷ xs) fail =
@@ -234,7 +258,17 @@ bounded_fronts p (suc n) (x ∷ xs) fail =
 pub longest_bounded : (n : ℕ) (es : List Entry) (mtu : ℕ) → mtu < 8 * n + 8 → longest (take n es) mtu ≡ longest es mtu
 longest_bounded n es mtu few =
     ap (λ fronts. unwrap_or (last_of fronts) []) (bounded_fronts (λ front. nat_le (entry_bytes front) mtu) n es
-    (λ j above within. too_long es mtu j (omega (arith, few, above, bytes_weight (map entry_action (take j es)), many_bytes (map entry_action (take j es)), length-map (take j es) entry_action, length-take-le j es within))))
+    (λ j above within. too_long es mtu j
+    (omega (
+      arith,
+      few,
+      above,
+      bytes_weight (map entry_action (take j es)),
+      many_bytes (map entry_action (take j es)),
+      length-map
+          (take j es) entry_action,
+      length-take-le j es within,
+    ))))
 
 -- each entry of a frame has at least as many
 pub entries_bytes : (es : List Entry) → 8 * length es + 20 ≤ entry_bytes es

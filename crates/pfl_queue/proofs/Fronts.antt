@@ -33,13 +33,18 @@ all_map : {X Y : Type 0} (P : Y → Type 0) (f : X → Y) (xs : List X) → AllB
 all_map P f [] all = tt
 all_map P f (x ∷ xs) all = (all.0, all_map P f xs all.1)
 
-all_longer : {X : Type 0} (x : X) (xs : List X) (fronts : List (List X)) → AllByRecursion (BeginsWith xs) fronts → AllByRecursion (λ front. BeginsWith (x ∷ xs) (x ∷ front)) fronts
+all_longer : {X : Type 0} (x : X) (xs : List X) (fronts : List (List X)) → AllByRecursion (BeginsWith xs) fronts
+    → AllByRecursion (λ front. BeginsWith (x ∷ xs) (x ∷ front)) fronts
 all_longer x xs [] all = tt
 all_longer x xs (front ∷ fronts) all = (record { rest = all.0.rest; is = ap (λ ys. x ∷ ys) all.0.is }, all_longer x xs fronts all.1)
 
 prefixes_begin : {X : Type 0} (xs : List X) → AllByRecursion (BeginsWith xs) (prefixes xs)
 prefixes_begin [] = (record { rest = []; is = refl }, tt)
-prefixes_begin (x ∷ xs) = (record { rest = x ∷ xs; is = refl }, all_map (BeginsWith (x ∷ xs)) (λ front. x ∷ front) (prefixes xs) (all_longer x xs (prefixes xs) (prefixes_begin xs)))
+prefixes_begin (x ∷ xs) = (
+  record { rest = x ∷ xs; is = refl },
+  all_map (BeginsWith (x ∷ xs)) (λ front. x ∷ front) (prefixes xs)
+      (all_longer x xs (prefixes xs) (prefixes_begin xs)),
+)
 
 pub all_filter : {X : Type 0} (P : X → Type 0) (test : X → Bool) (xs : List X) → AllByRecursion P xs → AllByRecursion P (filter test xs)
 all_filter P test [] all = tt
@@ -56,27 +61,41 @@ last_or P d (x ∷ y ∷ ys) h all = last_or P d (y ∷ ys) h all.1
 pub longest_begins : (es : List Entry) (mtu : ℕ) → BeginsWith es (longest es mtu)
 longest_begins es mtu = last_or (BeginsWith es) [] _ (record { rest = es; is = refl }) (all_filter (BeginsWith es) _ (prefixes es) (prefixes_begin es))
 
-stood : (q : Queue) (is : IsQueue q) (name : StateName) (ms : List Mark) → AllByRecursion (λ m. maps.get (maps.remove q.marks name) m.name ≡ Some m) ms → AllByRecursion (λ m. maps.get q.marks m.name ≡ Some m) ms
+stood : (q : Queue) (is : IsQueue q) (name : StateName) (ms : List Mark)
+    → AllByRecursion (λ m. maps.get (maps.remove q.marks name) m.name ≡ Some m) ms → AllByRecursion (λ m. maps.get q.marks m.name ≡ Some m) ms
 stood q is name [] all = tt
 stood q is name (m ∷ ms) all = (kept q is name m.name m all.0, stood q is name ms all.1)
 
 -- the marks in order, without their first
-first_mark_gone : (q : Queue) → IsQueue q → (m : Mark) (ms : List Mark) → in_order mark_before (maps.values q.marks) ≡ m ∷ ms → in_order mark_before (maps.values (maps.remove q.marks m.name)) ≡ ms
+first_mark_gone : (q : Queue) → IsQueue q → (m : Mark) (ms : List Mark) → in_order mark_before (maps.values q.marks) ≡ m ∷ ms
+    → in_order mark_before (maps.values (maps.remove q.marks m.name)) ≡ ms
 first_mark_gone q is m ms first =
     let values = maps.values q.marks in
     let fewer = maps.values (maps.remove q.marks m.name) in
-    let stands = subst (AllByRecursion (λ m. maps.get q.marks m.name ≡ Some m)) first (order-all mark_before (λ m. maps.get q.marks m.name ≡ Some m) values (values_stand q is)) in
-    let stand_too = order-all mark_before (λ m. maps.get q.marks m.name ≡ Some m) fewer (stood q is m.name fewer (values_stand (unmarked q m.name) (unmarked_kept q is m.name))) in
+    let stands = subst (AllByRecursion (λ m. maps.get q.marks m.name ≡ Some m)) first
+    (order-all mark_before (λ m. maps.get q.marks m.name ≡ Some m) values (values_stand q is)) in
+    let stand_too = order-all mark_before (λ m. maps.get q.marks m.name ≡ Some m) fewer
+    (stood q is m.name fewer (values_stand (unmarked q m.name) (unmarked_kept q is m.name))) in
     let rises = subst (Rises mark_before) first (order-rises mark_before before_order values) in
-    same_rising mark_before before_order (λ m. maps.get q.marks m.name ≡ Some m) (exact q is) (in_order mark_before fewer) ms (order-rises mark_before before_order fewer) rises.1 stand_too stands.1
-    (λ f. omega (arith, order-sum mark_before f fewer, sum_without f q.marks m m.name stands.0, order-sum mark_before f values, ap (sum_by f) first, sum_by-cons f m ms))
+    same_rising mark_before before_order (λ m. maps.get q.marks m.name ≡ Some m) (exact q is) (in_order mark_before fewer) ms
+    (order-rises mark_before before_order fewer) rises.1 stand_too stands.1
+    (λ f. omega (
+      arith,
+      order-sum mark_before f fewer,
+      sum_without f q.marks m m.name stands.0,
+      order-sum mark_before f values,
+      ap
+          (sum_by f) first,
+      sum_by-cons f m ms,
+    ))
 
 -- What is left where this is the first entry.
 module _ (q : Queue) (is : IsQueue q) (e : Entry) (rest : List Entry) where
   abbrev parts : List Mark → List StateName → List BulkStatus → List Cleared → List Entry
   parts ms rs ss cs = map entry_of ms ++ map Request rs ++ map Status ss ++ map clear_of cs
 
-  of_clears : in_order mark_before (maps.values q.marks) ≡ [] → q.requests ≡ [] → q.statuses ≡ [] → (cs : List Cleared) → q.clears ≡ cs → parts [] [] [] cs ≡ e ∷ rest → in_turn (gone q e) ≡ rest
+  of_clears : in_order mark_before (maps.values q.marks) ≡ [] → q.requests ≡ [] → q.statuses ≡ [] → (cs : List Cleared) → q.clears ≡ cs
+      → parts [] [] [] cs ≡ e ∷ rest → in_turn (gone q e) ≡ rest
   of_clears marks requests statuses [] clears turn = absurd (cc)
   of_clears marks requests statuses (c ∷ cs) clears turn =
       let same : e ≡ clear_of c = cc in
@@ -87,7 +106,8 @@ module _ (q : Queue) (is : IsQueue q) (e : Entry) (rest : List Entry) where
       ∙ ap (λ ss. map Status ss ++ map clear_of (drop 1 q.clears)) statuses
       ∙ ap (λ (xs : List Cleared). map clear_of (drop 1 xs)) clears ∙ others
 
-  of_statuses : in_order mark_before (maps.values q.marks) ≡ [] → q.requests ≡ [] → (ss : List BulkStatus) → q.statuses ≡ ss → parts [] [] ss q.clears ≡ e ∷ rest → in_turn (gone q e) ≡ rest
+  of_statuses : in_order mark_before (maps.values q.marks) ≡ [] → q.requests ≡ [] → (ss : List BulkStatus) → q.statuses ≡ ss
+      → parts [] [] ss q.clears ≡ e ∷ rest → in_turn (gone q e) ≡ rest
   of_statuses marks requests [] statuses turn = of_clears marks requests statuses q.clears refl turn
   of_statuses marks requests (s ∷ ss) statuses turn =
       let same : e ≡ Status s = cc in
@@ -97,7 +117,8 @@ module _ (q : Queue) (is : IsQueue q) (e : Entry) (rest : List Entry) where
       ∙ ap (λ rs. map Request rs ++ map Status (drop 1 q.statuses) ++ map clear_of q.clears) requests
       ∙ ap (λ (xs : List BulkStatus). map Status (drop 1 xs) ++ map clear_of q.clears) statuses ∙ others
 
-  of_requests : in_order mark_before (maps.values q.marks) ≡ [] → (rs : List StateName) → q.requests ≡ rs → parts [] rs q.statuses q.clears ≡ e ∷ rest → in_turn (gone q e) ≡ rest
+  of_requests : in_order mark_before (maps.values q.marks) ≡ [] → (rs : List StateName) → q.requests ≡ rs
+      → parts [] rs q.statuses q.clears ≡ e ∷ rest → in_turn (gone q e) ≡ rest
   of_requests marks [] requests turn = of_statuses marks requests q.statuses refl turn
   of_requests marks (n ∷ rs) requests turn =
       let same : e ≡ Request n = cc in
@@ -134,11 +155,13 @@ module _ (q : Queue) (is : IsQueue q) (e : Entry) (rest : List Entry) where
   found_request [] requests turn = found_status q.statuses refl turn
   found_request (n ∷ rs) requests turn = let same : e ≡ Request n = cc in subst Found (sym same) (ap (λ (xs : List StateName). slice_get xs 0) requests)
 
-  found_mark : (ms : List Mark) → in_order mark_before (maps.values q.marks) ≡ ms → map entry_of ms ++ map Request q.requests ++ map Status q.statuses ++ map clear_of q.clears ≡ e ∷ rest → Found e
+  found_mark : (ms : List Mark) → in_order mark_before (maps.values q.marks) ≡ ms
+      → map entry_of ms ++ map Request q.requests ++ map Status q.statuses ++ map clear_of q.clears ≡ e ∷ rest → Found e
   found_mark [] marks turn = found_request q.requests refl turn
   found_mark (m ∷ ms) marks turn =
       let same : e ≡ entry_of m = cc in
-      let stands = subst (AllByRecursion (λ m. maps.get q.marks m.name ≡ Some m)) marks (order-all mark_before (λ m. maps.get q.marks m.name ≡ Some m) (maps.values q.marks) (values_stand q is)) in
+      let stands = subst (AllByRecursion (λ m. maps.get q.marks m.name ≡ Some m)) marks
+      (order-all mark_before (λ m. maps.get q.marks m.name ≡ Some m) (maps.values q.marks) (values_stand q is)) in
       subst Found (sym same) stands.0
 
 pub first_found : (q : Queue) → IsQueue q → (e : Entry) (rest : List Entry) → in_turn q ≡ e ∷ rest → FindsFormer (taking e) q
@@ -169,7 +192,8 @@ limit_stays q (Status status) = refl
 limit_stays q (Clear creator bound) = refl
 
 -- the edits of the first entries lead back from what they leave
-pub frame_leads_back : (es : List Entry) (q : Queue) → IsQueue q → (rest : List Entry) → es ++ rest ≡ in_turn q → QueueLeadsBack (map taking es) q (left_by q es)
+pub frame_leads_back : (es : List Entry) (q : Queue) → IsQueue q → (rest : List Entry) → es ++ rest ≡ in_turn q
+    → QueueLeadsBack (map taking es) q (left_by q es)
 frame_leads_back [] q is rest turn = LeadsBack-none Finds IsQueue put_back q
 frame_leads_back (e ∷ es) q is rest turn =
     let found = first_found q is e (es ++ rest) (sym turn) in

@@ -32,7 +32,8 @@ module _ {V : Type 0} (number : V → ℕ) where
 
 module _ {V : Type 0} (number : V → ℕ) (n : ℕ) where
   -- a link put between those below it and those above it
-  rising-with : (f : List (Link V)) (x : Link V) (b : List (Link V)) → number x.value ≡ n → IsRising number (f ++ b) → IsBelow number n f → IsAbove number n b → IsRising number (f ++ x ∷ b)
+  rising-with : (f : List (Link V)) (x : Link V) (b : List (Link V)) → number x.value ≡ n → IsRising number (f ++ b) → IsBelow number n f
+      → IsAbove number n b → IsRising number (f ++ x ∷ b)
   rising-with [] x b is r below above = (subst (λ m. IsAbove number m b) (sym is) above, r)
   rising-with (y ∷ f) x b is r below above = (above-with (number y.value) f r.0 (omega (arith, is, below.0)), rising-with f x b is r.1 below.1 above)
     where
@@ -41,16 +42,20 @@ module _ {V : Type 0} (number : V → ℕ) (n : ℕ) where
       above-with m (z ∷ f) a h = (a.0, above-with m f a.1 h)
 
   -- a link put into the gap of its number
-  pub gap-ordered : (c new : Lists V) (list : ℕ) (behind : Option ℕ) (gap : OrderedGap number n c list behind) → list < length c.lists → IsRising number (links_of c list) → (x : Link V) → number x.value ≡ n
-      → new ≡ with_links c list (gap.front ++ x ∷ gap.back) → InsertsInOrder number (links_of c list) (links_of new list) x × (new ≡ with_links c list (links_of new list))
+  pub gap-ordered : (c new : Lists V) (list : ℕ) (behind : Option ℕ) (gap : OrderedGap number n c list behind) → list < length c.lists
+      → IsRising number (links_of c list) → (x : Link V) → number x.value ≡ n
+      → new ≡ with_links c list (gap.front ++ x ∷ gap.back) → InsertsInOrder number (links_of c list) (links_of new list) x
+      × (new ≡ with_links c list (links_of new list))
   gap-ordered c new list behind gap within rising x numbered is =
-      let links : links_of new list ≡ gap.front ++ x ∷ gap.back = ap (λ (d : Lists V). links_of d list) is ∙ links_of-same c list (gap.front ++ x ∷ gap.back) within in (
+      let links : links_of new list ≡ gap.front ++ x ∷ gap.back = ap (λ (d : Lists V). links_of d list) is
+      ∙ links_of-same c list (gap.front ++ x ∷ gap.back) within in (
         record {
           front = gap.front;
           back = gap.back;
           was = gap.split;
           is = links;
-          rising = subst (IsRising number) (sym links) (rising-with gap.front x gap.back numbered (subst (IsRising number) gap.split rising) gap.below gap.above);
+          rising = subst (IsRising number) (sym links)
+              (rising-with gap.front x gap.back numbered (subst (IsRising number) gap.split rising) gap.below gap.above);
         },
         is ∙ ap (with_links c list) (sym links),
       )
@@ -85,7 +90,8 @@ last-place {V = V} c list slot h is = through (links_of c list) refl is
 
 module _ {V : Type 0} (number : V → ℕ) (c : Lists V) (list n : ℕ) where
   -- where it is below a number, all are,
-  pub last-below : (slot : ℕ) (l : Last c list slot) → IsRising number (links_of c list) → (v : V) → v ≡ l.at.value → number v < n → IsBelow number n (links_of c list)
+  pub last-below : (slot : ℕ) (l : Last c list slot) → IsRising number (links_of c list) → (v : V) → v ≡ l.at.value → number v < n
+      → IsBelow number n (links_of c list)
   last-below slot l rising v is low =
       let lower : number l.at.value < n = omega (arith, low, ap number is) in
       subst (IsBelow number n) (sym l.split) (below_last number n l.at.front (link slot l.at.value) (subst (IsRising number) l.split rising) lower)

@@ -16,7 +16,11 @@ module _ (q : Queue) (m : Mark) (is : IsQueue q) (off : maps.get q.marks m.name 
       let cases = get-set_at_cases names_total names_exact q.marks m.name (Some m) in
       record {
         few = rw (len-insert names_total q.marks m.name m, off) (omega (arith, room));
-        filed = λ n k at. elim (cases n k at) [ inl h ↦ (let same : m ≡ k = cc in ap (λ (g : Mark). g.name) (sym same)) ∙ sym h.0 | inr old ↦ is.filed n k old.1 ];
+        filed = λ n k at. elim (cases n k at) [
+          | inl h ↦ (let same : m ≡ k = cc in ap (λ (g : Mark). g.name) (sym same))
+              ∙ sym h.0
+          | inr old ↦ is.filed n k old.1
+        ];
         below = λ n k at. elim (cases n k at) [
           | inl h ↦ let same : m ≡ k = cc in let number = ap (λ (g : Mark). g.number) same in omega (arith, number, low)
           | inr old ↦ is.below n k old.1

@@ -32,7 +32,8 @@ earlier m n = is_lt (turn_cmp (kind_place m.kind, m.number) (kind_place n.kind, 
 earlier_order : IsStrictWeakOrder earlier
 earlier_order = ranks_by turns_total (λ m. (kind_place m.kind, m.number))
 
-lexical : (less same later tied : Bool) → (less || (same && later)) ≡ is_lt (ordering_then (cond less Less (cond same Equal Greater)) (cond later Less (cond tied Equal Greater)))
+lexical : (less same later tied : Bool)
+    → (less || (same && later)) ≡ is_lt (ordering_then (cond less Less (cond same Equal Greater)) (cond later Less (cond tied Equal Greater)))
 lexical true same later tied = refl
 lexical false true true tied = refl
 lexical false true false true = refl
@@ -40,7 +41,8 @@ lexical false true false false = refl
 lexical false false later tied = refl
 
 same_order : (m n : Mark) → mark_before m n ≡ earlier m n
-same_order m n = lexical (nat_lt (kind_place m.kind) (kind_place n.kind)) (kind_place m.kind == kind_place n.kind) (nat_lt m.number n.number) (m.number == n.number)
+same_order m n = lexical (nat_lt (kind_place m.kind) (kind_place n.kind)) (kind_place m.kind == kind_place n.kind)
+    (nat_lt m.number n.number) (m.number == n.number)
 
 pub before_order : IsStrictWeakOrder mark_before
 before_order = record {
@@ -62,7 +64,8 @@ each_stands (x ∷ xs) d = (
   later xs (each_stands xs d.1),
 )
   where
-    later : (ms : List Mark) → AllByRecursion (λ m. row_at name_cmp named xs m.name ≡ Some m) ms → AllByRecursion (λ m. row_at name_cmp named (x ∷ xs) m.name ≡ Some m) ms
+    later : (ms : List Mark) → AllByRecursion (λ m. row_at name_cmp named xs m.name ≡ Some m) ms
+        → AllByRecursion (λ m. row_at name_cmp named (x ∷ xs) m.name ≡ Some m) ms
     later [] all = tt
     later (m ∷ ms) all = (
       elim (eq_by_cmp name_cmp m.name x.name) as (λ b. eq_by_cmp name_cmp m.name x.name ≡ b → cond b (Some x) (row_at name_cmp named xs m.name) ≡ Some m) [
@@ -80,7 +83,11 @@ all_stand q rows d is = through rows (each_stands rows d)
   where
     through : (ms : List Mark) → AllByRecursion (λ m. row_at name_cmp named rows m.name ≡ Some m) ms → AllByRecursion (Stands q) ms
     through [] all = tt
-    through (m ∷ ms) all = (ap (λ (n : Map name_cmp Mark). maps.get n m.name) (sym is) ∙ (get-map_of names_total names_exact named rows m.name ∙ all.0), through ms all.1)
+    through (m ∷ ms) all = (
+      ap (λ (n : Map name_cmp Mark). maps.get n m.name) (sym is)
+          ∙ (get-map_of names_total names_exact named rows m.name ∙ all.0),
+      through ms all.1,
+    )
 
 pub exact : (q : Queue) → IsQueue q → (m n : Mark) → Stands q m → Stands q n → mark_before m n ≡ false → mark_before n m ≡ false → m ≡ n
 exact q is m n p r a b =

@@ -83,7 +83,8 @@ module _ {V : Type 0} where
       record { at = record { list = w.list; within = w.within; front = w.front; value = v; back = w.back; split = w.split }; is = refl }
 
   -- what holds of each list holds of each when one is changed
-  pub each_list : (P : ℕ → List (Link V) → Type 0) (n : ℕ) (c : Lists V) (list : ℕ) (links : List (Link V)) → list < length c.lists → P list links → ((k : ℕ) → k < n → P k (links_of c k))
+  pub each_list : (P : ℕ → List (Link V) → Type 0) (n : ℕ) (c : Lists V) (list : ℕ) (links : List (Link V)) → list < length c.lists
+      → P list links → ((k : ℕ) → k < n → P k (links_of c k))
       → (k : ℕ) → k < n → P k (links_of (with_links c list links) k)
   each_list P n c list links within here others k h = elim (cases_eq k list) [
     | inl same ↦ subst (λ j. P j (links_of (with_links c list links) j)) (sym same) (subst (P list) (sym (links_of-same c list links within)) here)

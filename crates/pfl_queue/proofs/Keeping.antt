@@ -1,5 +1,6 @@
 -- What keeps the pending queues queues.
-use Rattle.std.proofs.Common.{◌≡◌, inl, inr, ℕ, ◌+◌, ◌-◌, ◌<◌, ◌≤◌, Bool, true, false, cond, not, ◌&&◌, ◌||◌, List, [], ◌∷◌, ◌++◌, length, drop, Option, Some, None, is_some, refl, sym, ◌∙◌, ap, subst, T, arith, nat_le}
+use Rattle.std.proofs.Common.{◌≡◌, inl, inr, ℕ, ◌+◌, ◌-◌, ◌<◌, ◌≤◌, Bool, true, false, cond, not, ◌&&◌, ◌||◌, List, [], ◌∷◌, ◌++◌, length, drop}
+use Rattle.std.proofs.Common.{Option, Some, None, is_some, refl, sym, ◌∙◌, ap, subst, T, arith, nat_le}
 use Rattle.std.specs.Prelude.{if◌then◌else◌}
 use Rattle.std.specs.List.{IsDistinct, AllByRecursion, list_any, insert}
 use Rattle.std.proofs.lemmas.Bool.Decides.{nat_tests}
@@ -63,7 +64,8 @@ same_other_way a b = elim (is_name a b) as (λ t. is_name a b ≡ t → t ≡ is
 ] refl
 
 -- a name that was not listed is listed once
-asked_once_more : (names : List StateName) (name : StateName) → list_any (is_name name) names ≡ false → IsDistinct is_name names → IsDistinct is_name (names ++ name ∷ [])
+asked_once_more : (names : List StateName) (name : StateName) → list_any (is_name name) names ≡ false → IsDistinct is_name names
+    → IsDistinct is_name (names ++ name ∷ [])
 asked_once_more names name new once =
     IsDistinct-IsPermutation is_name same_other_way (name ∷ names) (names ++ name ∷ []) (IsPermutation-sym _ _ (IsPermutation-to_front names name))
     (IsDistinct-cons is_name name names (none_passes (is_name name) names new) once)
@@ -88,7 +90,8 @@ module _ (q : Queue) (name : StateName) (free : mark_fault q name ≡ None) wher
   pub has_number : q.next < most_numbers
   has_number = through (not (is_some (maps.get q.marks name)) && nat_le q.limit (pending q)) (nat_le 4294967295 q.next) refl free
     where
-      through : (a b : Bool) → nat_le 4294967295 q.next ≡ b → (if a then Some QueueFull else (if b then Some CountFull else None)) ≡ None → q.next < most_numbers
+      through : (a b : Bool) → nat_le 4294967295 q.next ≡ b → (if a then Some QueueFull else (if b then Some CountFull else None)) ≡ None
+          → q.next < most_numbers
       through true b e n = absurd (some_is_none QueueFull n)
       through false true e n = absurd (some_is_none CountFull n)
       through false false e n =
@@ -110,7 +113,9 @@ module _ (q : Queue) (is : IsQueue q) where
 
     pub unmarked_kept : IsQueue (unmarked q name)
     unmarked_kept = record {
-      few = rw (len-remove names_total q.marks name) (let h = less (maps.contains_key q.marks name) (maps.len q.marks) (length q.requests + length q.statuses + length q.clears) q.limit (omega (arith, is.few)) in omega (arith, h));
+      few = rw (len-remove names_total q.marks name)
+          (let h = less (maps.contains_key q.marks name) (maps.len q.marks)
+          (length q.requests + length q.statuses + length q.clears) q.limit (omega (arith, is.few)) in omega (arith, h));
       filed = λ n m at. is.filed n m (kept n m at);
       below = λ n m at. is.below n m (kept n m at);
       one_number = λ n o m k at there same. is.one_number n o m k (kept n m at) (kept o k there) same;
@@ -124,10 +129,13 @@ module _ (q : Queue) (is : IsQueue q) where
     room at = through (nat_le q.limit (pending q)) refl
       where
         through : (b : Bool) → nat_le q.limit (pending q) ≡ b → pending q < q.limit
-        through true e = absurd (some_is_none QueueFull (sym (ap (λ (o : Option Mark). if not (is_some o) && nat_le q.limit (pending q) then Some QueueFull else None) at ∙ ap (λ b. if b then Some QueueFull else None) e) ∙ free))
+        through true e = absurd (some_is_none QueueFull
+            (sym (ap (λ (o : Option Mark). if not (is_some o) && nat_le q.limit (pending q) then Some QueueFull else None) at
+            ∙ ap (λ b. if b then Some QueueFull else None) e) ∙ free))
         through false e = grind (arith, nat_tests)
 
-    few_more : (o : Option Mark) → maps.get q.marks name ≡ o → cond (is_some o) (maps.len q.marks) (maps.len q.marks + 1) + length q.requests + length q.statuses + length q.clears ≤ q.limit
+    few_more : (o : Option Mark) → maps.get q.marks name ≡ o
+        → cond (is_some o) (maps.len q.marks) (maps.len q.marks + 1) + length q.requests + length q.statuses + length q.clears ≤ q.limit
     few_more None at = let r = room at in omega (arith, r)
     few_more (Some m) at = is.few
 
@@ -136,18 +144,25 @@ module _ (q : Queue) (is : IsQueue q) where
         let cases = get-set_at_cases names_total names_exact q.marks name (Some (record { kind = kind; number = q.next; name = name })) in
         record {
           few = rw (len-insert names_total q.marks name (record { kind = kind; number = q.next; name = name })) (few_more (maps.get q.marks name) refl);
-          filed = λ n m at. elim (cases n m at) [ inl h ↦ (let same : record { kind = kind; number = q.next; name = name } ≡ m = cc in ap (λ (g : Mark). g.name) (sym same)) ∙ sym h.0 | inr old ↦ is.filed n m old.1 ];
+          filed = λ n m at. elim (cases n m at) [
+            | inl h ↦ (let same : record { kind = kind; number = q.next; name = name } ≡ m = cc
+                in ap (λ (g : Mark). g.name) (sym same)) ∙ sym h.0
+            | inr old ↦ is.filed n m old.1
+          ];
           below = λ n m at. elim (cases n m at) [
-            | inl h ↦ let same : record { kind = kind; number = q.next; name = name } ≡ m = cc in let number = ap (λ (g : Mark). g.number) same in omega (arith, number)
+            | inl h ↦ let same : record { kind = kind; number = q.next; name = name } ≡ m = cc in let number =
+                ap (λ (g : Mark). g.number) same in omega (arith, number)
             | inr old ↦ omega (arith, is.below n m old.1)
           ];
           one_number = λ n o m k at there same. elim (cases n m at) [
             | inl h ↦ elim (cases o k there) [
               | inl j ↦ h.0 ∙ sym j.0
-              | inr old ↦ absurd (let is_new : record { kind = kind; number = q.next; name = name } ≡ m = cc in let a = ap (λ (g : Mark). g.number) is_new in omega (arith, is.below o k old.1, same, a))
+              | inr old ↦ absurd (let is_new : record { kind = kind; number = q.next; name = name } ≡ m = cc
+                  in let a = ap (λ (g : Mark). g.number) is_new in omega (arith, is.below o k old.1, same, a))
             ]
             | inr old ↦ elim (cases o k there) [
-              | inl j ↦ absurd (let is_new : record { kind = kind; number = q.next; name = name } ≡ k = cc in let a = ap (λ (g : Mark). g.number) is_new in omega (arith, is.below n m old.1, same, a))
+              | inl j ↦ absurd (let is_new : record { kind = kind; number = q.next; name = name } ≡ k = cc
+                  in let a = ap (λ (g : Mark). g.number) is_new in omega (arith, is.below n m old.1, same, a))
               | inr older ↦ is.one_number n o m k old.1 older.1 same
             ]
           ];

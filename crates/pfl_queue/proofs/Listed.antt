@@ -40,15 +40,18 @@ same_front {X} n xs ys us vs here there =
 front_twice : {X : Type 0} (f : X → Entry) (n : ℕ) (xs : List X) → take n (map f (take n xs)) ≡ take n (map f xs)
 front_twice f n xs = take-map f n (take n xs) ∙ (ap (map f) (take-take n n xs (omega arith)) ∙ sym (take-map f n xs))
 
-pub first_in_turn : (n : ℕ) (ms : List Mark) (q : Queue) → ms ≡ in_order mark_before (maps.values q.marks) → take n (first_of_each n (take n ms) q) ≡ take n (in_turn q)
+pub first_in_turn : (n : ℕ) (ms : List Mark) (q : Queue) → ms ≡ in_order mark_before (maps.values q.marks)
+    → take n (first_of_each n (take n ms) q) ≡ take n (in_turn q)
 first_in_turn n ms q turn =
-    same_front n _ _ _ _ (same_front n _ _ _ _ (same_front n _ _ _ _ (front_twice entry_of n ms) (front_twice Request n q.requests)) (front_twice Status n q.statuses)) (front_twice clear_of n q.clears)
+    same_front n _ _ _ _ (same_front n _ _ _ _ (same_front n _ _ _ _ (front_twice entry_of n ms) (front_twice Request n q.requests))
+    (front_twice Status n q.statuses)) (front_twice clear_of n q.clears)
     ∙ ap (λ (xs : List Mark). take n (behind_marks xs q)) turn
 
 -- ---- a frame's entries are taken out one by one
 
 -- one entry more
-pub entries_next : (q now next : Queue) (es : List Entry) (i : ℕ) (d : Entry) → i < length es → now ≡ left_by q (take i es) → next ≡ gone now (get_or es i d) → next ≡ left_by q (take (i + 1) es)
+pub entries_next : (q now next : Queue) (es : List Entry) (i : ℕ) (d : Entry) → i < length es → now ≡ left_by q (take i es)
+    → next ≡ gone now (get_or es i d) → next ≡ left_by q (take (i + 1) es)
 entries_next q now next es i d within is more =
     rw (add-one, take-suc es i d within)
     (more ∙ (ap (λ (p : Queue). gone p (get_or es i d)) is ∙ sym (left_by-append (take i es) (get_or es i d ∷ []) q)))

@@ -1,5 +1,6 @@
 -- Marks at slots: what is found stands there, and all is kept when a mark comes or goes.
-use Rattle.std.specs.Prelude.{◌≡◌, ◌≢◌, ℕ, zero, suc, ◌+◌, ◌<◌, ◌≤◌, ◌^◌, Bool, true, false, List, [], ◌∷◌, ◌++◌, length, map, get_or, Option, Some, None, IfSome, is_some, refl}
+use Rattle.std.specs.Prelude.{◌≡◌, ◌≢◌, ℕ, zero, suc, ◌+◌, ◌<◌, ◌≤◌, ◌^◌, Bool, true, false, List, [], ◌∷◌, ◌++◌, length, map, get_or, Option, Some}
+use Rattle.std.specs.Prelude.{None, IfSome, is_some, refl}
 use Rattle.std.specs.Option.{option_map}
 use Rattle.std.specs.declared.cmp.Ordering.{Ordering}
 use Rattle.std.specs.Ordering.{eq_by_cmp}
@@ -10,19 +11,23 @@ use Rattle.pfl_base.specs.Names.{name_cmp}
 use Rattle.pfl_base.proofs.ForCallers.{names_total, names_exact}
 use Rattle.pfl_edits.specs.Maps as maps
 use Rattle.pfl_edits.specs.Maps.{Map, set_at}
-use Rattle.pfl_edits.proofs.ForCallers.{len-insert, get-set_at_same, get-set_at_other, set_at-set_at, set_at-same, row_at, Distinct, get-map_of, len-map_of, map_of-between, map_of-without, some_is_none}
+use Rattle.pfl_edits.proofs.ForCallers.{len-insert, get-set_at_same, get-set_at_other, set_at-set_at, set_at-same, row_at, Distinct, get-map_of}
+use Rattle.pfl_edits.proofs.ForCallers.{len-map_of, map_of-between, map_of-without, some_is_none}
 use Rattle.pfl_edits.specs.Rows.{map_of}
 use Rattle.pfl_containers.specs.OrderEntries.{EntryList as TurnList}
 use Rattle.pfl_containers.specs.Lists.{AreLists, Link, link, Lists, Place, links_of, with_links, count_of}
 use Rattle.pfl_containers.specs.SlotIndexes.{IsIndex, IsTagged, HasNone, key_of}
 use Rattle.pfl_containers.specs.Slots.{Tags, HasTag}
-use Rattle.pfl_containers.proofs.ForCallers.{Place-new, length-with_links, key_of_row, found-stands, stands-found, others-none, index-new, gained, lost, tagged-gained, tagged-has, tagged-lost, tagged-new, tagged-stands}
+use Rattle.pfl_containers.proofs.ForCallers.{Place-new, length-with_links, key_of_row, found-stands, stands-found, others-none, index-new, gained}
+use Rattle.pfl_containers.proofs.ForCallers.{lost, tagged-gained, tagged-has, tagged-lost, tagged-new, tagged-stands}
 use Rattle.pfl_queue.specs.declared.Kind.{Kind}
 use Rattle.pfl_queue.specs.declared.Kind.TheVariants.{Insert, InsertAck, Update, UpdateShort, Delete}
 use Rattle.pfl_queue.specs.declared.Mark.{Mark}
 use Rattle.pfl_queue.specs.declared.marks.Turn.{Turn}
 use Rattle.pfl_queue.specs.inner.Rising.{IsRising, HasNone as NoNumber, InsertsInOrder, OrderedGap}
-use Rattle.pfl_queue.specs.inner.Marked.{slot_of_link, mark_of_link, mark_name, mark_number, name_tag, turn_of, turn_cmp, turn_total, turn_exact, all_links, listed, marks_of, slot_named, AreOfKind, AreTagged, AreInTurn, AreOrdered, AreMarked, IsNew, AreApart}
+use Rattle.pfl_queue.specs.inner.Marked.{slot_of_link, mark_of_link, mark_name, mark_number, name_tag, turn_of, turn_cmp, turn_total, turn_exact}
+use Rattle.pfl_queue.specs.inner.Marked.{all_links, listed, marks_of, slot_named, AreOfKind, AreTagged, AreInTurn, AreOrdered, AreMarked, IsNew}
+use Rattle.pfl_queue.specs.inner.Marked.{AreApart}
 use Rattle.pfl_queue.specs.Taking.{kind_place}
 use Rattle.pfl_queue.proofs.Gaps.{IsRising-without, gap-ordered}
 use Rattle.pfl_queue.proofs.Joined.{count-all, around, place, each_list}
@@ -33,14 +38,16 @@ mapped : {X Y : Type 0} (f : X → Y) (b : Bool) (x : X) (o : Option X) → cond
 mapped f true x o = refl
 mapped f false x o = refl
 
-row_at-map : {X Y K : Type 0} (R : K → K → Ordering) (f : X → Y) (key : Y → K) (xs : List X) (q : K) → row_at R key (map f xs) q ≡ option_map f (row_at R (λ x. key (f x)) xs q)
+row_at-map : {X Y K : Type 0} (R : K → K → Ordering) (f : X → Y) (key : Y → K) (xs : List X) (q : K)
+    → row_at R key (map f xs) q ≡ option_map f (row_at R (λ x. key (f x)) xs q)
 row_at-map R f key [] q = refl
 row_at-map R f key (x ∷ xs) q =
     ap (cond (eq_by_cmp R q (key (f x))) (Some (f x))) (row_at-map R f key xs q)
     ∙ mapped f (eq_by_cmp R q (key (f x))) x (row_at R (λ y. key (f y)) xs q)
 
 -- what stands under a name
-pub get-marks_of : (lists : List (List (Link Mark))) (q : StateName) → maps.get (marks_of lists) q ≡ option_map mark_of_link (row_at name_cmp (key_of mark_name) (all_links lists) q)
+pub get-marks_of : (lists : List (List (Link Mark))) (q : StateName)
+    → maps.get (marks_of lists) q ≡ option_map mark_of_link (row_at name_cmp (key_of mark_name) (all_links lists) q)
 get-marks_of lists q = get-map_of names_total names_exact mark_name (listed lists) q ∙ row_at-map name_cmp mark_of_link mark_name (all_links lists) q
 
 -- a name that no link has
@@ -60,7 +67,13 @@ apart-marks (x ∷ links) d = (no-mark links x.value.name d.0, apart-marks links
 
 -- the marks stand in turn
 pub marked-turn : (c : Lists Mark) (names : Tags) (order : TurnList Turn ℕ) → AreMarked c names order → AreInTurn c
-marked-turn c names order kept = record { five = kept.ordered.five; kinds = kept.ordered.kinds; rising = kept.ordered.rising; apart = apart-marks (all_links c.lists) kept.tagged.apart }
+marked-turn c names order kept =
+    record {
+      five = kept.ordered.five;
+      kinds = kept.ordered.kinds;
+      rising = kept.ordered.rising;
+      apart = apart-marks (all_links c.lists) kept.tagged.apart;
+    }
 
 -- a mark more, and one less
 marks-with : (f : List (Link Mark)) (x : Link Mark) (b : List (Link Mark)) → row_at name_cmp mark_name (map mark_of_link (f ++ b)) x.value.name ≡ None
@@ -93,7 +106,8 @@ module _ (c : Lists Mark) where
   pub name-place : (name : StateName) (slot : ℕ) → Some slot ≡ slot_named (all_links c.lists) name → NamePlace c slot name
   name-place name slot is = through (row_at name_cmp (key_of mark_name) (all_links c.lists) name) refl is
     where
-      through : (at : Option (Link Mark)) → row_at name_cmp (key_of mark_name) (all_links c.lists) name ≡ at → Some slot ≡ option_map slot_of_link at → NamePlace c slot name
+      through : (at : Option (Link Mark)) → row_at name_cmp (key_of mark_name) (all_links c.lists) name ≡ at
+          → Some slot ≡ option_map slot_of_link at → NamePlace c slot name
       through None e found = absurd (some_is_none slot found)
       through (Some l) e found =
           let same : l.slot ≡ slot = cc in
@@ -153,32 +167,40 @@ kind-without : (k : ℕ) (f : List (Link Mark)) (x : Link Mark) (b : List (Link 
 kind-without k [] x b all = all.1
 kind-without k (y ∷ f) x b all = (all.0, kind-without k f x b all.1)
 
-kind-with : (k : ℕ) (f : List (Link Mark)) (x : Link Mark) (b : List (Link Mark)) → kind_place x.value.kind ≡ k → AreOfKind k (f ++ b) → AreOfKind k (f ++ x ∷ b)
+kind-with : (k : ℕ) (f : List (Link Mark)) (x : Link Mark) (b : List (Link Mark)) → kind_place x.value.kind ≡ k → AreOfKind k (f ++ b)
+    → AreOfKind k (f ++ x ∷ b)
 kind-with k [] x b is all = (is, all)
 kind-with k (y ∷ f) x b is all = (all.0, kind-with k f x b is all.1)
 
-module _ (c new : Lists Mark) (names : Tags) (order : TurnList Turn ℕ) (kept : AreMarked c names order) (name : StateName) (slot : ℕ) (p : NamePlace c slot name)
+module _ (c new : Lists Mark) (names : Tags) (order : TurnList Turn ℕ) (kept : AreMarked c names order) (name : StateName) (slot : ℕ)
+    (p : NamePlace c slot name)
     (gone : new ≡ with_links c p.at.list (p.at.front ++ p.at.back)) where
   abbrev gone_link : Link Mark
   gone_link = link slot p.at.value
 
   pub marked-less : (now : Tags) → now.tags ≡ maps.remove names.tags slot → now.limit ≡ names.limit
-      → (turns : TurnList Turn ℕ) (turn : Turn) → turn ≡ turn_of p.at.value → maps.from_sorted {R = turn_cmp} turns.list ≡ maps.remove (maps.from_sorted {R = turn_cmp} order.list) turn → turns.limit ≡ order.limit
+      → (turns : TurnList Turn ℕ) (turn : Turn) → turn ≡ turn_of p.at.value
+      → maps.from_sorted {R = turn_cmp} turns.list ≡ maps.remove (maps.from_sorted {R = turn_cmp} order.list) turn → turns.limit ≡ order.limit
       → AreMarked new now turns
   marked-less now fewer limit turns turn its less_turns turns_limit =
       let at = p.at in
       let a = around c.lists at.list at.front at.back at.within in
       let tagged = subst (λ (ls : List (Link Mark)). IsTagged name_cmp mark_name name_tag ls names.tags) (a.was (gone_link ∷ []) at.split) kept.tagged in
       let less = tagged-lost names_total names_exact mark_name name_tag a.before a.behind slot at.value names.tags now.tags fewer tagged in
-      let in_order = subst (λ (ls : List (Link Mark)). IsIndex turn_cmp turn_of ls (maps.from_sorted order.list)) (a.was (gone_link ∷ []) at.split) kept.ordered.turns in
-      let in_less = lost turn_total turn_exact turn_of a.before a.behind slot at.value (maps.from_sorted order.list) (maps.from_sorted turns.list) turn its less_turns in_order in
+      let in_order = subst (λ (ls : List (Link Mark)). IsIndex turn_cmp turn_of ls (maps.from_sorted order.list))
+      (a.was (gone_link ∷ []) at.split) kept.ordered.turns in
+      let in_less = lost turn_total turn_exact turn_of a.before a.behind slot at.value (maps.from_sorted order.list)
+      (maps.from_sorted turns.list) turn its less_turns in_order in
       let were = kept.ordered in
       let there : at.list < 5 = omega (arith, at.within, were.five) in
       subst (λ (d : Lists Mark). AreMarked d now turns) (sym gone) (record {
         ordered = record {
           five = length-with_links c at.list (at.front ++ at.back) ∙ were.five;
-          kinds = each_list AreOfKind 5 c at.list (at.front ++ at.back) at.within (kind-without at.list at.front gone_link at.back (subst (AreOfKind at.list) at.split (were.kinds at.list there))) were.kinds;
-          rising = each_list (λ k ls. IsRising mark_number ls) 5 c at.list (at.front ++ at.back) at.within (IsRising-without mark_number at.front gone_link at.back (subst (IsRising mark_number) at.split (were.rising at.list there))) were.rising;
+          kinds = each_list AreOfKind 5 c at.list (at.front ++ at.back) at.within
+              (kind-without at.list at.front gone_link at.back (subst (AreOfKind at.list) at.split (were.kinds at.list there))) were.kinds;
+          rising = each_list (λ k ls. IsRising mark_number ls) 5 c at.list (at.front ++ at.back) at.within
+              (IsRising-without mark_number at.front gone_link at.back (subst (IsRising mark_number) at.split (were.rising at.list there)))
+              were.rising;
           turns = subst (λ (ls : List (Link Mark)). IsIndex turn_cmp turn_of ls (maps.from_sorted turns.list)) (sym (a.now [])) in_less;
         };
         tagged = subst (λ (ls : List (Link Mark)). IsTagged name_cmp mark_name name_tag ls now.tags) (sym (a.now [])) less;
@@ -204,16 +226,19 @@ module _ (c new : Lists Mark) (names : Tags) (order : TurnList Turn ℕ) (kept :
 abbrev pub empty_five : (V : Type 0) → List (List (Link V))
 empty_five V = [] ∷ [] ∷ [] ∷ [] ∷ [] ∷ []
 
-pub marked-none : (limit : ℕ) (c : Lists Mark) (names : Tags) (order : TurnList Turn ℕ) → limit ≤ 2 ^ 30 → c.limit ≡ limit → c.lists ≡ empty_five Mark → names.limit ≡ limit → names.tags ≡ maps.empty → order.limit ≡ limit → order.list ≡ []
+pub marked-none : (limit : ℕ) (c : Lists Mark) (names : Tags) (order : TurnList Turn ℕ) → limit ≤ 2 ^ 30 → c.limit ≡ limit
+    → c.lists ≡ empty_five Mark → names.limit ≡ limit → names.tags ≡ maps.empty → order.limit ≡ limit → order.list ≡ []
     → AreMarked c names order
 marked-none limit c names order bound same lists room none order_room no_turn = record {
   ordered = record {
     five = ap length lists;
     kinds = λ k h. subst (AreOfKind k) (sym (each k)) tt;
     rising = λ k h. subst (IsRising mark_number) (sym (each k)) tt;
-    turns = subst (λ (ls : List (List (Link Mark))). IsIndex turn_cmp turn_of (all_links ls) (maps.from_sorted order.list)) (sym lists) (index-new turn_total turn_exact turn_of order.list no_turn);
+    turns = subst (λ (ls : List (List (Link Mark))). IsIndex turn_cmp turn_of (all_links ls) (maps.from_sorted order.list)) (sym lists)
+        (index-new turn_total turn_exact turn_of order.list no_turn);
   };
-  tagged = subst (λ (ls : List (List (Link Mark))). AreTagged ls names.tags) (sym lists) (tagged-new names_total names_exact mark_name name_tag names.tags none);
+  tagged = subst (λ (ls : List (List (Link Mark))). AreTagged ls names.tags) (sym lists)
+      (tagged-new names_total names_exact mark_name name_tag names.tags none);
   room = room ∙ sym same;
   order_room = order_room ∙ sym same;
   bound = omega (arith, same, bound);
@@ -234,13 +259,16 @@ marked-none limit c names order bound same lists room none order_room no_turn = 
 
 module _ (c : Lists Mark) (names : Tags) (order : TurnList Turn ℕ) (kept : AreMarked c names order) where
   -- a link's mark stands under its name
-  stands-marked : (f : List (Link Mark)) (x : Link Mark) (b : List (Link Mark)) → all_links c.lists ≡ f ++ x ∷ b → maps.get (marks_of c.lists) x.value.name ≡ Some x.value
+  stands-marked : (f : List (Link Mark)) (x : Link Mark) (b : List (Link Mark)) → all_links c.lists ≡ f ++ x ∷ b
+      → maps.get (marks_of c.lists) x.value.name ≡ Some x.value
   stands-marked f x b was =
       let apart = subst (Distinct name_cmp (key_of mark_name)) was kept.tagged.apart in
-      let found = ap (λ (ls : List (Link Mark)). row_at name_cmp (key_of mark_name) ls x.value.name) was ∙ stands-found names_total names_exact mark_name f x b apart in
+      let found = ap (λ (ls : List (Link Mark)). row_at name_cmp (key_of mark_name) ls x.value.name) was
+      ∙ stands-found names_total names_exact mark_name f x b apart in
       get-marks_of c.lists x.value.name ∙ ap (option_map mark_of_link) found
 
-  none_numbered : (n : ℕ) (links : List (Link Mark)) → ((f : List (Link Mark)) (x : Link Mark) (b : List (Link Mark)) → links ≡ f ++ x ∷ b → x.value.number ≢ n) → NoNumber mark_number n links
+  none_numbered : (n : ℕ) (links : List (Link Mark))
+      → ((f : List (Link Mark)) (x : Link Mark) (b : List (Link Mark)) → links ≡ f ++ x ∷ b → x.value.number ≢ n) → NoNumber mark_number n links
   none_numbered n [] out = tt
   none_numbered n (x ∷ links) out = (
     out [] x links refl,
@@ -266,7 +294,8 @@ module _ (c : Lists Mark) (names : Tags) (order : TurnList Turn ℕ) (kept : Are
 
 -- ---- a mark comes
 
-module _ (c new : Lists Mark) (names : Tags) (order : TurnList Turn ℕ) (kept : AreMarked c names order) (mark : Mark) (k slot : ℕ) (its : k ≡ kind_place mark.kind) (here : k < length c.lists)
+module _ (c new : Lists Mark) (names : Tags) (order : TurnList Turn ℕ) (kept : AreMarked c names order) (mark : Mark) (k slot : ℕ)
+    (its : k ≡ kind_place mark.kind) (here : k < length c.lists)
     (put : InsertsInOrder mark_number (links_of c k) (links_of new k) (link slot mark)) (come : new ≡ with_links c k (links_of new k))
     (off : maps.get (marks_of c.lists) mark.name ≡ None) where
   come_to : new ≡ with_links c k (put.front ++ link slot mark ∷ put.back)
@@ -274,7 +303,9 @@ module _ (c new : Lists Mark) (names : Tags) (order : TurnList Turn ℕ) (kept :
 
   pub marked-more : IsNew (marks_of c.lists) mark.number
       → (Place c slot → ⊥) → (now : Tags) (t : ℕ) → t ≡ name_tag mark.name → now.tags ≡ maps.insert names.tags slot t → now.limit ≡ names.limit
-      → (turns : TurnList Turn ℕ) (turn : Turn) → turn ≡ turn_of mark → maps.from_sorted {R = turn_cmp} turns.list ≡ maps.insert (maps.from_sorted {R = turn_cmp} order.list) turn slot → turns.limit ≡ order.limit
+      → (turns : TurnList Turn ℕ) (turn : Turn) → turn ≡ turn_of mark
+      → maps.from_sorted {R = turn_cmp} turns.list ≡ maps.insert (maps.from_sorted {R = turn_cmp} order.list) turn slot
+      → turns.limit ≡ order.limit
       → AreMarked new now turns
   marked-more new_number fresh now t the_tag more limit turns turn the_turn more_turns turns_limit =
       let a = around c.lists k put.front put.back here in
@@ -282,16 +313,20 @@ module _ (c new : Lists Mark) (names : Tags) (order : TurnList Turn ℕ) (kept :
       let tagged = subst (λ (ls : List (Link Mark)). IsTagged name_cmp mark_name name_tag ls names.tags) was kept.tagged in
       let none = subst (λ (ls : List (Link Mark)). HasNone name_cmp mark_name ls mark.name) was (no-link c.lists mark.name off) in
       let untagged = fresh-untagged c names order kept slot fresh in
-      let with_it = tagged-gained names_total names_exact mark_name name_tag a.before a.behind slot mark names.tags now.tags t the_tag more untagged tagged none in
+      let with_it = tagged-gained names_total names_exact mark_name name_tag a.before a.behind slot mark names.tags now.tags t the_tag more
+      untagged tagged none in
       let in_order = subst (λ (ls : List (Link Mark)). IsIndex turn_cmp turn_of ls (maps.from_sorted order.list)) was kept.ordered.turns in
       let no_turn = subst (λ (ls : List (Link Mark)). HasNone turn_cmp turn_of ls (turn_of mark)) was (no-turn c names order kept mark new_number) in
-      let with_turn = gained turn_total turn_exact turn_of a.before a.behind slot mark (maps.from_sorted order.list) (maps.from_sorted turns.list) turn the_turn more_turns in_order no_turn in
+      let with_turn = gained turn_total turn_exact turn_of a.before a.behind slot mark (maps.from_sorted order.list)
+      (maps.from_sorted turns.list) turn the_turn more_turns in_order no_turn in
       let links = put.front ++ link slot mark ∷ put.back in
       let were = kept.ordered in
       subst (λ (d : Lists Mark). AreMarked d now turns) (sym come_to) (record {
         ordered = record {
           five = length-with_links c k links ∙ were.five;
-          kinds = each_list AreOfKind 5 c k links here (kind-with k put.front (link slot mark) put.back (sym its) (subst (AreOfKind k) put.was (were.kinds k (omega (arith, here, were.five))))) were.kinds;
+          kinds = each_list AreOfKind 5 c k links here
+              (kind-with k put.front (link slot mark) put.back (sym its)
+              (subst (AreOfKind k) put.was (were.kinds k (omega (arith, here, were.five))))) were.kinds;
           rising = each_list (λ j ls. IsRising mark_number ls) 5 c k links here (subst (IsRising mark_number) put.is put.rising) were.rising;
           turns = subst (λ (ls : List (Link Mark)). IsIndex turn_cmp turn_of ls (maps.from_sorted turns.list)) (sym (a.now (link slot mark ∷ []))) with_turn;
         };
@@ -323,18 +358,23 @@ kind-within c order are kind k is = omega (arith, is, at_most_four kind, are.fiv
     at_most_four Delete = omega arith
 
 -- a mark that was put where its turn belongs
-pub put-turn : (c new : Lists Mark) (order : TurnList Turn ℕ) → AreOrdered c order → (mark : Mark) (t : Turn) → t ≡ turn_of mark → (behind : Option ℕ) (gap : OrderedGap mark_number t.number c t.kind behind) (slot : ℕ)
+pub put-turn : (c new : Lists Mark) (order : TurnList Turn ℕ) → AreOrdered c order → (mark : Mark) (t : Turn) → t ≡ turn_of mark
+    → (behind : Option ℕ) (gap : OrderedGap mark_number t.number c t.kind behind) (slot : ℕ)
     → new ≡ with_links c t.kind (gap.front ++ link slot mark ∷ gap.back)
-    → InsertsInOrder mark_number (links_of c (kind_place mark.kind)) (links_of new (kind_place mark.kind)) (link slot mark) × (new ≡ with_links c (kind_place mark.kind) (links_of new (kind_place mark.kind)))
+    → InsertsInOrder mark_number (links_of c (kind_place mark.kind)) (links_of new (kind_place mark.kind)) (link slot mark)
+    × (new ≡ with_links c (kind_place mark.kind) (links_of new (kind_place mark.kind)))
 put-turn c new order are mark t is behind gap slot put =
     let here = kind-within c order are mark.kind t.kind (ap (λ (u : Turn). u.kind) is) in
     let rising = are.rising t.kind (omega (arith, here, are.five)) in
     let done = gap-ordered mark_number t.number c new t.kind behind gap here rising (link slot mark) (sym (ap (λ (u : Turn). u.number) is)) put in
-    subst (λ (u : Turn). InsertsInOrder mark_number (links_of c u.kind) (links_of new u.kind) (link slot mark) × (new ≡ with_links c u.kind (links_of new u.kind))) is done
+    subst (λ (u : Turn). InsertsInOrder mark_number (links_of c u.kind) (links_of new u.kind) (link slot mark)
+    × (new ≡ with_links c u.kind (links_of new u.kind))) is done
 
 -- its slot is below the limit
-pub put-below : (c new : Lists Mark) (list : ℕ) (front back : List (Link Mark)) (slot : ℕ) (mark : Mark) → AreLists new → list < length c.lists → new ≡ with_links c list (front ++ link slot mark ∷ back) → slot < new.limit
-put-below c new list front back slot mark are within put = are.below slot (subst (λ (d : Lists Mark). Place d slot) (sym put) (Place-new c list front back slot mark within))
+pub put-below : (c new : Lists Mark) (list : ℕ) (front back : List (Link Mark)) (slot : ℕ) (mark : Mark) → AreLists new
+    → list < length c.lists → new ≡ with_links c list (front ++ link slot mark ∷ back) → slot < new.limit
+put-below c new list front back slot mark are within put =
+    are.below slot (subst (λ (d : Lists Mark). Place d slot) (sym put) (Place-new c list front back slot mark within))
 
 -- ---- what is set under a name
 
@@ -343,14 +383,16 @@ module _ (m : Map name_cmp Mark) (name : StateName) (mark : Mark) where
   pub room-set : (limit : ℕ) → maps.len (set_at m name (Some mark)) ≤ limit → maps.len (maps.remove m name) < limit
   room-set limit few =
       let off = get-set_at_same names_total names_exact m name None in
-      let one = len-insert names_total (maps.remove m name) name mark ∙ ap (λ (o : Option Mark). cond (is_some o) (maps.len (maps.remove m name)) (maps.len (maps.remove m name) + 1)) off in
+      let one = len-insert names_total (maps.remove m name) name mark
+      ∙ ap (λ (o : Option Mark). cond (is_some o) (maps.len (maps.remove m name)) (maps.len (maps.remove m name) + 1)) off in
       omega (arith, few, ap maps.len (set_at-set_at names_total names_exact m name None (Some mark)), one)
 
   -- and its number is new then
   pub new-set : AreApart (set_at m name (Some mark)) → IsNew (maps.remove m name) mark.number
   new-set apart n k is same =
       let other : n ≢ name = λ e. some_is_none k (sym is ∙ (ap (maps.get (maps.remove m name)) e ∙ get-set_at_same names_total names_exact m name None)) in
-      let there = get-set_at_other names_total names_exact m name (Some mark) n other ∙ (sym (get-set_at_other names_total names_exact m name None n other) ∙ is) in
+      let there = get-set_at_other names_total names_exact m name (Some mark) n other
+      ∙ (sym (get-set_at_other names_total names_exact m name None n other) ∙ is) in
       other (apart n name k mark there (get-set_at_same names_total names_exact m name (Some mark)) same)
 
 -- a mark may be put where its name was taken off, which sets it
@@ -360,7 +402,8 @@ pub record MaySet (m less : Map name_cmp Mark) (name : StateName) (at : Option M
   pub new : IsNew less mark.number
   pub set : maps.insert less mark.name mark ≡ set_at m name at
 
-pub set-named : (m : Map name_cmp Mark) (name : StateName) (at : Option Mark) (mark : Mark) → at ≡ Some mark → IfSome at (λ k. k.name ≡ name) → (limit : ℕ) → maps.len (set_at m name at) ≤ limit → AreApart (set_at m name at)
+pub set-named : (m : Map name_cmp Mark) (name : StateName) (at : Option Mark) (mark : Mark) → at ≡ Some mark
+    → IfSome at (λ k. k.name ≡ name) → (limit : ℕ) → maps.len (set_at m name at) ≤ limit → AreApart (set_at m name at)
     → (less : Map name_cmp Mark) → less ≡ maps.remove m name → (now : ℕ) → now ≡ limit → MaySet m less name at mark now
 set-named m name at mark is keyed limit few apart less gone now same =
     let named : mark.name ≡ name = subst (λ (o : Option Mark). IfSome o (λ k. k.name ≡ name)) is keyed in
@@ -369,7 +412,8 @@ set-named m name at mark is keyed limit few apart less gone now same =
     record {
       room = omega (arith, ap maps.len gone, room, same);
       off = ap (maps.get less) named ∙ off;
-      new = subst (λ (l : Map name_cmp Mark). IsNew l mark.number) (sym gone) (new-set m name mark (subst (λ (o : Option Mark). AreApart (set_at m name o)) is apart));
+      new = subst (λ (l : Map name_cmp Mark). IsNew l mark.number) (sym gone)
+          (new-set m name mark (subst (λ (o : Option Mark). AreApart (set_at m name o)) is apart));
       set = ap (λ (n : StateName). maps.insert less n mark) named
           ∙ (ap (λ (l : Map name_cmp Mark). maps.insert l name mark) gone
           ∙ (set_at-set_at names_total names_exact m name None (Some mark) ∙ ap (set_at m name) (sym is)));

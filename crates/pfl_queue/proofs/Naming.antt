@@ -24,7 +24,8 @@ module _ (c : Lists Mark) (tags : Map nat_cmp ℕ) (tagged : AreTagged c.lists t
       (place c slot s.0 s.1).at
 
   -- a search among the slots of a name's tag finds the slot of the mark that has the name
-  pub slot-found : (name : StateName) (t : ℕ) (found : Option ℕ) → t ≡ name_tag name → FindsBy (IsNamed c name) tags t found → found ≡ slot_named (all_links c.lists) name
+  pub slot-found : (name : StateName) (t : ℕ) (found : Option ℕ) → t ≡ name_tag name → FindsBy (IsNamed c name) tags t found
+      → found ≡ slot_named (all_links c.lists) name
   slot-found name t found is finds =
       tagged-found names_total names_exact mark_name name_tag (IsNamed c name) (all_links c.lists) tags name t found tagged is finds
       (λ slot v s its. let p = place c slot v s in sym (ap mark_name p.is) ∙ (its p.at).0 refl)

@@ -88,9 +88,19 @@ module _ {X : Type 0} (before : X → X → Bool) where
 
     -- lists that rise and have the same elements are one
     module _ (P : X → Type 0) (exact : (x y : X) → P x → P y → before x y ≡ false → before y x ≡ false → x ≡ y) where
-      not_before : (x y : X) (xs ys : List X) → AllByRecursion (λ z. before z y ≡ false) ys → sum_by (count y) (x ∷ xs) ≡ sum_by (count y) (y ∷ ys) → before x y ≡ false
+      not_before : (x y : X) (xs ys : List X) → AllByRecursion (λ z. before z y ≡ false) ys
+          → sum_by (count y) (x ∷ xs) ≡ sum_by (count y) (y ∷ ys) → before x y ≡ false
       not_before x y xs ys all sums = elim (before x y) as (λ b. before x y ≡ b → b ≡ false) [
-        | true ↦ λ is. absurd (omega (arith, sums, sum_by-cons (count y) x xs, sum_by-cons (count y) y ys, count-before x y is, count-not y y (irreflexive y), none_counted y ys all))
+        | true ↦ λ is. absurd (omega (
+          arith,
+          sums,
+          sum_by-cons (count y) x xs,
+          sum_by-cons (count y) y ys,
+          count-before x y is,
+          count-not y y
+              (irreflexive y),
+          none_counted y ys all,
+        ))
         | false ↦ λ is. refl
       ] refl
 

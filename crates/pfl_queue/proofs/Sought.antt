@@ -34,10 +34,12 @@ kind-greater : (t u : Turn) → u.kind < t.kind → turn_cmp t u ≡ Greater
 kind-greater t u high = ap (λ r. ordering_then r (nat_cmp t.number u.number)) (sym (nat_cmp_is t.kind u.kind Greater high))
 
 number-less : (t u : Turn) → t.kind ≡ u.kind → t.number < u.number → turn_cmp t u ≡ Less
-number-less t u same low = ap (λ r. ordering_then r (nat_cmp t.number u.number)) (sym (nat_cmp_is t.kind u.kind Equal same)) ∙ sym (nat_cmp_is t.number u.number Less low)
+number-less t u same low = ap (λ r. ordering_then r (nat_cmp t.number u.number)) (sym (nat_cmp_is t.kind u.kind Equal same))
+    ∙ sym (nat_cmp_is t.number u.number Less low)
 
 number-greater : (t u : Turn) → t.kind ≡ u.kind → u.number < t.number → turn_cmp t u ≡ Greater
-number-greater t u same high = ap (λ r. ordering_then r (nat_cmp t.number u.number)) (sym (nat_cmp_is t.kind u.kind Equal same)) ∙ sym (nat_cmp_is t.number u.number Greater high)
+number-greater t u same high = ap (λ r. ordering_then r (nat_cmp t.number u.number)) (sym (nat_cmp_is t.kind u.kind Equal same))
+    ∙ sym (nat_cmp_is t.number u.number Greater high)
 
 -- ---- the turns rise from link to link, through all lists
 
@@ -52,12 +54,15 @@ lower-later : (x : Link Mark) (rest : List (Link Mark)) → AreLater (kind_place
 lower-later x [] late = tt
 lower-later x (y ∷ rest) late = (kind-less (its_turn x) (its_turn y) late.0, lower-later x rest late.1)
 
-lower-first : (k : ℕ) (x : Link Mark) (links rest : List (Link Mark)) → kind_place x.value.kind ≡ k → AreOfKind k links → IsAbove mark_number x.value.number links → AreLater k rest
+lower-first : (k : ℕ) (x : Link Mark) (links rest : List (Link Mark)) → kind_place x.value.kind ≡ k → AreOfKind k links
+    → IsAbove mark_number x.value.number links → AreLater k rest
     → IsLower turn_cmp its_turn (its_turn x) (links ++ rest)
 lower-first k x [] rest its kinds above late = lower-later x rest (subst (λ n. AreLater n rest) (sym its) late)
-lower-first k x (y ∷ links) rest its kinds above late = (number-less (its_turn x) (its_turn y) (its ∙ sym kinds.0) above.0, lower-first k x links rest its kinds.1 above.1 late)
+lower-first k x (y ∷ links) rest its kinds above late =
+    (number-less (its_turn x) (its_turn y) (its ∙ sym kinds.0) above.0, lower-first k x links rest its kinds.1 above.1 late)
 
-rise-front : (k : ℕ) (links rest : List (Link Mark)) → AreOfKind k links → IsRising mark_number links → AreLater k rest → Rise turn_cmp its_turn rest → Rise turn_cmp its_turn (links ++ rest)
+rise-front : (k : ℕ) (links rest : List (Link Mark)) → AreOfKind k links → IsRising mark_number links → AreLater k rest
+    → Rise turn_cmp its_turn rest → Rise turn_cmp its_turn (links ++ rest)
 rise-front k [] rest kinds rising late r = r
 rise-front k (x ∷ links) rest kinds rising late r = (lower-first k x links rest kinds.0 kinds.1 rising.0 late, rise-front k links rest kinds.1 rising.1 late r)
 
@@ -81,14 +86,17 @@ of_kind j k (x ∷ links) rest less kinds late = (omega (arith, less, kinds.0), 
 
 all_later : (j k : ℕ) (lists : List (List (Link Mark))) → j < k → AreFrom k lists → AreLater j (all_links lists)
 all_later j k [] less are = tt
-all_later j k (links ∷ lists) less are = of_kind j k links (all_links lists) less (first_kind k links lists are) (all_later j (suc k) lists (omega (arith, less)) (rest_from k links lists are))
+all_later j k (links ∷ lists) less are =
+    of_kind j k links (all_links lists) less (first_kind k links lists are)
+    (all_later j (suc k) lists (omega (arith, less)) (rest_from k links lists are))
 
 all_rise : (k : ℕ) (lists : List (List (Link Mark))) → AreFrom k lists → Rise turn_cmp its_turn (all_links lists)
 all_rise k [] are = tt
 all_rise k (links ∷ lists) are =
     let rest = rest_from k links lists are in
     let none_more : k < suc k = omega arith in
-    rise-front k links (all_links lists) (first_kind k links lists are) (are.rising 0 (omega arith)) (all_later k (suc k) lists none_more rest) (all_rise (suc k) lists rest)
+    rise-front k links (all_links lists) (first_kind k links lists are) (are.rising 0 (omega arith))
+    (all_later k (suc k) lists none_more rest) (all_rise (suc k) lists rest)
 
 -- ---- the entries of the order
 
@@ -101,10 +109,11 @@ entries-of (l ∷ links) = ap (λ (es : List (Turn × ℕ)). entry_of l ∷ es) 
 
 find-entry : (p : Turn × ℕ → Bool) (links : List (Link Mark)) → find p (map entry_of links) ≡ option_map entry_of (find (λ l. p (entry_of l)) links)
 find-entry p [] = refl
-find-entry p (x ∷ links) = elim (p (entry_of x)) as (λ b. cond b (Some (entry_of x)) (find p (map entry_of links)) ≡ option_map entry_of (cond b (Some x) (find (λ l. p (entry_of l)) links))) [
-  | true ↦ refl
-  | false ↦ find-entry p links
-]
+find-entry p (x ∷ links) = elim (p (entry_of x)) as
+    (λ b. cond b (Some (entry_of x)) (find p (map entry_of links)) ≡ option_map entry_of (cond b (Some x) (find (λ l. p (entry_of l)) links))) [
+      | true ↦ refl
+      | false ↦ find-entry p links
+    ]
 
 -- the turn is above this one
 abbrev pub is_above : Turn → Link Mark → Bool
@@ -118,7 +127,8 @@ module _ (c : Lists Mark) (order : TurnList Turn ℕ) (are : AreOrdered c order)
   }
 
   -- the first entry above a turn is that of the first mark above it
-  find-listed : T (is_sorted turn_cmp order.list) → (t : Turn) → find (λ e. is_lt (turn_cmp t e.0)) order.list ≡ option_map entry_of (find (is_above t) (all_links c.lists))
+  find-listed : T (is_sorted turn_cmp order.list) → (t : Turn)
+      → find (λ e. is_lt (turn_cmp t e.0)) order.list ≡ option_map entry_of (find (is_above t) (all_links c.lists))
   find-listed sorted t =
       let links = all_links c.lists in
       let listed : order.list ≡ map entry_of links =
@@ -139,7 +149,8 @@ module _ (t : Turn) where
 
   skip_kind : (k : ℕ) (links rest : List (Link Mark)) → AreOfKind k links → k < t.kind → find (is_above t) (links ++ rest) ≡ find (is_above t) rest
   skip_kind k [] rest kinds less = refl
-  skip_kind k (x ∷ links) rest kinds less = skip x (links ++ rest) (kind-greater t (its_turn x) (omega (arith, less, kinds.0))) ∙ skip_kind k links rest kinds.1 less
+  skip_kind k (x ∷ links) rest kinds less = skip x (links ++ rest) (kind-greater t (its_turn x) (omega (arith, less, kinds.0)))
+      ∙ skip_kind k links rest kinds.1 less
 
   -- the first of the links that are above, or else of the rest
   abbrev FirstOf : List (Link Mark) → Option (Link Mark) → Option (Link Mark) → Type 0
@@ -155,7 +166,8 @@ module _ (t : Turn) where
     above : IsAbove mark_number t.number back
     first : FirstOf back (find (is_above t) (links ++ rest)) (find (is_above t) rest)
 
-  on-first : (x : Link Mark) (links rest back : List (Link Mark)) → turn_cmp t (its_turn x) ≡ Greater → FirstOf back (find (is_above t) (links ++ rest)) (find (is_above t) rest)
+  on-first : (x : Link Mark) (links rest back : List (Link Mark)) → turn_cmp t (its_turn x) ≡ Greater
+      → FirstOf back (find (is_above t) (links ++ rest)) (find (is_above t) rest)
       → FirstOf back (find (is_above t) (x ∷ (links ++ rest))) (find (is_above t) rest)
   on-first x links rest [] e f = skip x (links ++ rest) e ∙ f
   on-first x links rest (y ∷ back) e f = skip x (links ++ rest) e ∙ f
@@ -240,7 +252,8 @@ pub record NextIn (c : Lists Mark) (t : Turn) (slot : ℕ) : Type 0 where
   pub at : Place c slot
   pub gap : (behind : Option ℕ) → behind ≡ last_slot at.front → OrderedGap mark_number t.number c t.kind behind
 
-module _ (c : Lists Mark) (order : TurnList Turn ℕ) (are : AreOrdered c order) (sorted : T (is_sorted turn_cmp order.list)) (t : Turn) (within : t.kind < length c.lists)
+module _ (c : Lists Mark) (order : TurnList Turn ℕ) (are : AreOrdered c order) (sorted : T (is_sorted turn_cmp order.list)) (t : Turn)
+    (within : t.kind < length c.lists)
     (new : HasNone mark_number t.number (links_of c t.kind)) (result : Option (Turn × ℕ)) (is : result ≡ find (λ e. is_lt (turn_cmp t e.0)) order.list) where
   its_kind : AreOfKind t.kind (links_of c t.kind)
   its_kind = are.kinds t.kind (omega (arith, within, are.five))
@@ -263,11 +276,13 @@ module _ (c : Lists Mark) (order : TurnList Turn ℕ) (are : AreOrdered c order)
   -- the first of the links above it
   first_is : (x : Link Mark) (back : List (Link Mark)) → parts.back ≡ x ∷ back → result ≡ Some (entry_of x)
   first_is x back e =
-      let first = subst (λ (b : List (Link Mark)). FirstOf t b (find (is_above t) (links_of c t.kind ++ in_all.rest)) (find (is_above t) in_all.rest)) e parts.first in
+      let first = subst (λ (b : List (Link Mark)). FirstOf t b (find (is_above t) (links_of c t.kind ++ in_all.rest))
+      (find (is_above t) in_all.rest)) e parts.first in
       found_own ∙ ap (option_map entry_of) first
 
   first_kind_is : (x : Link Mark) (back : List (Link Mark)) → parts.back ≡ x ∷ back → kind_place x.value.kind ≡ t.kind
-  first_kind_is x back e = kind-at t.kind parts.front x back (subst (AreOfKind t.kind) (parts.split ∙ ap (λ (b : List (Link Mark)). parts.front ++ b) e) its_kind)
+  first_kind_is x back e = kind-at t.kind parts.front x back
+      (subst (AreOfKind t.kind) (parts.split ∙ ap (λ (b : List (Link Mark)). parts.front ++ b) e) its_kind)
 
   -- the first turn above is of the same list,
   pub next-in : (e : Turn × ℕ) → result ≡ Some e → e.0.kind ≡ t.kind → NextIn c t e.1
@@ -275,7 +290,8 @@ module _ (c : Lists Mark) (order : TurnList Turn ℕ) (are : AreOrdered c order)
     where
       through : (back : List (Link Mark)) → parts.back ≡ back → NextIn c t e.1
       through [] none =
-          let first = subst (λ (b : List (Link Mark)). FirstOf t b (find (is_above t) (links_of c t.kind ++ in_all.rest)) (find (is_above t) in_all.rest)) none parts.first in
+          let first = subst (λ (b : List (Link Mark)). FirstOf t b (find (is_above t) (links_of c t.kind ++ in_all.rest))
+          (find (is_above t) in_all.rest)) none parts.first in
           let l = found_link (find (is_above t) in_all.rest) e (sym (found_own ∙ ap (option_map entry_of) first) ∙ some) in
           let later = late-found t in_all.rest l.found in_all.late l.is in
           absurd (omega (arith, later, same, ap (λ (d : Turn × ℕ). d.0.kind) l.entry))
@@ -291,14 +307,22 @@ module _ (c : Lists Mark) (order : TurnList Turn ℕ) (are : AreOrdered c order)
               back = back;
               split = parts.split ∙ (ap (λ (b : List (Link Mark)). parts.front ++ b) first ∙ ap (λ n. parts.front ++ link n x.value ∷ back) slot);
             };
-            gap = λ behind ends. record { front = parts.front; back = parts.back; split = parts.split; ends = sym ends; below = parts.below; above = parts.above };
+            gap = λ behind ends. record {
+              front = parts.front;
+              back = parts.back;
+              split = parts.split;
+              ends = sym ends;
+              below = parts.below;
+              above = parts.above;
+            };
           }
         where
           found_slot : (x l : Link Mark) (e : Turn × ℕ) → Some x ≡ Some l → entry_of l ≡ e → x.slot ≡ e.1
           found_slot x l e same is = let one : x ≡ l = cc in ap (λ (y : Link Mark). y.slot) one ∙ ap (λ (d : Turn × ℕ). d.1) is
 
   -- it is of another,
-  pub other-in : (e : Turn × ℕ) → result ≡ Some e → e.0.kind ≢ t.kind → (behind : Option ℕ) → behind ≡ last_slot (links_of c t.kind) → OrderedGap mark_number t.number c t.kind behind
+  pub other-in : (e : Turn × ℕ) → result ≡ Some e → e.0.kind ≢ t.kind → (behind : Option ℕ) → behind ≡ last_slot (links_of c t.kind)
+      → OrderedGap mark_number t.number c t.kind behind
   other-in e some other behind ends = through parts.back refl
     where
       through : (back : List (Link Mark)) → parts.back ≡ back → OrderedGap mark_number t.number c t.kind behind

@@ -11,19 +11,22 @@ use Rattle.pfl_queue.proofs.Fitting.{next_frame-longest, longest_bounded}
 use Rattle.pfl_queue.proofs.Fronts.{longest_begins, frame_leads_back}
 
 -- one edit more
-pub edits_next : {X Y : Type 0} (f : X → Y) (front : List Y) (xs : List X) (i : ℕ) (d : X) → i < length xs → (now next : List Y) → now ≡ front ++ map f (take i xs) → (y : Y) → y ≡ f (get_or xs i d) → next ≡ now ++ y ∷ [] → next ≡ front ++ map f (take (i + 1) xs)
+pub edits_next : {X Y : Type 0} (f : X → Y) (front : List Y) (xs : List X) (i : ℕ) (d : X) → i < length xs → (now next : List Y)
+    → now ≡ front ++ map f (take i xs) → (y : Y) → y ≡ f (get_or xs i d) → next ≡ now ++ y ∷ [] → next ≡ front ++ map f (take (i + 1) xs)
 edits_next f front xs i d within now next is y here more =
     rw (add-one, take-suc xs i d within)
     (more ∙ (ap (λ (zs : List _). zs ++ y ∷ []) is ∙ (append_assoc front (map f (take i xs)) (y ∷ [])
     ∙ ap (λ (zs : List _). front ++ zs) (ap (λ z. map f (take i xs) ++ z ∷ []) here ∙ sym (map-append f (take i xs) (get_or xs i d ∷ []))))))
 
 -- the frame is found in the first of what is pending: as many entries as it has bytes for the least of them
-pub frame_taken : (q : Queue) (mtu n : ℕ) → n ≡ mtu / 8 → (all : List Entry) → take n all ≡ take n (in_turn q) → (seen : List Entry) → seen ≡ all → (k : ℕ) → take k seen ≡ longest seen mtu
+pub frame_taken : (q : Queue) (mtu n : ℕ) → n ≡ mtu / 8 → (all : List Entry) → take n all ≡ take n (in_turn q) → (seen : List Entry)
+    → seen ≡ all → (k : ℕ) → take k seen ≡ longest seen mtu
     → (kept : List Entry) → kept ≡ take k all → kept ≡ next_frame q mtu
 frame_taken q mtu n few all turn seen same k fits kept is =
     let enough : mtu < 8 * n + 8 = omega (arith, few) in
     is ∙ (ap (take k) (sym same) ∙ (fits ∙ (ap (λ es. longest es mtu) same
-    ∙ (sym (longest_bounded n all mtu enough) ∙ (ap (λ es. longest es mtu) turn ∙ (longest_bounded n (in_turn q) mtu enough ∙ sym (next_frame-longest q mtu)))))))
+    ∙ (sym (longest_bounded n all mtu enough)
+    ∙ (ap (λ es. longest es mtu) turn ∙ (longest_bounded n (in_turn q) mtu enough ∙ sym (next_frame-longest q mtu)))))))
 
 -- its entries are the first ones
 pub first_taken : (q : Queue) (mtu : ℕ) (es : List Entry) → es ≡ next_frame q mtu → es ≡ take (length es) (in_turn q)
@@ -35,4 +38,5 @@ first_taken q mtu es frame =
 -- and their edits lead back
 pub taken_leads_back : (q : Queue) → IsQueue q → (es : List Entry) → es ≡ take (length es) (in_turn q) → QueueLeadsBack (map taking es) q (left_by q es)
 taken_leads_back q is es first =
-    frame_leads_back es q is (drop (length es) (in_turn q)) (ap (λ (xs : List Entry). xs ++ drop (length es) (in_turn q)) first ∙ take-append-drop (length es) (in_turn q))
+    frame_leads_back es q is (drop (length es) (in_turn q)) (ap (λ (xs : List Entry). xs ++ drop (length es) (in_turn q)) first
+    ∙ take-append-drop (length es) (in_turn q))

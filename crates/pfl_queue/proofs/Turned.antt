@@ -1,5 +1,6 @@
 -- Marks at slots stand in the order of frames.
-use Rattle.std.specs.Prelude.{◌≡◌, ℕ, zero, suc, ◌+◌, ◌<◌, ◌≤◌, false, ◌&&◌, ◌||◌, ◌==◌, nat_lt, List, [], ◌∷◌, ◌++◌, length, map, take, get_or, Option, Some, None, refl}
+use Rattle.std.specs.Prelude.{◌≡◌, ℕ, zero, suc, ◌+◌, ◌<◌, ◌≤◌, false, ◌&&◌, ◌||◌, ◌==◌, nat_lt, List, [], ◌∷◌, ◌++◌, length, map, take, get_or}
+use Rattle.std.specs.Prelude.{Option, Some, None, refl}
 use Rattle.std.specs.List.{AllByRecursion, sum_by}
 use Rattle.std.proofs.Common.{◌∙◌, ap, sym, subst, arith, append_assoc}
 use Rattle.std.proofs.Math.Seq.{take-append_seam}
@@ -32,14 +33,16 @@ lesser_kind a b c d h = grind (arith, nat_tests)
 lesser_number : (a b c d : ℕ) → a ≡ b → d < c → (nat_lt a b || ((a == b) && nat_lt c d)) ≡ false
 lesser_number a b c d e h = grind (arith, nat_tests)
 
-none_later : (k : ℕ) (x : Mark) (rest : List Mark) → kind_place x.kind ≡ k → AllByRecursion (λ m. suc k ≤ kind_place m.kind) rest → AllByRecursion (λ y. mark_before y x ≡ false) rest
+none_later : (k : ℕ) (x : Mark) (rest : List Mark) → kind_place x.kind ≡ k → AllByRecursion (λ m. suc k ≤ kind_place m.kind) rest
+    → AllByRecursion (λ y. mark_before y x ≡ false) rest
 none_later k x [] its late = tt
 none_later k x (y ∷ rest) its late = (
   lesser_kind (kind_place y.kind) (kind_place x.kind) y.number x.number (omega (arith, late.0, its)),
   none_later k x rest its late.1,
 )
 
-none_first : (k : ℕ) (x : Mark) (links rest : List (Link Mark)) → kind_place x.kind ≡ k → AreOfKind k links → IsAbove mark_number x.number links → AllByRecursion (λ m. suc k ≤ kind_place m.kind) (map mark_of_link rest)
+none_first : (k : ℕ) (x : Mark) (links rest : List (Link Mark)) → kind_place x.kind ≡ k → AreOfKind k links
+    → IsAbove mark_number x.number links → AllByRecursion (λ m. suc k ≤ kind_place m.kind) (map mark_of_link rest)
     → AllByRecursion (λ y. mark_before y x ≡ false) (map mark_of_link (links ++ rest))
 none_first k x [] rest its kinds above late = none_later k x (map mark_of_link rest) its late
 none_first k x (y ∷ links) rest its kinds above late = (
@@ -47,16 +50,20 @@ none_first k x (y ∷ links) rest its kinds above late = (
   none_first k x links rest its kinds.1 above.1 late,
 )
 
-rises_front : (k : ℕ) (links rest : List (Link Mark)) → AreOfKind k links → IsRising mark_number links → Rises mark_before (map mark_of_link rest) → AllByRecursion (λ m. suc k ≤ kind_place m.kind) (map mark_of_link rest)
+rises_front : (k : ℕ) (links rest : List (Link Mark)) → AreOfKind k links → IsRising mark_number links
+    → Rises mark_before (map mark_of_link rest) → AllByRecursion (λ m. suc k ≤ kind_place m.kind) (map mark_of_link rest)
     → Rises mark_before (map mark_of_link (links ++ rest))
 rises_front k [] rest kinds rising r late = r
-rises_front k (x ∷ links) rest kinds rising r late = (none_first k x.value links rest kinds.0 kinds.1 rising.0 late, rises_front k links rest kinds.1 rising.1 r late)
+rises_front k (x ∷ links) rest kinds rising r late =
+    (none_first k x.value links rest kinds.0 kinds.1 rising.0 late, rises_front k links rest kinds.1 rising.1 r late)
 
 at_least : (k : ℕ) (ms : List Mark) → AllByRecursion (λ m. suc k ≤ kind_place m.kind) ms → AllByRecursion (λ m. k ≤ kind_place m.kind) ms
 at_least k [] late = tt
 at_least k (m ∷ ms) late = (omega (arith, late.0), at_least k ms late.1)
 
-of_kind : (k : ℕ) (links rest : List (Link Mark)) → AreOfKind k links → AllByRecursion (λ m. suc k ≤ kind_place m.kind) (map mark_of_link rest) → AllByRecursion (λ m. k ≤ kind_place m.kind) (map mark_of_link (links ++ rest))
+of_kind : (k : ℕ) (links rest : List (Link Mark)) → AreOfKind k links
+    → AllByRecursion (λ m. suc k ≤ kind_place m.kind) (map mark_of_link rest)
+    → AllByRecursion (λ m. k ≤ kind_place m.kind) (map mark_of_link (links ++ rest))
 of_kind k [] rest kinds late = at_least k (map mark_of_link rest) late
 of_kind k (x ∷ links) rest kinds late = (omega (arith, kinds.0), of_kind k links rest kinds.1 late)
 
@@ -64,12 +71,15 @@ record AreFrom (k : ℕ) (lists : List (List (Link Mark))) : Type 0 where
   rises : Rises mark_before (listed lists)
   late : AllByRecursion (λ m. k ≤ kind_place m.kind) (listed lists)
 
-are_from : (k : ℕ) (lists : List (List (Link Mark))) → ((j : ℕ) → j < length lists → AreOfKind (k + j) (get_or lists j [])) → ((j : ℕ) → j < length lists → IsRising mark_number (get_or lists j [])) → AreFrom k lists
+are_from : (k : ℕ) (lists : List (List (Link Mark))) → ((j : ℕ) → j < length lists → AreOfKind (k + j) (get_or lists j []))
+    → ((j : ℕ) → j < length lists → IsRising mark_number (get_or lists j [])) → AreFrom k lists
 are_from k [] kinds rising = record { rises = tt; late = tt }
 are_from k (links ∷ lists) kinds rising =
     let one_on : (j : ℕ) → k + suc j ≡ suc k + j = λ j. omega arith in
     let none_on : k + 0 ≡ k = omega arith in
-    let rest = are_from (suc k) lists (λ j h. subst (λ (n : ℕ). AreOfKind n (get_or lists j [])) (one_on j) (kinds (suc j) (omega (arith, h)))) (λ j h. rising (suc j) (omega (arith, h))) in
+    let rest = are_from (suc k) lists
+    (λ j h. subst (λ (n : ℕ). AreOfKind n (get_or lists j [])) (one_on j) (kinds (suc j) (omega (arith, h))))
+    (λ j h. rising (suc j) (omega (arith, h))) in
     let here = subst (λ (n : ℕ). AreOfKind n links) none_on (kinds 0 (omega arith)) in
     record {
       rises = rises_front k links (all_links lists) here (rising 0 (omega arith)) rest.rises rest.late;
@@ -92,10 +102,13 @@ sum_map_of f (x ∷ xs) d =
     )
 
 -- the marks of the lists are those of the queues, in the order of frames
-pub in-turn : (q : Queue) → IsQueue q → (c : Lists Mark) → AreInTurn c → marks_of c.lists ≡ q.marks → listed c.lists ≡ in_order mark_before (maps.values q.marks)
+pub in-turn : (q : Queue) → IsQueue q → (c : Lists Mark) → AreInTurn c → marks_of c.lists ≡ q.marks
+    → listed c.lists ≡ in_order mark_before (maps.values q.marks)
 in-turn q is c are same =
     let zero_on : (j : ℕ) → j ≡ 0 + j = λ j. omega arith in
-    let from = are_from 0 c.lists (λ j h. subst (λ (n : ℕ). AreOfKind n (get_or c.lists j [])) (zero_on j) (are.kinds j (omega (arith, h, are.five)))) (λ j h. are.rising j (omega (arith, h, are.five))) in
+    let from = are_from 0 c.lists
+    (λ j h. subst (λ (n : ℕ). AreOfKind n (get_or c.lists j [])) (zero_on j) (are.kinds j (omega (arith, h, are.five))))
+    (λ j h. are.rising j (omega (arith, h, are.five))) in
     let values = maps.values q.marks in
     same_rising mark_before before_order (Stands q) (exact q is) (listed c.lists) (in_order mark_before values)
     from.rises (order-rises mark_before before_order values)
@@ -122,7 +135,8 @@ all_next (x ∷ lists) (suc k) h =
     ap (λ (ls : List (Link Mark)). x ++ ls) (all_next lists k (omega arith)) ∙ sym (append_assoc x (all_links (take k lists)) (get_or lists k []))
 
 -- one kind more
-pub kinds_next : (lists : List (List (Link Mark))) (most k : ℕ) (now next : List Mark) → k < length lists → now ≡ take most (listed (take k lists)) → next ≡ take most (now ++ map mark_of_link (get_or lists k []))
+pub kinds_next : (lists : List (List (Link Mark))) (most k : ℕ) (now next : List Mark) → k < length lists
+    → now ≡ take most (listed (take k lists)) → next ≡ take most (now ++ map mark_of_link (get_or lists k []))
     → next ≡ take most (listed (take (suc k) lists))
 kinds_next lists most k now next h is more =
     more ∙ (ap (λ (ms : List Mark). take most (ms ++ map mark_of_link (get_or lists k []))) is
@@ -138,7 +152,8 @@ pub record Walked (c : Lists Mark) (kind most : ℕ) (old now : List Mark) (next
   pub is : now ≡ old ++ map mark_of_link front
   pub few : length now ≤ most
 
-pub walk-start : (c : Lists Mark) (kind most : ℕ) (old : List Mark) (next : Option ℕ) → length old ≤ most → next ≡ first_slot (links_of c kind) → Walked c kind most old old next
+pub walk-start : (c : Lists Mark) (kind most : ℕ) (old : List Mark) (next : Option ℕ) → length old ≤ most
+    → next ≡ first_slot (links_of c kind) → Walked c kind most old old next
 walk-start c kind most old next few at = record { front = []; back = links_of c kind; split = refl; at = at; is = sym (append-nil old); few = few }
 
 -- the link that is next
@@ -148,7 +163,8 @@ pub record Next (c : Lists Mark) (kind most : ℕ) (old now : List Mark) (slot :
   pub split : links_of c kind ≡ front ++ link slot at.value ∷ at.back
   pub is : now ≡ old ++ map mark_of_link front
 
-pub walk-next : (c : Lists Mark) (kind most : ℕ) (old now : List Mark) (slot : ℕ) → kind < length c.lists → Walked c kind most old now (Some slot) → Next c kind most old now slot
+pub walk-next : (c : Lists Mark) (kind most : ℕ) (old now : List Mark) (slot : ℕ) → kind < length c.lists
+    → Walked c kind most old now (Some slot) → Next c kind most old now slot
 walk-next c kind most old now slot h w = through w.back w.split w.at
   where
     through : (back : List (Link Mark)) → links_of c kind ≡ w.front ++ back → Some slot ≡ first_slot back → Next c kind most old now slot
@@ -163,7 +179,8 @@ walk-next c kind most old now slot h w = through w.back w.split w.at
           is = w.is;
         }
 
-pub walk-on : (c : Lists Mark) (kind most : ℕ) (old now : List Mark) (slot : ℕ) (n : Next c kind most old now slot) → length now < most → (v : Mark) → v ≡ n.at.value → (more : List Mark) → more ≡ now ++ v ∷ []
+pub walk-on : (c : Lists Mark) (kind most : ℕ) (old now : List Mark) (slot : ℕ) (n : Next c kind most old now slot) → length now < most
+    → (v : Mark) → v ≡ n.at.value → (more : List Mark) → more ≡ now ++ v ∷ []
     → (next : Option ℕ) → next ≡ first_slot n.at.back → Walked c kind most old more next
 walk-on c kind most old now slot n few v value more is next at =
     let x = link slot n.at.value in
@@ -173,22 +190,27 @@ walk-on c kind most old now slot n few v value more is next at =
       split = n.split ∙ sym (append_assoc n.front (x ∷ []) n.at.back);
       at = at;
       is = is ∙ (ap (λ (m : Mark). now ++ m ∷ []) value ∙ (ap (λ (ms : List Mark). ms ++ n.at.value ∷ []) n.is
-          ∙ (append_assoc old (map mark_of_link n.front) (n.at.value ∷ []) ∙ ap (λ (ms : List Mark). old ++ ms) (sym (map-append mark_of_link n.front (x ∷ []))))));
+          ∙ (append_assoc old (map mark_of_link n.front) (n.at.value ∷ [])
+          ∙ ap (λ (ms : List Mark). old ++ ms) (sym (map-append mark_of_link n.front (x ∷ []))))));
       few = omega (arith, few, ap length is, length-append now (v ∷ []));
     }
 
 -- the list is at its end
-pub walk-end : (c : Lists Mark) (kind most : ℕ) (old now : List Mark) → Walked c kind most old now None → now ≡ take most (old ++ map mark_of_link (links_of c kind))
+pub walk-end : (c : Lists Mark) (kind most : ℕ) (old now : List Mark) → Walked c kind most old now None
+    → now ≡ take most (old ++ map mark_of_link (links_of c kind))
 walk-end c kind most old now w = through w.back w.split w.at
   where
-    through : (back : List (Link Mark)) → links_of c kind ≡ w.front ++ back → None ≡ first_slot back → now ≡ take most (old ++ map mark_of_link (links_of c kind))
+    through : (back : List (Link Mark)) → links_of c kind ≡ w.front ++ back → None ≡ first_slot back
+        → now ≡ take most (old ++ map mark_of_link (links_of c kind))
     through [] split at =
-        let all : old ++ map mark_of_link (links_of c kind) ≡ now = ap (λ (ls : List (Link Mark)). old ++ map mark_of_link ls) (split ∙ append-nil w.front) ∙ sym w.is in
+        let all : old ++ map mark_of_link (links_of c kind) ≡ now =
+        ap (λ (ls : List (Link Mark)). old ++ map mark_of_link ls) (split ∙ append-nil w.front) ∙ sym w.is in
         sym (ap (take most) all ∙ all_taken most now w.few)
     through (x ∷ back) split at = absurd (some_is_none x.slot (sym at))
 
 -- there are enough
-pub walk-full : (c : Lists Mark) (kind most : ℕ) (old now : List Mark) (next : Option ℕ) → Walked c kind most old now next → most ≤ length now → now ≡ take most (old ++ map mark_of_link (links_of c kind))
+pub walk-full : (c : Lists Mark) (kind most : ℕ) (old now : List Mark) (next : Option ℕ) → Walked c kind most old now next
+    → most ≤ length now → now ≡ take most (old ++ map mark_of_link (links_of c kind))
 walk-full c kind most old now next w full =
     let rest = map mark_of_link w.back in
     let all : old ++ map mark_of_link (links_of c kind) ≡ now ++ rest =
@@ -215,7 +237,8 @@ first-place c kind slot h is = through (links_of c kind) refl is
         let split : links_of c kind ≡ link slot x.value ∷ links = e ∙ ap (λ n. link n x.value ∷ links) same in
         record { at = record { list = kind; within = h; front = []; value = x.value; back = links; split = split }; split = split }
 
-pub first-above : (c : Lists Mark) (kind slot n : ℕ) (f : First c kind slot) → IsRising mark_number (links_of c kind) → (v : Mark) → v ≡ f.at.value → n < v.number → IsAbove mark_number n (links_of c kind)
+pub first-above : (c : Lists Mark) (kind slot n : ℕ) (f : First c kind slot) → IsRising mark_number (links_of c kind) → (v : Mark)
+    → v ≡ f.at.value → n < v.number → IsAbove mark_number n (links_of c kind)
 first-above c kind slot n f rising v is less =
     let r = subst (IsRising mark_number) f.split rising in
     let lower : n < f.at.value.number = omega (arith, less, ap mark_number is) in

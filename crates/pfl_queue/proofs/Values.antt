@@ -54,7 +54,8 @@ each_found : (es : List Filed) → Rise es → AllByRecursion (λ e. find name_c
 each_found [] r = tt
 each_found (e ∷ es) r = (ap (λ b. cond b (Some e.1) (find name_cmp e.0 es)) (own_key names_total names_exact (λ n. n) e.0), later es r.0 (each_found es r.1))
   where
-    later : (fs : List Filed) → AllByRecursion (λ f. name_cmp e.0 f.0 ≡ Less) fs → AllByRecursion (λ f. find name_cmp f.0 es ≡ Some f.1) fs → AllByRecursion (λ f. find name_cmp f.0 (e ∷ es) ≡ Some f.1) fs
+    later : (fs : List Filed) → AllByRecursion (λ f. name_cmp e.0 f.0 ≡ Less) fs → AllByRecursion (λ f. find name_cmp f.0 es ≡ Some f.1) fs
+        → AllByRecursion (λ f. find name_cmp f.0 (e ∷ es) ≡ Some f.1) fs
     later [] above all = tt
     later (f ∷ fs) above all = (
       elim (eq_by_cmp name_cmp f.0 e.0) as (λ b. eq_by_cmp name_cmp f.0 e.0 ≡ b → cond b (Some e.1) (find name_cmp f.0 es) ≡ Some f.1) [
@@ -100,7 +101,8 @@ module _ (q : Queue) (is : IsQueue q) where
   names_once [] r all = tt
   names_once (e ∷ es) r all = (later es r.0 all.1, names_once es r.1 all.1)
     where
-      later : (fs : List Filed) → AllByRecursion (λ f. name_cmp e.0 f.0 ≡ Less) fs → AllByRecursion (Found q.marks) fs → AllByRecursion (λ n. is_name e.1.name n ≡ false) (map (λ m. m.name) (map (λ e. e.1) fs))
+      later : (fs : List Filed) → AllByRecursion (λ f. name_cmp e.0 f.0 ≡ Less) fs → AllByRecursion (Found q.marks) fs
+          → AllByRecursion (λ n. is_name e.1.name n ≡ false) (map (λ m. m.name) (map (λ e. e.1) fs))
       later [] above found = tt
       later (f ∷ fs) above found = (other_name e f all.0 found.0 above.0, later fs above.1 found.1)
 
@@ -109,7 +111,8 @@ module _ (q : Queue) (is : IsQueue q) where
   numbers_once [] r all = tt
   numbers_once (e ∷ es) r all = (later es r.0 all.1, numbers_once es r.1 all.1)
     where
-      later : (fs : List Filed) → AllByRecursion (λ f. name_cmp e.0 f.0 ≡ Less) fs → AllByRecursion (Found q.marks) fs → AllByRecursion (λ n. (e.1.number == n) ≡ false) (map (λ m. m.number) (map (λ e. e.1) fs))
+      later : (fs : List Filed) → AllByRecursion (λ f. name_cmp e.0 f.0 ≡ Less) fs → AllByRecursion (Found q.marks) fs
+          → AllByRecursion (λ n. (e.1.number == n) ≡ false) (map (λ m. m.number) (map (λ e. e.1) fs))
       later [] above found = tt
       later (f ∷ fs) above found = (other_number e f all.0 found.0 above.0, later fs above.1 found.1)
 
@@ -127,22 +130,31 @@ others name n = not (eq_by_cmp name_cmp name n)
 none_less : (name : StateName) (es : List Filed) → AllByRecursion (λ f. name_cmp name f.0 ≡ Less) es → where_key name_cmp (others name) es ≡ es
 none_less name [] above = refl
 none_less name (e ∷ es) above =
-    ap (λ r. cond (not (is_eq r)) (e ∷ where_key name_cmp (others name) es) (where_key name_cmp (others name) es)) above.0 ∙ ap (λ fs. e ∷ fs) (none_less name es above.1)
+    ap (λ r. cond (not (is_eq r)) (e ∷ where_key name_cmp (others name) es) (where_key name_cmp (others name) es)) above.0
+    ∙ ap (λ fs. e ∷ fs) (none_less name es above.1)
 
 sum_less : (f : Mark → ℕ) (name : StateName) (m : Mark) (es : List Filed) → Rise es → find name_cmp name es ≡ Some m
     → sum_by f (map (λ e. e.1) (where_key name_cmp (others name) es)) + f m ≡ sum_by f (map (λ e. e.1) es)
 sum_less f name m [] r is = absurd (some_is_none m (sym is))
 sum_less f name m (e ∷ es) r is =
     elim (eq_by_cmp name_cmp name e.0) as (λ b. eq_by_cmp name_cmp name e.0 ≡ b → cond b (Some e.1) (find name_cmp name es) ≡ Some m
-    → sum_by f (map (λ e. e.1) (cond (not b) (e ∷ where_key name_cmp (others name) es) (where_key name_cmp (others name) es))) + f m ≡ sum_by f (map (λ e. e.1) (e ∷ es))) [
+    → sum_by f (map (λ e. e.1) (cond (not b) (e ∷ where_key name_cmp (others name) es) (where_key name_cmp (others name) es))) + f m
+    ≡ sum_by f (map (λ e. e.1) (e ∷ es))) [
       | true ↦ λ t s.
           let same : e.1 ≡ m = cc in
           let here = same_key names_total names_exact (λ n. n) name e.0 t in
           let rest = none_less name es (subst (λ (n : StateName). AllByRecursion (λ f. name_cmp n f.0 ≡ Less) es) (sym here) r.0) in
           omega (arith, ap (λ (fs : List Filed). sum_by f (map (λ e. e.1) fs)) rest, sum_by-cons f e.1 (map (λ e. e.1) es), ap f same)
-      | false ↦ λ t s. omega (arith, sum_less f name m es r.1 s, sum_by-cons f e.1 (map (λ e. e.1) es), sum_by-cons f e.1 (map (λ e. e.1) (where_key name_cmp (others name) es)))
+      | false ↦ λ t s. omega (
+        arith,
+        sum_less f name m es r.1 s,
+        sum_by-cons f e.1 (map (λ e. e.1) es),
+        sum_by-cons f e.1
+            (map (λ e. e.1) (where_key name_cmp (others name) es)),
+      )
     ] refl is
 
-pub sum_without : (f : Mark → ℕ) (marks : Map name_cmp Mark) (m : Mark) (name : StateName) → maps.get marks name ≡ Some m → sum_by f (maps.values (maps.remove marks name)) + f m ≡ sum_by f (maps.values marks)
+pub sum_without : (f : Mark → ℕ) (marks : Map name_cmp Mark) (m : Mark) (name : StateName) → maps.get marks name ≡ Some m
+    → sum_by f (maps.values (maps.remove marks name)) + f m ≡ sum_by f (maps.values marks)
 unfolding maps.remove maps.retain_keys maps.entries maps.get
 sum_without f marks m name is = sum_less f name m (entries marks) (rise (entries marks) (entries_sorted marks)) is

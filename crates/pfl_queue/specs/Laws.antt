@@ -10,7 +10,8 @@ use Rattle.pfl_queue.specs.declared.Kind.{Kind}
 use Rattle.pfl_queue.specs.declared.Mark.{Mark}
 use Rattle.pfl_queue.specs.declared.edits.QueueEdit.TheVariants.{OfName}
 use Rattle.pfl_queue.specs.Edits.{Finds, put_back}
-use Rattle.pfl_queue.specs.Queues.{Queue, IsQueue, pending, empty_queue, marked, unmarked, requested, with_status, with_clear, room_fault, most_numbers, mark_fault, request_fault, list_fault}
+use Rattle.pfl_queue.specs.Queues.{Queue, IsQueue, pending, empty_queue, marked, unmarked, requested, with_status, with_clear, room_fault}
+use Rattle.pfl_queue.specs.Queues.{most_numbers, mark_fault, request_fault, list_fault}
 use Rattle.pfl_queue.specs.Taking.{in_turn, next_frame, left_by}
 
 -- a call that lists something, takes a name off or sends a frame
@@ -48,7 +49,8 @@ NothingTwiceAfterCalls = (limit next : ℕ) (calls : List Call) → next ≤ 429
 -- next number are as they were
 abbrev pub FramesTakeFromTheFront : Type 0
 FramesTakeFromTheFront = (q : Queue) (mtu : ℕ) → IsQueue q
-    → (next_frame q mtu ++ in_turn (left_by q (next_frame q mtu)) ≡ in_turn q) × ((left_by q (next_frame q mtu)).limit ≡ q.limit) × ((left_by q (next_frame q mtu)).next ≡ q.next)
+    → (next_frame q mtu ++ in_turn (left_by q (next_frame q mtu)) ≡ in_turn q) × ((left_by q (next_frame q mtu)).limit ≡ q.limit)
+    × ((left_by q (next_frame q mtu)).next ≡ q.next)
 
 -- a mark that was taken off fits queues that have room, where its name is off and its former number was given and stands nowhere
 abbrev pub FormerMarksGoBack : Type 0

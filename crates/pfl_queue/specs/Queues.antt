@@ -1,6 +1,7 @@
 -- The pending queues: names with a kind and a number, and lists of requests, statuses and clears (if_pfsync.c; the numbers are
 -- this project's profile).
-use Rattle.std.specs.Prelude.{◌≡◌, ◌≤◌, ◌<◌, ℕ, ◌+◌, ◌^◌, Bool, not, ◌&&◌, nat_le, List, [], ◌∷◌, ◌++◌, length, refl, Option, Some, None, is_some, if◌then◌else◌}
+use Rattle.std.specs.Prelude.{◌≡◌, ◌≤◌, ◌<◌, ℕ, ◌+◌, ◌^◌, Bool, not, ◌&&◌, nat_le, List, [], ◌∷◌, ◌++◌, length, refl, Option, Some, None, is_some}
+use Rattle.std.specs.Prelude.{if◌then◌else◌}
 use Rattle.std.specs.List.{list_any, IsDistinct}
 use Rattle.std.specs.Option.{option_map}
 use Rattle.std.specs.Coded.{Coded, code_by, coded×, coded_ℕ, coded_list}
@@ -31,7 +32,9 @@ pub record Queue : Type 0 where
 abbrev pub coded_queue : Coded Queue
 coded_queue =
     code_by (ℕ × (ℕ × (Map name_cmp Mark × (List StateName × (List BulkStatus × List Cleared)))))
-    (coded× coded_ℕ (coded× coded_ℕ (coded× (maps.code coded_state_name mark_type.the_row.coded) (coded× (coded_list coded_state_name) (coded× (coded_list status_type.the_row.coded) (coded_list cleared_type.the_row.coded))))))
+    (coded× coded_ℕ (coded× coded_ℕ
+    (coded× (maps.code coded_state_name mark_type.the_row.coded)
+    (coded× (coded_list coded_state_name) (coded× (coded_list status_type.the_row.coded) (coded_list cleared_type.the_row.coded))))))
     (λ q. (q.limit, (q.next, (q.marks, (q.requests, (q.statuses, q.clears))))))
     (λ p. record { limit = p.0; next = p.1.0; marks = p.1.1.0; requests = p.1.1.1.0; statuses = p.1.1.1.1.0; clears = p.1.1.1.1.1 })
     (λ _. refl)

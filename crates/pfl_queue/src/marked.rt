@@ -3,14 +3,15 @@ ghost use Rattle.std.specs.Prelude.{◌≡◌, ◌↔◌, [], ◌++◌, ◌<◌,
 ghost use Rattle.pfl_containers.specs.Lists.{Place, count_of, link, links_of, with_links};
 ghost use Rattle.pfl_edits.specs.Maps as maps;
 ghost use Rattle.pfl_edits.specs.Maps.{set_at};
-ghost use Rattle.pfl_queue.specs.inner.Marked.{AreApart, AreInTurn, AreOrdered, AreTagged, IsNew, all_links, listed, mark_number, mark_of_link, marks_of, name_tag, slot_named};
+ghost use Rattle.pfl_queue.specs.inner.Marked.{AreApart, AreInTurn, AreOrdered, AreTagged, IsNew, all_links, listed, mark_number, mark_of_link};
+ghost use Rattle.pfl_queue.specs.inner.Marked.{marks_of, name_tag, slot_named};
 ghost use Rattle.pfl_queue.specs.inner.Rising.{HasNone, InsertsInOrder, IsAbove, IsBelow, IsRising, OrderedGap};
 ghost use Rattle.pfl_queue.specs.Taking.{kind_place};
 
+use crate::Mark;
 use crate::marks::Turn;
-use crate::{MOST, Mark};
 use pfl_base::StateName;
-use pfl_containers::{ByName, Chains, OrderedMap, SlotIndex, tag_of};
+use pfl_containers::{ByName, Chains, MOST_SLOTS, OrderedMap, SlotIndex, tag_of};
 use pfl_edits::NoMemory;
 use std::alloc::{AllocError, Allocator};
 use std::marker::Model;
@@ -46,7 +47,7 @@ impl<A: Allocator + Copy> Marks<A> {
         ensures limit { IfOk result (λ m. m.limit ≡ limit) }
         ensures empty { IfOk result (λ m. marks_of m.lists ≡ maps.empty) }
     {
-        if limit > MOST {
+        if limit > MOST_SLOTS {
             return Err(NoMemory);
         }
         let queues = Chains::new(alloc, KINDS, limit)?;

@@ -1,9 +1,11 @@
 //! The pending queues of a node.
-ghost use Rattle.std.specs.Prelude.{◌≡◌, ◌==◌, ◌≤◌, ◌<◌, [], ◌∷◌, take, IfOk, IfSome, IfErr, OnErr, OnOk, OnSome, IfNone, Some, None, is_some, nat_le, if◌then◌else◌};
+ghost use Rattle.std.specs.Prelude.{◌≡◌, ◌==◌, ◌≤◌, ◌<◌, [], ◌∷◌, take, IfOk, IfSome, IfErr, OnErr, OnOk, OnSome, IfNone, Some, None, is_some};
+ghost use Rattle.std.specs.Prelude.{nat_le, if◌then◌else◌};
 ghost use Rattle.std.specs.VecDeque.Iter.{deque_iter_rest};
 ghost use Rattle.pfl_base.specs.Lists.{in_order};
 ghost use Rattle.pfl_edits.specs.Maps as maps;
-ghost use Rattle.pfl_queue.specs.Queues.{Queue, IsQueue, empty_queue, pending, kind_of, marked, unmarked, is_requested, requested, with_status, with_clear, most_numbers, room_fault, mark_fault, list_fault, request_fault};
+ghost use Rattle.pfl_queue.specs.Queues.{Queue, IsQueue, empty_queue, pending, kind_of, marked, unmarked, is_requested, requested, with_status};
+ghost use Rattle.pfl_queue.specs.Queues.{with_clear, most_numbers, room_fault, mark_fault, list_fault, request_fault};
 ghost use Rattle.pfl_queue.specs.Laws.{NothingTwice};
 ghost use Rattle.pfl_queue.specs.Taking.{mark_before, gone, left_by};
 ghost use Rattle.pfl_queue.specs.Edits.{QueueLeadsBack, FindsFormer, redone, marking, unmarking, requesting, listing_status, listing_clear};
@@ -13,16 +15,13 @@ use crate::lists::{copied, first, in_order as in_order_of, set_position};
 use crate::marked::Marks;
 use crate::requests::Requests;
 use crate::{Cleared, Entry, Kind, Mark, QueueFault};
-use pfl_base::StateName;
+use pfl_base::{GREATEST_NUMBER, StateName};
 use pfl_edits::{InOrder, NoMemory, Reversible};
 use pfl_wire::BulkStatus;
 use std::alloc::Allocator;
 use std::collections::VecDeque;
 use std::collections::vec_deque::Iter;
 use std::marker::Model;
-
-/// The greatest queueing number that an event may end with as the next one.
-const GREATEST_NUMBER: u64 = 4294967295;
 
 /// What is to be sent to the peer: names with a kind and a number, and lists of requests, statuses and clears. There are
 /// never more than `limit` of them all, and all room is made by `new`.
@@ -61,7 +60,9 @@ impl<A: Allocator> Model for Pending<A> {
 
     ghost view = { λ q. queue_of q.limit q.next q.marks.lists q.requests.listed q.statuses.items q.clears.items };
 
-    ghost invariant = { λ q. IsKept (queue_of q.limit q.next q.marks.lists q.requests.listed q.statuses.items q.clears.items) q.marks.limit q.requests.limit (deque_capacity q.statuses) (deque_capacity q.clears) };
+    ghost invariant = { λ q.
+        IsKept (queue_of q.limit q.next q.marks.lists q.requests.listed q.statuses.items q.clears.items)
+        q.marks.limit q.requests.limit (deque_capacity q.statuses) (deque_capacity q.clears) };
 }
 
 impl<A: Allocator + Copy> Pending<A> {

@@ -5,10 +5,9 @@ ghost use Rattle.std.specs.List.{IsDistinct, insert, list_any, remove};
 ghost use Rattle.pfl_base.specs.Names.{is_name};
 ghost use Rattle.pfl_edits.specs.Places.{StandsAt, with_position};
 
-use crate::MOST;
 use crate::lists::{copied, first, in_order};
 use pfl_base::StateName;
-use pfl_containers::{ByName, OrderedMap};
+use pfl_containers::{ByName, MOST_SLOTS, OrderedMap};
 use pfl_edits::{InOrder, NoMemory};
 use std::alloc::Allocator;
 use std::collections::VecDeque;
@@ -41,7 +40,7 @@ impl<A: Allocator + Copy> Requests<A> {
         ensures limit { IfOk result (λ r. r.limit ≡ limit) }
         ensures empty { IfOk result (λ r. r.listed ≡ []) }
     {
-        if limit > MOST {
+        if limit > MOST_SLOTS {
             return Err(NoMemory);
         }
         let names = OrderedMap::new(alloc, limit)?;

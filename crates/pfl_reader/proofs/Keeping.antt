@@ -48,7 +48,8 @@ Keeps-pushed k body b h = record {
 }
 
 -- what is kept stays right once the CR that came last, if there was one, is counted
-Keeps-carriage : (k : Carried) (body : List ℕ) (carriage : Bool) → Keeps (kept k) body → Keeps (kept (cond carriage (counted k) k)) (body ++ carriage_of carriage)
+Keeps-carriage : (k : Carried) (body : List ℕ) (carriage : Bool) → Keeps (kept k) body
+    → Keeps (kept (cond carriage (counted k) k)) (body ++ carriage_of carriage)
 Keeps-carriage k body true h =
     let more = Keeps-pushed k body 13 h in
     record { bytes = more.bytes; long = more.long; head = more.head }

@@ -51,7 +51,8 @@ Begins-settled None mid new body c b h t i = tt
 Begins-settled (Some xs) None new body c b h t i = h
 Begins-settled (Some xs) (Some ys) None body c b h t i = absurd t
 Begins-settled (Some xs) (Some ys) (Some zs) body c b h t i =
-    let at : lines_of xs ≡ prepend body (lines_of (carriage_of c ++ b ∷ zs)) = subst (λ (y : List ℕ). lines_of xs ≡ prepend body (lines_of (carriage_of c ++ y))) t h in
+    let at : lines_of xs ≡ prepend body (lines_of (carriage_of c ++ b ∷ zs)) =
+    subst (λ (y : List ℕ). lines_of xs ≡ prepend body (lines_of (carriage_of c ++ y))) t h in
     rw t (at ∙ lines_of-carriage c b zs body i)
 
 -- a CR comes last
@@ -78,7 +79,8 @@ Begins-end None mid new body c h t = tt
 Begins-end (Some xs) None new body c h t = absurd h
 Begins-end (Some xs) (Some ys) None body c h t = absurd t
 Begins-end (Some xs) (Some ys) (Some zs) body c h t =
-    let at : lines_of xs ≡ prepend body (lines_of (carriage_of c ++ 10 ∷ zs)) = subst (λ (y : List ℕ). lines_of xs ≡ prepend body (lines_of (carriage_of c ++ y))) t h in
+    let at : lines_of xs ≡ prepend body (lines_of (carriage_of c ++ 10 ∷ zs)) =
+    subst (λ (y : List ℕ). lines_of xs ≡ prepend body (lines_of (carriage_of c ++ y))) t h in
     at ∙ rw (lines_of-end c zs) (prepend-line body (lines_of zs))
 
 -- the last line, which has no end
@@ -94,7 +96,8 @@ Begins-last None mid new body c n h t = tt
 Begins-last (Some xs) None new body c n h t = absurd h
 Begins-last (Some xs) (Some ys) None body c n h t = absurd t
 Begins-last (Some xs) (Some ys) (Some zs) body c n h t =
-    let at : lines_of xs ≡ prepend body (lines_of (carriage_of c ++ [])) = subst (λ (y : List ℕ). lines_of xs ≡ prepend body (lines_of (carriage_of c ++ y))) t.0 h in
+    let at : lines_of xs ≡ prepend body (lines_of (carriage_of c ++ [])) =
+    subst (λ (y : List ℕ). lines_of xs ≡ prepend body (lines_of (carriage_of c ++ y))) t.0 h in
     rw t.1 (at ∙ lines_of-last body c n)
 
 -- one of three lists is not empty

@@ -1,5 +1,6 @@
 -- A line that lies whole in a block is taken at once.
-use Rattle.std.proofs.Common.{◌≡◌, ◌≢◌, ℕ, zero, suc, ◌<◌, ◌≤◌, ◌+◌, ◌-◌, Bool, true, false, List, [], ◌∷◌, ◌++◌, length, take, drop, get_or, refl, sym, ◌∙◌, ap, subst, arith, cond, inl, inr, Option, Some, None, eqb}
+use Rattle.std.proofs.Common.{◌≡◌, ◌≢◌, ℕ, zero, suc, ◌<◌, ◌≤◌, ◌+◌, ◌-◌, Bool, true, false, List, [], ◌∷◌, ◌++◌, length, take, drop, get_or, refl}
+use Rattle.std.proofs.Common.{sym, ◌∙◌, ap, subst, arith, cond, inl, inr, Option, Some, None, eqb}
 use Rattle.std.proofs.lemmas.Bool.{ne_eqb}
 use Rattle.std.proofs.lemmas.Bool.Decides.{eqb_tells}
 use Rattle.std.proofs.lemmas.List.{drop-take, drop-drop, take-take, take_min, length-take}
@@ -56,7 +57,8 @@ waits-behind block start end k within =
     rw (parts, drop-take (suc k) (end - (start + k + 1)) (drop start block), drop-drop (suc k) start block, place) refl
 
 -- the first bytes of what waits
-waits-before : (block : List ℕ) (start end k n : ℕ) → n ≤ k → start + k ≤ end → take n (take k (slice_range block start end)) ≡ slice_range block start (start + n)
+waits-before : (block : List ℕ) (start end k n : ℕ) → n ≤ k → start + k ≤ end
+    → take n (take k (slice_range block start end)) ≡ slice_range block start (start + n)
 waits-before block start end k n less within =
     let parts : (start + n) - start ≡ n = omega arith in
     rw (take-take n k (slice_range block start end) less, take-take n (end - start) (drop start block) (omega arith), parts) refl
@@ -66,12 +68,14 @@ pub TakesLine-whole : (block : List ℕ) (start end k n : ℕ) (rest : Option (L
     k < length (slice_range block start end) → n ≤ length (take k (slice_range block start end)) →
     get_or (slice_range block start end) k 0 ≡ 10 → ((j : ℕ) → j < k → get_or (slice_range block start end) j 0 ≢ 10) →
     take n (take k (slice_range block start end)) ≡ cut (take k (slice_range block start end)) →
-    TakesLine (prepend_known (slice_range block start end) rest) (prepend_known (slice_range block (start + k + 1) end) rest) (slice_range block start (start + n))
+    TakesLine (prepend_known (slice_range block start end) rest) (prepend_known (slice_range block (start + k + 1) end) rest)
+    (slice_range block start (start + n))
 TakesLine-whole block start end k n rest within few at before body =
     let fits : start + k + 1 ≤ end = waits-within block start end k within in
     let less : n ≤ k = omega (arith, few, length-take k (slice_range block start end)) in
     let behind = waits-behind block start end k fits in
-    let front : slice_range block start (start + n) ≡ cut (take k (slice_range block start end)) = sym (waits-before block start end k n less (omega arith)) ∙ body in
+    let front : slice_range block start (start + n) ≡ cut (take k (slice_range block start end)) =
+    sym (waits-before block start end k n less (omega arith)) ∙ body in
     rw (front, ← behind) (TakesLine-found (slice_range block start end) k rest within at before)
 
 -- a CR that stands last is cut off, by the bytes before it

@@ -1,6 +1,7 @@
 //! The bytes of a device, read in blocks.
 
-ghost use Rattle.std.specs.Prelude.{◌≡◌, ◌+◌, ◌<◌, ◌≤◌, ◌-◌, ◌^◌, slice_range, length, take, true, false, Some, IfOk, IfErr, IfSome, OnOk, ◌↔◌, IsTrue, MatchOption};
+ghost use Rattle.std.specs.Prelude.{◌≡◌, ◌+◌, ◌<◌, ◌≤◌, ◌-◌, ◌^◌, slice_range, length, take, true, false, Some, IfOk, IfErr, IfSome, OnOk, ◌↔◌};
+ghost use Rattle.std.specs.Prelude.{IsTrue, MatchOption};
 ghost use Rattle.std.specs.Io.KnownBytes.{Keeps, IsAtEnd};
 ghost use Rattle.pfl_reader.specs.Readers.{room, CountsTurns, IsReadFault, Releases};
 ghost use Rattle.pfl_reader.specs.inner.Feeds.{cut, idle, TakesWhole};

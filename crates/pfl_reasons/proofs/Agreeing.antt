@@ -1,5 +1,6 @@
 -- The outcome of an event follows from its explanation, and the numbers that are shown do stand against one that is refused.
-use Rattle.std.specs.Prelude.{◌≡◌, ℕ, suc, Bool, true, false, not, ◌&&◌, ◌||◌, nat_le, List, [], ◌∷◌, length, map, filter, Option, Some, None, is_some, unwrap_or, Result, Ok, Err, refl}
+use Rattle.std.specs.Prelude.{◌≡◌, ℕ, suc, Bool, true, false, not, ◌&&◌, ◌||◌, nat_le, List, [], ◌∷◌, length, map, filter, Option, Some, None}
+use Rattle.std.specs.Prelude.{is_some, unwrap_or, Result, Ok, Err, refl}
 use Rattle.std.specs.Option.{option_map_or}
 use Rattle.std.proofs.Common.{cond, ◌∙◌, ap, sym, subst, inl, inr}
 use Rattle.pfl_base.specs.declared.direction.Dir.{Dir}
@@ -42,7 +43,8 @@ use Rattle.pfl_world.specs.desk.Changes.{deleted, mark}
 use Rattle.pfl_world.specs.desk.Nodes.{Node, refused_by, unless_refused}
 use Rattle.pfl_world.specs.node.Packets.{followed, handled, handled_by}
 use Rattle.pfl_world.specs.node.Purging.{expires_before, expired_states}
-use Rattle.pfl_world.specs.node.Starting.{Handled, announced, by_rule, drop, hold, is_at_max, is_deferred, judged, new_state, next_name, pass, started, with_new, with_room}
+use Rattle.pfl_world.specs.node.Starting.{Handled, announced, by_rule, drop, hold, is_at_max, is_deferred, judged, new_state, next_name, pass}
+use Rattle.pfl_world.specs.node.Starting.{started, with_new, with_room}
 use Rattle.pfl_world.specs.node.Stepping.{NodeStepped, node_after, node_step}
 use Rattle.pfl_world.specs.receive.Delivering.{same_rules}
 use Rattle.pfl_world.specs.receive.Receiving.{taken}
@@ -58,7 +60,8 @@ use Rattle.pfl_world.specs.Restarting.{restart_step}
 use Rattle.pfl_world.specs.Tickets.{cut_step, lose_step, repeat_step, step_unless, without_ticket}
 use Rattle.pfl_world.specs.Worlds.{World, node_at, with_link}
 use Rattle.pfl_reasons.specs.declared.packet_reason.Judged.TheVariants as made
-use Rattle.pfl_reasons.specs.Explaining.{AgreesWith, FollowsFrom, Packet as OfPacket, Plain, ReasonsAgree, explained, explained_at, explained_by, explained_frame, explained_of_frame, explained_outcome}
+use Rattle.pfl_reasons.specs.Explaining.{AgreesWith, FollowsFrom, Packet as OfPacket, Plain, ReasonsAgree, explained, explained_at, explained_by}
+use Rattle.pfl_reasons.specs.Explaining.{explained_frame, explained_of_frame, explained_outcome}
 use Rattle.pfl_reasons.specs.Packets.{HandledSo, JudgedSo, by_found, by_keys, by_tracked, judged_reason, packet_reason, rule_reason, start_reason, tested}
 use Rattle.pfl_reasons.specs.Purges.{expiries, expiry_of, is_due}
 use Rattle.pfl_reasons.specs.Records.{fates}
@@ -73,7 +76,9 @@ module _ (n : Node) (dir : Dir) (p : Packet) where
       marked : Node
       marked = mark m s.name Insert
 
-      by : (untold deferred : Bool) → JudgedSo (made.Makes number s.name) (cond untold (pass m (Some s.name)) (cond deferred (hold (with_room marked) s p) (pass marked (Some s.name)))).fate
+      by : (untold deferred : Bool)
+          → JudgedSo (made.Makes number s.name)
+          (cond untold (pass m (Some s.name)) (cond deferred (hold (with_room marked) s p) (pass marked (Some s.name)))).fate
       by true deferred = inl refl
       by false true = inr refl
       by false false = inl refl
@@ -92,13 +97,20 @@ module _ (n : Node) (dir : Dir) (p : Packet) where
       s = new_state n dir p number r
 
       by : (most full : Bool)
-          → JudgedSo (cond most (made.AtMax number (unwrap_or r.max 0) (count_of_rule n.states number)) (cond full (made.Full number n.limits.states (maps.len n.states)) (by_keys number (by_wire n.states (new_keys n.states r (key p dir)).wire) (by_stack n.states (new_keys n.states r (key p dir)).stack) (made.Makes number (next_name n)))))
-          (cond most (drop n reason.Max) (cond full (drop n reason.Full) (cond (is_taken n.states (new_keys n.states r (key p dir))) (drop n reason.Key) (announced (with_new n s) s dir p)))).fate
+          → JudgedSo (cond most (made.AtMax number (unwrap_or r.max 0) (count_of_rule n.states number))
+          (cond full (made.Full number n.limits.states (maps.len n.states))
+          (by_keys number (by_wire n.states (new_keys n.states r (key p dir)).wire)
+          (by_stack n.states (new_keys n.states r (key p dir)).stack) (made.Makes number (next_name n)))))
+          (cond most (drop n reason.Max)
+          (cond full (drop n reason.Full)
+          (cond (is_taken n.states (new_keys n.states r (key p dir))) (drop n reason.Key) (announced (with_new n s) s dir p)))).fate
       by true full = refl
       by false true = refl
-      by false false = keyed-so number (by_wire n.states (new_keys n.states r (key p dir)).wire) (by_stack n.states (new_keys n.states r (key p dir)).stack) (announced (with_new n s) s dir p) (announced-so (with_new n s) s number)
+      by false false = keyed-so number (by_wire n.states (new_keys n.states r (key p dir)).wire)
+          (by_stack n.states (new_keys n.states r (key p dir)).stack) (announced (with_new n s) s dir p) (announced-so (with_new n s) s number)
 
-  by_rule-so : (number : ℕ) (o : Option Rule) → JudgedSo (option_map_or (start_reason n dir p number) o made.Unmatched) (option_map_or (started n dir p number) o (pass n None)).fate
+  by_rule-so : (number : ℕ) (o : Option Rule)
+      → JudgedSo (option_map_or (start_reason n dir p number) o made.Unmatched) (option_map_or (started n dir p number) o (pass n None)).fate
   by_rule-so number None = refl
   by_rule-so number (Some r) = started-so number r
 
@@ -106,12 +118,16 @@ module _ (n : Node) (dir : Dir) (p : Packet) where
   unfolding judged judged_reason
   judged-so = by (deciding n.rules.list p dir)
     where
-      by : (o : Option (ℕ × Rule)) → JudgedSo (option_map_or (rule_reason n dir p (verdict_by o)) (verdict_by o).rule made.Unmatched) (cond (verdict_by o).pass (by_rule n dir p (verdict_by o).rule) (drop n reason.Block)).fate
+      by : (o : Option (ℕ × Rule))
+          → JudgedSo (option_map_or (rule_reason n dir p (verdict_by o)) (verdict_by o).rule made.Unmatched)
+          (cond (verdict_by o).pass (by_rule n dir p (verdict_by o).rule) (drop n reason.Block)).fate
       by None = refl
-      by (Some e) = elim (is_pass e.1.action) as (λ b. JudgedSo (cond b (option_map_or (start_reason n dir p e.0) (rule_at n.rules.list (Some e.0)) made.Unmatched) (made.Blocked e.0)) (cond b (by_rule n dir p (Some e.0)) (drop n reason.Block)).fate) [
-        | true ↦ by_rule-so e.0 (rule_at n.rules.list (Some e.0))
-        | false ↦ refl
-      ]
+      by (Some e) = elim (is_pass e.1.action) as
+          (λ b. JudgedSo (cond b (option_map_or (start_reason n dir p e.0) (rule_at n.rules.list (Some e.0)) made.Unmatched)
+          (made.Blocked e.0)) (cond b (by_rule n dir p (Some e.0)) (drop n reason.Block)).fate) [
+            | true ↦ by_rule-so e.0 (rule_at n.rules.list (Some e.0))
+            | false ↦ refl
+          ]
 
 -- ---- a packet of a state
 
@@ -134,13 +150,16 @@ tracked-says agree s p dir now = by (is_tcp p.proto) (is_request p && is_closed 
     to : Peer
     to = receiver s dir
 
-    in_window : (inside : Bool) (t : State) → is_met (window_test s dir p) ≡ inside → SaysOfWindow (is_met (window_test s dir p)) (cond (not inside) OutOfWindow (Moved t))
+    in_window : (inside : Bool) (t : State) → is_met (window_test s dir p) ≡ inside
+        → SaysOfWindow (is_met (window_test s dir p)) (cond (not inside) OutOfWindow (Moved t))
     in_window true t e = e
     in_window false t e = e
 
     by : (tcp again : Bool)
         → SaysOfWindow (option_map_or is_met (cond tcp (Some (window_test s dir p)) None) true)
-        (cond tcp (cond again Reused (cond (not (is_inside from to p)) OutOfWindow (Moved (moved s dir (sender_after from p) (receiver_after from to p) now)))) (Moved (tracked_other s dir now)))
+        (cond tcp (cond again Reused
+        (cond (not (is_inside from to p)) OutOfWindow (Moved (moved s dir (sender_after from p) (receiver_after from to p) now))))
+        (Moved (tracked_other s dir now)))
     by true true = tt
     by true false = in_window (is_inside from to p) _ (agree from to p)
     by false again = refl
@@ -176,10 +195,12 @@ length-in_order before (x ∷ xs) = length-put before x (in_order before xs) ∙
 
 length-filter : {X Y : Type 0} (p : Y → Bool) (f : X → Y) (xs : List X) → length (filter (λ x. p (f x)) xs) ≡ length (filter p (map f xs))
 length-filter p f [] = refl
-length-filter p f (x ∷ xs) = elim (p (f x)) as (λ b. length (cond b (x ∷ filter (λ x. p (f x)) xs) (filter (λ x. p (f x)) xs)) ≡ length (cond b (f x ∷ filter p (map f xs)) (filter p (map f xs)))) [
-  | true ↦ ap (λ (n : ℕ). suc n) (length-filter p f xs)
-  | false ↦ length-filter p f xs
-]
+length-filter p f (x ∷ xs) =
+    elim (p (f x)) as (λ b. length (cond b (x ∷ filter (λ x. p (f x)) xs) (filter (λ x. p (f x)) xs))
+    ≡ length (cond b (f x ∷ filter p (map f xs)) (filter p (map f xs)))) [
+      | true ↦ ap (λ (n : ℕ). suc n) (length-filter p f xs)
+      | false ↦ length-filter p f xs
+    ]
 
 purged-so : (n : Node) → length (expired_states n) ≡ length (filter (is_due n.clock) (expiries n))
 unfolding expiries
@@ -201,7 +222,8 @@ accepted-outcome : (o : Option Refusal) (v : World) (at : Outcome) (s : Stepped)
 accepted-outcome None v at s is = let same : record { world = v; outcome = at } ≡ s = cc in ap (λ (t : Stepped). t.outcome) same
 accepted-outcome (Some r) v at s is = absurd (cc)
 
-accepted-at : (w : World) (id : NodeId) (o : Option Refusal) (t : NodeStepped) (s : Stepped) → from_node w id (unless_refused o t) ≡ Ok s → outcome.At t.outcome ≡ s.outcome
+accepted-at : (w : World) (id : NodeId) (o : Option Refusal) (t : NodeStepped) (s : Stepped) → from_node w id (unless_refused o t) ≡ Ok s
+    → outcome.At t.outcome ≡ s.outcome
 accepted-at w id None t s is = accepted-outcome None _ (outcome.At t.outcome) s is
 accepted-at w id (Some r) t s is = absurd (cc)
 
@@ -210,7 +232,8 @@ plain-at : (w : World) (id : NodeId) (e : NodeEvent) (s : Stepped) → FollowsFr
     → from_node w id (node_step (node_at w id) e) ≡ Ok s → FollowsFrom Plain s.outcome
 plain-at w id e s so is = subst (FollowsFrom Plain) (accepted-at w id _ _ s is) so
 
-at_node-so : TestsAgree → (w : World) (id : NodeId) (e : NodeEvent) (s : Stepped) → from_node w id (node_step (node_at w id) e) ≡ Ok s → FollowsFrom (explained_at (node_at w id) e) s.outcome
+at_node-so : TestsAgree → (w : World) (id : NodeId) (e : NodeEvent) (s : Stepped) → from_node w id (node_step (node_at w id) e) ≡ Ok s
+    → FollowsFrom (explained_at (node_at w id) e) s.outcome
 at_node-so agree w id (own.Packet dir p) s is =
     let n = node_at w id in
     subst (FollowsFrom (OfPacket (packet_reason n dir p))) (accepted-at w id _ _ s is) (handled-so agree n dir p)
@@ -238,7 +261,8 @@ delivered-so w ticket (Some f) s is = by (reading f.bytes) is
     by (Err why) is = subst (FollowsFrom Plain) (accepted-outcome _ _ (outcome.Broken why) s is) tt
 
 -- an event of a frame in flight that needs no reason
-plain-of : (tests : List (Bool × Refusal)) (after : InFlight → World) (gives : InFlight → Outcome) → ((f : InFlight) → FollowsFrom Plain (gives f)) → (o : Option InFlight) (s : Stepped)
+plain-of : (tests : List (Bool × Refusal)) (after : InFlight → World) (gives : InFlight → Outcome)
+    → ((f : InFlight) → FollowsFrom Plain (gives f)) → (o : Option InFlight) (s : Stepped)
     → option_map_or (λ f. step_unless tests (after f) (gives f)) o (Err NoSuchFrame) ≡ Ok s → FollowsFrom Plain s.outcome
 plain-of tests after gives so None s is = absurd (cc)
 plain-of tests after gives so (Some f) s is = subst (FollowsFrom Plain) (accepted-outcome (refused_by tests) (after f) (gives f) s is) (so f)
@@ -251,15 +275,18 @@ of_frame-so w ticket frame.Repeat s is =
     plain-of ((is_full w.link, LinkFull) ∷ (is_counted_out w.link, CountFull) ∷ [])
     (λ f. with_link w (sent w.link f)) (λ f. outcome.Sent w.link.next (length f.bytes)) (λ f. tt) (maps.get w.link.frames ticket) s is
 of_frame-so w ticket (frame.Cut len) s is =
-    plain-of [] (λ f. with_link w (with_frame w.link ticket (cut_to f len))) (λ f. outcome.CutTo (length (cut_to f len).bytes)) (λ f. tt) (maps.get w.link.frames ticket) s is
+    plain-of [] (λ f. with_link w (with_frame w.link ticket (cut_to f len))) (λ f. outcome.CutTo (length (cut_to f len).bytes))
+    (λ f. tt) (maps.get w.link.frames ticket) s is
 
 -- an event that is accepted has the outcome that follows from its explanation
 outcomes-follow : TestsAgree → (w : World) (e : Event) (s : Stepped) → step w e ≡ Ok s → FollowsFrom (explained_outcome w e) s.outcome
 unfolding step flush_step restart_step
 outcomes-follow agree w (event.At id e) s is = at_node-so agree w id e s is
 outcomes-follow agree w (event.Of ticket e) s is = of_frame-so w ticket e s is
-outcomes-follow agree w (event.Flush id) s is = subst (FollowsFrom Plain) (accepted-outcome (flush_refusal w id) _ (outcome.Sent w.link.next (length (sent_frame w id).bytes)) s is) tt
-outcomes-follow agree w (event.Restart id) s is = subst (FollowsFrom Plain) (accepted-outcome (refused_by ((nat_le greatest w.next_boot, CountFull) ∷ [])) _ (outcome.Boot w.next_boot) s is) tt
+outcomes-follow agree w (event.Flush id) s is =
+    subst (FollowsFrom Plain) (accepted-outcome (flush_refusal w id) _ (outcome.Sent w.link.next (length (sent_frame w id).bytes)) s is) tt
+outcomes-follow agree w (event.Restart id) s is =
+    subst (FollowsFrom Plain) (accepted-outcome (refused_by ((nat_le greatest w.next_boot, CountFull) ∷ [])) _ (outcome.Boot w.next_boot) s is) tt
 
 -- each event agrees with its explanation
 pub events-agree : TestsAgree → ReasonsAgree

@@ -14,4 +14,5 @@ use Rattle.pfl_reasons.specs.Explaining.{Plain, explained_frame, explained_of_fr
 pub of_read : (w : World) (ticket : ℕ) (f : InFlight) (r : Result Frame BadFrame) → maps.get w.link.frames ticket ≡ Some f → reading f.bytes ≡ r
     → explained_of_frame w ticket frame.Deliver ≡ explained_frame (node_at w f.to) r
 of_read w ticket f r at is =
-    ap (λ (o : Option InFlight). option_map_or (λ (f : InFlight). explained_frame (node_at w f.to) (reading f.bytes)) o Plain) at ∙ ap (explained_frame (node_at w f.to)) is
+    ap (λ (o : Option InFlight). option_map_or (λ (f : InFlight). explained_frame (node_at w f.to) (reading f.bytes)) o Plain) at
+    ∙ ap (explained_frame (node_at w f.to)) is

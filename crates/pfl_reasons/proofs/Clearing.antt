@@ -16,13 +16,16 @@ abbrev pub count_of : ℕ → ℕ → List Row → ℕ
 count_of creator bound rows = length (filter (is_named creator bound) (map (λ r. r.state.name) rows))
 
 -- one row after another
-pub count-one : (creator bound : ℕ) (rows : List Row) (r : Row) (rest : List Row) → rows ≡ r ∷ rest → (b : Bool) → b ≡ is_named creator bound r.state.name → count_of creator bound rows ≡ cond b 1 0 + count_of creator bound rest
-count-one creator bound rows r rest steps b is = ap (count_of creator bound) steps ∙ by (is_named creator bound r.state.name) ∙ ap (λ (c : Bool). cond c 1 0 + count_of creator bound rest) (sym is)
+pub count-one : (creator bound : ℕ) (rows : List Row) (r : Row) (rest : List Row) → rows ≡ r ∷ rest → (b : Bool)
+    → b ≡ is_named creator bound r.state.name → count_of creator bound rows ≡ cond b 1 0 + count_of creator bound rest
+count-one creator bound rows r rest steps b is = ap (count_of creator bound) steps ∙ by (is_named creator bound r.state.name)
+    ∙ ap (λ (c : Bool). cond c 1 0 + count_of creator bound rest) (sym is)
   where
     names : List StateName
     names = map (λ (q : Row). q.state.name) rest
 
-    by : (c : Bool) → length (cond c (r.state.name ∷ filter (is_named creator bound) names) (filter (is_named creator bound) names)) ≡ cond c 1 0 + length (filter (is_named creator bound) names)
+    by : (c : Bool) → length (cond c (r.state.name ∷ filter (is_named creator bound) names) (filter (is_named creator bound) names))
+        ≡ cond c 1 0 + length (filter (is_named creator bound) names)
     by true = omega arith
     by false = omega arith
 

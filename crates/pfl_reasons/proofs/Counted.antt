@@ -26,13 +26,17 @@ use Rattle.pfl_merge.specs.Merging.{merged}
 use Rattle.pfl_queue.specs.declared.Kind.TheVariants.{Update}
 use Rattle.pfl_queue.specs.declared.Mark.{Mark}
 use Rattle.pfl_queue.specs.Queues.{Queue, is_requested, kind_of, marked, requested}
-use Rattle.pfl_world.specs.desk.Changes.{ask, changed, count_bad, count_freed, count_lost, count_stale, forgotten, freed, is_held, is_untold, lost, mark, not_waiting, push_if, put_state, released, without_held}
+use Rattle.pfl_world.specs.desk.Changes.{ask, changed, count_bad, count_freed, count_lost, count_stale, forgotten, freed, is_held, is_unannounced}
+use Rattle.pfl_world.specs.desk.Changes.{lost, mark, not_waiting, push_if, put_state, released, without_held}
 use Rattle.pfl_world.specs.desk.declared.counters.Counters.{Counters}
 use Rattle.pfl_world.specs.desk.Nodes.{Node, timeout_at}
-use Rattle.pfl_world.specs.receive.Receiving.{ack_taken, bulk_taken, cleared_names, delete_taken, has_states, imported, insert_taken, is_delete, is_known, is_not_given, is_partly_told, merge_taken, merged_into, of_state, of_update, request_taken, state_answered, status_taken, taken}
+use Rattle.pfl_world.specs.receive.Receiving.{ack_taken, bulk_taken, cleared_names, delete_taken, has_states, imported, insert_taken, is_delete}
+use Rattle.pfl_world.specs.receive.Receiving.{is_known, is_not_given, is_partly_announced, merge_taken, merged_into, of_state, of_update}
+use Rattle.pfl_world.specs.receive.Receiving.{request_taken, state_answered, status_taken, taken}
 use Rattle.pfl_world.specs.table.Tables.{by_stack, by_wire}
 use Rattle.pfl_reasons.specs.Laws.{RecordsAreCountedSo}
-use Rattle.pfl_reasons.specs.Records.{CountedAsMany, CountedSo, IsQueued, ack_fate, answer_fate, delete_fate, import_fate, merge_fate, record_fate, request_fate, short_fate, status_fate, update_fate}
+use Rattle.pfl_reasons.specs.Records.{CountedAsMany, CountedSo, IsQueued, ack_fate, answer_fate, delete_fate, import_fate, merge_fate, record_fate}
+use Rattle.pfl_reasons.specs.Records.{request_fate, short_fate, status_fate, update_fate}
 use Rattle.pfl_reasons.specs.declared.record_fate.BadRecord.TheVariants as bad
 use Rattle.pfl_reasons.specs.declared.record_fate.RecordFate.TheVariants as fate
 use Rattle.pfl_reasons.specs.declared.record_fate.RecordFate.TheVariants.{Bad, Imported, Acknowledged, Nothing}
@@ -79,7 +83,7 @@ changed-counts : (n : Node) (s : State) → (changed n s).counters ≡ n.counter
 unfolding changed
 changed-counts n s =
     one_of s.no_sync _ _ n.counters refl
-    (one_of (is_untold (kind_of n.queue s.name)) _ _ n.counters refl (one_of (is_tcp s.wire.proto) _ _ n.counters refl refl))
+    (one_of (is_unannounced (kind_of n.queue s.name)) _ _ n.counters refl (one_of (is_tcp s.wire.proto) _ _ n.counters refl refl))
 
 -- ---- by the kind of the record
 
@@ -103,7 +107,8 @@ module _ (n : Node) (name : StateName) (last : ℕ) (after : Node) (still : Coun
 insert-counted : (n : Node) (b : Bool) (r : StateRecord) (ack : Bool) → CountedSo n (insert_taken n b r ack) r.name (import_fate n b r)
 insert-counted n b r ack =
     by_faults n r.name (imported n b r).last _ (either n ack _ _ (refl, refl) (refl, refl))
-    (is_known n r.name) (is_not_given n r.name) (is_delete (kind_of n.queue r.name)) (nat_le n.limits.states (maps.len n.states)) (by_wire n.states r.keys.wire) (by_stack n.states r.keys.stack)
+    (is_known n r.name) (is_not_given n r.name) (is_delete (kind_of n.queue r.name)) (nat_le n.limits.states (maps.len n.states))
+    (by_wire n.states r.keys.wire) (by_stack n.states r.keys.stack)
 
 -- what a merge makes of a node that has counted as many
 into-counted : (n m : Node) (x : Merged) → CountedAsMany n m → CountedSo n (merged_into m x) x.state.name (fate.Merged x.stale_src x.stale_dst x.state.last)
@@ -122,10 +127,13 @@ into-counted n m x still = by (x.stale_src || x.stale_dst)
 merge-counted : (n : Node) (s : State) (r : Received) → CountedSo n (merge_taken n s r) s.name (merge_fate n s r)
 merge-counted n s r = into-counted n (lost n s.name) (merged s r (timeout_at n s.rule r.class) n.clock) (lost-still n s.name)
 
-update-counted : (n : Node) (b : Bool) (r : StateRecord) → CountedSo n (option_map_or (λ (s : State). merge_taken n s (of_state r)) (maps.get n.states r.name) (insert_taken n b r false)) r.name (update_fate n b r)
+update-counted : (n : Node) (b : Bool) (r : StateRecord)
+    → CountedSo n (option_map_or (λ (s : State). merge_taken n s (of_state r)) (maps.get n.states r.name)
+    (insert_taken n b r false)) r.name (update_fate n b r)
 update-counted n b r = by (maps.get n.states r.name)
   where
-    by : (o : Option State) → CountedSo n (option_map_or (λ (s : State). merge_taken n s (of_state r)) o (insert_taken n b r false)) r.name (option_map_or (λ (s : State). merge_fate n s (of_state r)) o (import_fate n b r))
+    by : (o : Option State) → CountedSo n (option_map_or (λ (s : State). merge_taken n s (of_state r)) o (insert_taken n b r false)) r.name
+        (option_map_or (λ (s : State). merge_fate n s (of_state r)) o (import_fate n b r))
     by None = insert-counted n b r false
     by (Some s) = merge-counted n s (of_state r)
 
@@ -139,10 +147,12 @@ asked q name = by (is_requested q name) refl
         list_any-append (is_name name) q.requests (name ∷ [])
         ∙ (ap (λ (b : Bool). list_any (is_name name) q.requests || (b || false)) (is_name-itself name name refl) ∙ or-true (list_any (is_name name) q.requests))
 
-short-counted : (n : Node) (u : UpdateRecord) → CountedSo n (option_map_or (λ (s : State). merge_taken n s (of_update u)) (maps.get n.states u.name) (ask n u.name)) u.name (short_fate n u)
+short-counted : (n : Node) (u : UpdateRecord)
+    → CountedSo n (option_map_or (λ (s : State). merge_taken n s (of_update u)) (maps.get n.states u.name) (ask n u.name)) u.name (short_fate n u)
 short-counted n u = by (maps.get n.states u.name)
   where
-    by : (o : Option State) → CountedSo n (option_map_or (λ (s : State). merge_taken n s (of_update u)) o (ask n u.name)) u.name (option_map_or (λ (s : State). merge_fate n s (of_update u)) o fate.Asked)
+    by : (o : Option State) → CountedSo n (option_map_or (λ (s : State). merge_taken n s (of_update u)) o (ask n u.name)) u.name
+        (option_map_or (λ (s : State). merge_fate n s (of_update u)) o fate.Asked)
     by None = ((refl, refl), asked n.queue u.name)
     by (Some s) = merge-counted n s (of_update u)
 
@@ -153,13 +163,15 @@ ack-counted n name = by (maps.get n.states name)
     waiting true m k = k
     waiting false m k = refl
 
-    by : (o : Option State) → CountedSo n (option_map_or (ack_taken n) o n) name (option_map_or (λ (s : State). cond s.ack_wanted Acknowledged Nothing) o Nothing)
+    by : (o : Option State) → CountedSo n (option_map_or (ack_taken n) o n) name
+        (option_map_or (λ (s : State). cond s.ack_wanted Acknowledged Nothing) o Nothing)
     by None = refl
     by (Some s) = waiting s.ack_wanted (released n s.name) (released-still n s.name)
 
 -- what is marked is on its queue
 marked-kind : (q : Queue) (name : StateName) → kind_of (marked q name Update) name ≡ Some Update
-marked-kind q name = ap (option_map (λ (m : Mark). m.kind)) (get-set_at_same names_total names_exact q.marks name (Some (record { name = name; kind = Update; number = q.next })))
+marked-kind q name = ap (option_map (λ (m : Mark). m.kind))
+    (get-set_at_same names_total names_exact q.marks name (Some (record { name = name; kind = Update; number = q.next })))
 
 request-counted : (n : Node) (name : StateName) → CountedSo n (request_taken n name) name (request_fate n name)
 request-counted n name = by (is_name no_name name) (maps.get n.states name) refl
@@ -169,13 +181,15 @@ request-counted n name = by (is_name no_name name) (maps.get n.states name) refl
     answered false m k queued = refl
 
     queued : (s : State) → maps.get n.states name ≡ Some s → IsQueued n name (push_if true (mark n s.name Update))
-    queued s at = subst (λ (o : Option State). IfSome o (λ t. kind_of (marked n.queue s.name Update) t.name ≡ Some Update)) (sym at) (marked-kind n.queue s.name)
+    queued s at = subst (λ (o : Option State). IfSome o (λ t. kind_of (marked n.queue s.name Update) t.name ≡ Some Update)) (sym at)
+        (marked-kind n.queue s.name)
 
     by : (all : Bool) (o : Option State) → maps.get n.states name ≡ o
-        → CountedSo n (cond all (bulk_taken n) (option_map_or (state_answered n) o (count_bad n))) name (cond all (fate.Bulk (has_states n)) (option_map_or (answer_fate n) o (Bad bad.Unknown)))
+        → CountedSo n (cond all (bulk_taken n) (option_map_or (state_answered n) o (count_bad n))) name
+        (cond all (fate.Bulk (has_states n)) (option_map_or (answer_fate n) o (Bad bad.Unknown)))
     by true o at = (refl, refl)
     by false None at = refl
-    by false (Some s) at = answered (not s.no_sync && is_partly_told (kind_of n.queue s.name)) _ (refl, refl) (queued s at)
+    by false (Some s) at = answered (not s.no_sync && is_partly_announced (kind_of n.queue s.name)) _ (refl, refl) (queued s at)
 
 -- what is forgotten is gone
 gone : (n : Node) (name : StateName) → maps.get (forgotten n name).states name ≡ None
@@ -192,7 +206,8 @@ delete-counted n name = by (is_known n name)
 status-counted : (n : Node) (status : BulkStatus) → CountedSo n (status_taken n status) no_name (status_fate n)
 status-counted n status = by n.client refl status
   where
-    by : (c : BulkClient) → n.client ≡ c → (status : BulkStatus) → CountedSo n (record n { client = after_status c status n.clock }) no_name (cond (is_waiting c) fate.Heard Nothing)
+    by : (c : BulkClient) → n.client ≡ c → (status : BulkStatus)
+        → CountedSo n (record n { client = after_status c status n.clock }) no_name (cond (is_waiting c) fate.Heard Nothing)
     by client.Idle is Start = ap (λ (c : BulkClient). record n { client = c }) (sym is)
     by client.Idle is Finish = ap (λ (c : BulkClient). record n { client = c }) (sym is)
     by (client.Waiting tries asked) is status = (refl, refl)

@@ -1,5 +1,6 @@
 -- Frames that the events of a run send, counted.
-use Rattle.std.specs.Prelude.{◌≡◌, ◌≤◌, ◌<◌, ◌+◌, ◌-◌, ◌==◌, ℕ, suc, Bool, true, false, nat_lt, List, [], ◌∷◌, length, filter, drop, slice_get, take, Option, Some, None, is_some, IsTrue, Result, Ok, Err, if◌then◌else◌, refl}
+use Rattle.std.specs.Prelude.{◌≡◌, ◌≤◌, ◌<◌, ◌+◌, ◌-◌, ◌==◌, ℕ, suc, Bool, true, false, nat_lt, List, [], ◌∷◌, length, filter, drop, slice_get, take}
+use Rattle.std.specs.Prelude.{Option, Some, None, is_some, IsTrue, Result, Ok, Err, if◌then◌else◌, refl}
 use Rattle.std.specs.List.{fold}
 use Rattle.std.specs.Option.{option_and_then}
 use Rattle.std.proofs.Common.{cond, ◌∙◌, ap, sym, subst, arith}
@@ -171,7 +172,8 @@ left-from es i e is = drop_more es i e (slice_get_within es i e is) ∙ ap (λ (
 
 -- one event more is counted
 counted-more : (es : List Event) (i : ℕ) (e : Event) → slice_get es i ≡ Some e → senders (take (i + 1) es) ≡ senders (take i es) + cond (sends e) 1 0
-counted-more es i e is = length-filter_more sends es i e (slice_get_within es i e is) ∙ ap (λ (x : Event). senders (take i es) + cond (sends x) 1 0) (get_or_from_slice_get es i e e is)
+counted-more es i e is = length-filter_more sends es i e (slice_get_within es i e is)
+    ∙ ap (λ (x : Event). senders (take i es) + cond (sends x) 1 0) (get_or_from_slice_get es i e e is)
 
 pub counted-one : (es : List Event) (i : ℕ) (e : Event) → slice_get es i ≡ Some e → sends e ≡ true → senders (take (i + 1) es) ≡ senders (take i es) + 1
 counted-one es i e is sender = counted-more es i e is ∙ ap (λ (b : Bool). senders (take i es) + cond b 1 0) sender
@@ -187,11 +189,14 @@ more n some = grind (arith, nat_tests)
 pub place-here : (k n i : ℕ) (es : List Event) (e : Event) → slice_get es i ≡ Some e → sends e ≡ true → n ≡ 0 → nth_sender k n (drop i es) ≡ Some k
 place-here k n i es e is sender zero = ap (nth_sender k n) (left-from es i e is) ∙ nth-here k n e (drop (i + 1) es) sender (eq-eqb n 0 zero)
 
-pub place-later : (k n i m : ℕ) (es : List Event) (e : Event) → slice_get es i ≡ Some e → sends e ≡ true → (n ≡ 0 → ⊥) → m ≡ n - 1 → nth_sender k n (drop i es) ≡ nth_sender (k + 1) m (drop (i + 1) es)
+pub place-later : (k n i m : ℕ) (es : List Event) (e : Event) → slice_get es i ≡ Some e → sends e ≡ true → (n ≡ 0 → ⊥) → m ≡ n - 1
+    → nth_sender k n (drop i es) ≡ nth_sender (k + 1) m (drop (i + 1) es)
 place-later k n i m es e is sender some less =
-    ap (nth_sender k n) (left-from es i e is) ∙ nth-later k n e (drop (i + 1) es) sender (more n some) ∙ ap (λ (x : ℕ). nth_sender (k + 1) x (drop (i + 1) es)) (sym less)
+    ap (nth_sender k n) (left-from es i e is) ∙ nth-later k n e (drop (i + 1) es) sender (more n some)
+    ∙ ap (λ (x : ℕ). nth_sender (k + 1) x (drop (i + 1) es)) (sym less)
 
-pub place-quiet : (k n i m : ℕ) (es : List Event) (e : Event) → slice_get es i ≡ Some e → sends e ≡ false → m ≡ n → nth_sender k n (drop i es) ≡ nth_sender (k + 1) m (drop (i + 1) es)
+pub place-quiet : (k n i m : ℕ) (es : List Event) (e : Event) → slice_get es i ≡ Some e → sends e ≡ false → m ≡ n
+    → nth_sender k n (drop i es) ≡ nth_sender (k + 1) m (drop (i + 1) es)
 place-quiet k n i m es e is quiet same =
     ap (nth_sender k n) (left-from es i e is) ∙ nth-quiet k n e (drop (i + 1) es) quiet ∙ ap (λ (x : ℕ). nth_sender (k + 1) x (drop (i + 1) es)) (sym same)
 

@@ -26,10 +26,12 @@ passes p (y ∷ ys) x is = elim (p y) as (λ b. p y ≡ b → cond b (Some y) (f
 -- of rows whose states pass a test nowhere
 rows-past : (n : Node) (rows : List Row) → find (is_later n) (map (λ r. r.state) rows) ≡ None → AllByRecursion (λ r. IsPast n r.state.last) rows
 rows-past n [] none = tt
-rows-past n (r ∷ rows) none = elim (is_later n r.state) as (λ b. is_later n r.state ≡ b → cond b (Some r.state) (find (is_later n) (map (λ r. r.state) rows)) ≡ None → IsPast n r.state.last × AllByRecursion (λ r. IsPast n r.state.last) rows) [
-  | true ↦ λ e none. absurd (cc)
-  | false ↦ λ e none. (grind (arith, nat_tests), rows-past n rows none)
-] refl none
+rows-past n (r ∷ rows) none = elim (is_later n r.state) as (λ b. is_later n r.state ≡ b
+    → cond b (Some r.state) (find (is_later n) (map (λ r. r.state) rows)) ≡ None → IsPast n r.state.last
+    × AllByRecursion (λ r. IsPast n r.state.last) rows) [
+      | true ↦ λ e none. absurd (cc)
+      | false ↦ λ e none. (grind (arith, nat_tests), rows-past n rows none)
+    ] refl none
 
 none-later : (n : Node) → AreParts n → find (is_later n) (maps.values n.states) ≡ None
 none-later n are = by (find (is_later n) (maps.values n.states)) refl
@@ -54,7 +56,8 @@ rows-states states n [] = refl
 rows-states states n (r ∷ rows) = ap (λ es. expiry_of states n r.state ∷ es) (rows-states states n rows)
 
 -- where no row is left, all states are listed
-pub all-listed : (n : Node) (states : ℕ) (list : List Expiry) (rows left : List Row) → states ≡ maps.len n.states → map (λ r. r.state) rows ≡ maps.values n.states → left ≡ []
+pub all-listed : (n : Node) (states : ℕ) (list : List Expiry) (rows left : List Row) → states ≡ maps.len n.states
+    → map (λ r. r.state) rows ≡ maps.values n.states → left ≡ []
     → list ++ rows_expiries states n left ≡ rows_expiries states n rows → list ≡ expiries n
 unfolding expiries
 all-listed n states list rows left many all none listed =

@@ -23,12 +23,14 @@ use Rattle.pfl_reasons.specs.declared.record_fate.RecordFate.{RecordFate}
 use Rattle.pfl_reasons.specs.declared.record_fate.TakenRecord.{TakenRecord}
 
 -- the node has taken the records before these, from a peer whose rules have the checksum
-pub record AreFated {M : Type 0} (old w : World) (to : NodeId) (print : List ℕ) (all left : List Message) (list : List TakenRecord) (tape : List (WorldEdit M)) : Type 0 where
+pub record AreFated {M : Type 0} (old w : World) (to : NodeId) (print : List ℕ) (all left : List Message) (list : List TakenRecord)
+    (tape : List (WorldEdit M)) : Type 0 where
   pub leads_back : WorldLeadsBack tape old w
   pub same : has_print (node_at w to) print ≡ has_print (node_at old to) print
   pub rest : fates (node_at old to) (has_print (node_at old to) print) all ≡ list ++ fates (node_at w to) (has_print (node_at old to) print) left
 
-fates-first : (n : Node) (b : Bool) (m : Message) (ms : List Message) → fates n b (m ∷ ms) ≡ record { message = m; fate = record_fate n b m } ∷ fates (taken n b m) b ms
+fates-first : (n : Node) (b : Bool) (m : Message) (ms : List Message)
+    → fates n b (m ∷ ms) ≡ record { message = m; fate = record_fate n b m } ∷ fates (taken n b m) b ms
 unfolding fates
 fates-first n b m ms = refl
 
@@ -45,7 +47,8 @@ pub fated-first : {M : Type 0} (old : World) (to : NodeId) (print : List ℕ) (a
 fated-first old to print all = record { leads_back = LeadsBack-none Finds IsWorld put_back old; same = refl; rest = refl }
 
 -- after one more
-module _ {M : Type 0} (leave : RecordsLeaveTheRest) (old w : World) (to : NodeId) (print : List ℕ) (all left : List Message) (list : List TakenRecord) (tape : List (WorldEdit M)) (so : AreFated old w to print all left list tape)
+module _ {M : Type 0} (leave : RecordsLeaveTheRest) (old w : World) (to : NodeId) (print : List ℕ) (all left : List Message)
+    (list : List TakenRecord) (tape : List (WorldEdit M)) (so : AreFated old w to print all left list tape)
     (m : Message) (rest : List Message) (steps : left ≡ m ∷ rest) (after : World) (made : after ≡ with_node w to (message_taken (node_at w to) m print)) where
   abbrev same_rules : Bool
   same_rules = has_print (node_at old to) print
@@ -86,7 +89,8 @@ module _ {M : Type 0} (leave : RecordsLeaveTheRest) (old w : World) (to : NodeId
   }
 
 -- after the last
-pub fated-all : {M : Type 0} (old w : World) (to : NodeId) (print : List ℕ) (all left : List Message) (list : List TakenRecord) (tape : List (WorldEdit M)) → AreFated old w to print all left list tape
+pub fated-all : {M : Type 0} (old w : World) (to : NodeId) (print : List ℕ) (all left : List Message) (list : List TakenRecord)
+    (tape : List (WorldEdit M)) → AreFated old w to print all left list tape
     → left ≡ [] → list ≡ fates (node_at old to) (has_print (node_at old to) print) all
 fated-all old w to print all left list tape so none =
     sym (append-nil list)

@@ -16,7 +16,8 @@ use Rattle.pfl_reasons.specs.declared.packet_reason.PacketReason.TheVariants.{By
 use Rattle.pfl_reasons.specs.Packets.{by_found, by_tracked, judged_reason, packet_reason, tested}
 
 -- what the table of the node found
-pub found-is : (n lent : Node) (states : States) (k : Key) (dir : Dir) (p : Packet) (given : Option State) → given ≡ found states k dir → states ≡ lent.states → lent ≡ n → k ≡ key p dir
+pub found-is : (n lent : Node) (states : States) (k : Key) (dir : Dir) (p : Packet) (given : Option State) → given ≡ found states k dir
+    → states ≡ lent.states → lent ≡ n → k ≡ key p dir
     → given ≡ found n.states (key p dir) dir
 found-is n lent states k dir p given is of node of_packet = is ∙ λ i. found ((of ∙ ap (λ (m : Node). m.states) node) i) (of_packet i) dir
 

@@ -16,7 +16,8 @@ use Rattle.pfl_reasons.specs.Packets.{judged_reason, rule_reason, start_reason}
 pub verdict-is : (rules given : Rules) (dir : Dir) (p : Packet) (v : Verdict) → v ≡ verdict given.list p dir → given ≡ rules → v ≡ verdict rules.list p dir
 verdict-is rules given dir p v is same = is ∙ ap (λ (r : Rules). verdict r.list p dir) same
 
-pub rule-is : (rules given : Rules) (number : ℕ) (found o : Option Rule) → found ≡ slice_get given.list number → given ≡ rules → found ≡ o → slice_get rules.list number ≡ o
+pub rule-is : (rules given : Rules) (number : ℕ) (found o : Option Rule) → found ≡ slice_get given.list number → given ≡ rules → found ≡ o
+    → slice_get rules.list number ≡ o
 rule-is rules given number found o is same at = ap (λ (r : Rules). slice_get r.list number) (sym same) ∙ (sym is ∙ at)
 
 module _ (n : Node) (dir : Dir) (p : Packet) (v : Verdict) (is : v ≡ verdict n.rules.list p dir) where
@@ -40,6 +41,7 @@ module _ (n : Node) (dir : Dir) (p : Packet) (v : Verdict) (is : v ≡ verdict n
     unfolding by_pass
     blocked f = sym (matched ∙ ap by_pass f)
 
-    pub passed : (o : Option Rule) (made : Judged) → v.pass ≡ true → slice_get n.rules.list number ≡ o → made ≡ option_map_or (start_reason n dir p number) o Unmatched → made ≡ judged_reason n dir p
+    pub passed : (o : Option Rule) (made : Judged) → v.pass ≡ true → slice_get n.rules.list number ≡ o
+        → made ≡ option_map_or (start_reason n dir p number) o Unmatched → made ≡ judged_reason n dir p
     unfolding by_pass
     passed o made t there is = is ∙ sym (matched ∙ (ap by_pass t ∙ ap (λ (r : Option Rule). option_map_or (start_reason n dir p number) r Unmatched) there))

@@ -23,13 +23,15 @@ own-node : (w : World) (id : NodeId) (n : Node) → node_at (with_node w id n) i
 own-node w A n = refl
 own-node w B n = refl
 
-accepted-world : (w : World) (id : NodeId) (name : StateName) (r : Option Refusal) (s : Stepped) → from_node w id (unless_refused r (node_after (node_at w id) (own.Kill name))) ≡ Ok s
+accepted-world : (w : World) (id : NodeId) (name : StateName) (r : Option Refusal) (s : Stepped)
+    → from_node w id (unless_refused r (node_after (node_at w id) (own.Kill name))) ≡ Ok s
     → s.world ≡ with_node w id (killed (node_at w id) name)
 accepted-world w id name None s is = let same : stepped_at w id (node_after (node_at w id) (own.Kill name)) ≡ s = cc in sym (ap (λ (t : Stepped). t.world) same)
 accepted-world w id name (Some r) s is = absurd (cc)
 
 -- the name is that of a state of the node
-pub killed-node : (w : World) (id : NodeId) (name : StateName) (closed : State) (s : Stepped) → maps.get (node_at w id).states closed.name ≡ Some closed → name ≡ closed.name
+pub killed-node : (w : World) (id : NodeId) (name : StateName) (closed : State) (s : Stepped)
+    → maps.get (node_at w id).states closed.name ≡ Some closed → name ≡ closed.name
     → step w (event.At id (own.Kill name)) ≡ Ok s → node_at s.world id ≡ deleted (node_at w id) closed
 unfolding step
 killed-node w id name closed s at named is =

@@ -98,22 +98,27 @@ goes_out false true counted s t is = absurd (cc)
 goes_out false false true s t is = absurd (cc)
 goes_out false false false s t is = (cc, refl)
 
-has_room : (full counted : Bool) (s t : Stepped) → unless_refused (refused_by ((full, LinkFull) ∷ (counted, CountFull) ∷ [])) s ≡ Ok t → (s ≡ t) × (counted ≡ false)
+has_room : (full counted : Bool) (s t : Stepped) → unless_refused (refused_by ((full, LinkFull) ∷ (counted, CountFull) ∷ [])) s ≡ Ok t
+    → (s ≡ t) × (counted ≡ false)
 has_room true counted s t is = absurd (cc)
 has_room false true s t is = absurd (cc)
 has_room false false s t is = (cc, refl)
 
-found : (o : Option InFlight) (done : InFlight → Result Stepped Refusal) (s : Stepped) → option_map_or done o (Err NoSuchFrame) ≡ Ok s → (f : InFlight) × (o ≡ Some f) × (done f ≡ Ok s)
+found : (o : Option InFlight) (done : InFlight → Result Stepped Refusal) (s : Stepped) → option_map_or done o (Err NoSuchFrame) ≡ Ok s
+    → (f : InFlight) × (o ≡ Some f) × (done f ≡ Ok s)
 found None done s is = absurd (cc)
 found (Some f) done s is = (f, refl, is)
 
 -- what came of a frame that was read, or not
-came : (w : World) (to : NodeId) (n : Node) (r : Result Frame BadFrame) (s : Stepped) → read_taken w to n r ≡ Ok s → (s.world.link ≡ w.link) × (s.outcome ≡ read_outcome r)
+came : (w : World) (to : NodeId) (n : Node) (r : Result Frame BadFrame) (s : Stepped) → read_taken w to n r ≡ Ok s
+    → (s.world.link ≡ w.link) × (s.outcome ≡ read_outcome r)
 came w to n (Ok f) s is =
-    let same = answered (refused_by (full_tests (receive_points n f))) (record { world = with_node w to (received n f); outcome = outcome.Taken (length (records_of f)) }) s is in
+    let same = answered (refused_by (full_tests (receive_points n f)))
+    (record { world = with_node w to (received n f); outcome = outcome.Taken (length (records_of f)) }) s is in
     (ap (λ (t : Stepped). t.world.link) (sym same), ap (λ (t : Stepped). t.outcome) (sym same))
 came w to n (Err why) s is =
-    let same = answered (refused_by (full_tests (count_broken n ∷ []))) (record { world = with_node w to (count_broken n); outcome = outcome.Broken why }) s is in
+    let same = answered (refused_by (full_tests (count_broken n ∷ [])))
+    (record { world = with_node w to (count_broken n); outcome = outcome.Broken why }) s is in
     (ap (λ (t : Stepped). t.world.link) (sym same), ap (λ (t : Stepped). t.outcome) (sym same))
 
 of_frame : (w : World) (ticket : ℕ) (e : FrameEvent) (s : Stepped) → frame_event w ticket e ≡ Ok s → Befalls w.link ticket e s
@@ -129,9 +134,11 @@ of_frame w ticket frame.Lose s is =
     record { frame = at.0; at = at.1; link = ap (λ (t : Stepped). t.world.link) (sym same); outcome = ap (λ (t : Stepped). t.outcome) (sym same); room = tt }
 of_frame w ticket frame.Repeat s is =
     let at = found (maps.get w.link.frames ticket)
-    (λ f. step_unless ((is_full w.link, LinkFull) ∷ (is_counted_out w.link, CountFull) ∷ []) (with_link w (sent w.link f)) (outcome.Sent w.link.next (length f.bytes))) s is in
+    (λ f. step_unless ((is_full w.link, LinkFull) ∷ (is_counted_out w.link, CountFull) ∷ []) (with_link w (sent w.link f))
+    (outcome.Sent w.link.next (length f.bytes))) s is in
     let f = at.0 in
-    let same = has_room (is_full w.link) (is_counted_out w.link) (record { world = with_link w (sent w.link f); outcome = outcome.Sent w.link.next (length f.bytes) }) s at.2 in
+    let same = has_room (is_full w.link) (is_counted_out w.link)
+    (record { world = with_link w (sent w.link f); outcome = outcome.Sent w.link.next (length f.bytes) }) s at.2 in
     record {
       frame = f;
       at = at.1;
@@ -140,9 +147,13 @@ of_frame w ticket frame.Repeat s is =
       room = counted w.link same.1;
     }
 of_frame w ticket (frame.Cut len) s is =
-    let at = found (maps.get w.link.frames ticket) (λ f. step_unless [] (with_link w (with_frame w.link ticket (cut_to f len))) (outcome.CutTo (length (cut_to f len).bytes))) s is in
+    let at = found (maps.get w.link.frames ticket)
+    (λ f. step_unless [] (with_link w (with_frame w.link ticket (cut_to f len))) (outcome.CutTo (length (cut_to f len).bytes))) s is in
     let f = at.0 in
-    let same = answered None (record { world = with_link w (with_frame w.link ticket (cut_to f len)); outcome = outcome.CutTo (length (cut_to f len).bytes) }) s at.2 in
+    let same = answered None (record {
+      world = with_link w (with_frame w.link ticket (cut_to f len));
+      outcome = outcome.CutTo (length (cut_to f len).bytes);
+    }) s at.2 in
     record { frame = f; at = at.1; link = ap (λ (t : Stepped). t.world.link) (sym same); outcome = ap (λ (t : Stepped). t.outcome) (sym same); room = tt }
 
 pub moves : (w : World) (e : Event) (s : Stepped) → step w e ≡ Ok s → Moves w.link e s
@@ -150,12 +161,24 @@ unfolding step flush_step restart_step
 moves w (event.At id e) s is = at_node w id (node_step (node_at w id) e) s is
 moves w (event.Flush id) s is =
     let same = goes_out (pending (node_at w id).queue == 0) (is_full w.link) (is_counted_out w.link)
-    (record { world = with_link (with_node w id (flushed (node_at w id))) (sent w.link (sent_frame w id)); outcome = outcome.Sent w.link.next (length (sent_frame w id).bytes) }) s is in
-    (sent_frame w id, record { link = ap (λ (t : Stepped). t.world.link) (sym same.0); outcome = ap (λ (t : Stepped). t.outcome) (sym same.0); room = counted w.link same.1 })
+    (record {
+      world = with_link (with_node w id (flushed (node_at w id))) (sent w.link (sent_frame w id));
+      outcome = outcome.Sent w.link.next (length (sent_frame w id).bytes);
+    }) s is in (
+      sent_frame w id,
+      record {
+        link = ap (λ (t : Stepped). t.world.link) (sym same.0);
+        outcome = ap (λ (t : Stepped). t.outcome) (sym same.0);
+        room = counted w.link same.1;
+      },
+    )
 moves w (event.Of ticket e) s is = of_frame w ticket e s is
 moves w (event.Restart id) s is =
     let same = answered (refused_by ((nat_le greatest w.next_boot, CountFull) ∷ []))
-    (record { world = record (with_node w id (restarted (node_at w id) w.next_boot)) { next_boot = w.next_boot + 1 }; outcome = outcome.Boot w.next_boot }) s is in
+    (record {
+      world = record (with_node w id (restarted (node_at w id) w.next_boot)) { next_boot = w.next_boot + 1 };
+      outcome = outcome.Boot w.next_boot;
+    }) s is in
     subst (Stays w.link) same (record { link = refl; outcome = λ ticket. refl })
 
 -- ---- it sends a frame, or does not
@@ -202,7 +225,8 @@ turns l (event.Of ticket frame.Deliver) s m = inl (record {
   outcome = λ t. ap (is_sent t) m.outcome ∙ read-unsent (reading m.frame.bytes) t;
 })
 turns l (event.Of ticket frame.Lose) s m = inl (record { sends = refl; next = ap (λ (k : Link). k.next) m.link; outcome = λ t. ap (is_sent t) m.outcome })
-turns l (event.Of ticket frame.Repeat) s m = inr (sender l (event.Of ticket frame.Repeat) m.frame s refl (record { link = m.link; outcome = m.outcome; room = m.room }))
+turns l (event.Of ticket frame.Repeat) s m =
+    inr (sender l (event.Of ticket frame.Repeat) m.frame s refl (record { link = m.link; outcome = m.outcome; room = m.room }))
 turns l (event.Of ticket (frame.Cut len)) s m = inl (record { sends = refl; next = ap (λ (k : Link). k.next) m.link; outcome = λ t. ap (is_sent t) m.outcome })
 turns l (event.Restart id) s m = inl (quiet l (event.Restart id) s refl m)
 
@@ -250,7 +274,8 @@ with-given l ticket f g there are = record {
   countable = are.countable;
 }
 
-frame-given : (l : Link) (ticket : ℕ) (f : InFlight) (e : FrameEvent) → maps.get l.frames ticket ≡ Some f → HasNumber l e → AreGiven l → AreGiven (link_after l ticket f e)
+frame-given : (l : Link) (ticket : ℕ) (f : InFlight) (e : FrameEvent) → maps.get l.frames ticket ≡ Some f → HasNumber l e → AreGiven l
+    → AreGiven (link_after l ticket f e)
 frame-given l ticket f frame.Deliver at room are = without-given l ticket are
 frame-given l ticket f frame.Lose at room are = without-given l ticket are
 frame-given l ticket f frame.Repeat at room are = sent-given l f room are
@@ -278,13 +303,15 @@ not_yet l (event.Of of e) s ticket m are later = elim (of == ticket) as (λ b. (
 other-sent : (l : Link) (f : InFlight) (ticket : ℕ) → ticket < l.next → maps.get (sent l f).frames ticket ≡ maps.get l.frames ticket
 other-sent l f ticket old = get-set_at_other nat_cmp_total exact_unsigned l.frames l.next (Some f) ticket (λ is. absurd (omega arith))
 
-other-after : (l : Link) (of : ℕ) (f : InFlight) (e : FrameEvent) (ticket : ℕ) → ticket < l.next → ticket ≢ of → maps.get (link_after l of f e).frames ticket ≡ maps.get l.frames ticket
+other-after : (l : Link) (of : ℕ) (f : InFlight) (e : FrameEvent) (ticket : ℕ) → ticket < l.next → ticket ≢ of
+    → maps.get (link_after l of f e).frames ticket ≡ maps.get l.frames ticket
 other-after l of f frame.Deliver ticket old apart = get-set_at_other nat_cmp_total exact_unsigned l.frames of None ticket apart
 other-after l of f frame.Lose ticket old apart = get-set_at_other nat_cmp_total exact_unsigned l.frames of None ticket apart
 other-after l of f frame.Repeat ticket old apart = other-sent l f ticket old
 other-after l of f (frame.Cut len) ticket old apart = get-set_at_other nat_cmp_total exact_unsigned l.frames of (Some (cut_to f len)) ticket apart
 
-pub left-alone : (l : Link) (e : Event) (s : Stepped) (ticket : ℕ) → Moves l e s → ticket < l.next → befalls ticket e ≡ false → maps.get s.world.link.frames ticket ≡ maps.get l.frames ticket
+pub left-alone : (l : Link) (e : Event) (s : Stepped) (ticket : ℕ) → Moves l e s → ticket < l.next → befalls ticket e ≡ false
+    → maps.get s.world.link.frames ticket ≡ maps.get l.frames ticket
 left-alone l (event.At id e) s ticket m old apart = ap (λ (k : Link). maps.get k.frames ticket) m.link
 left-alone l (event.Flush id) s ticket m old apart = ap (λ (k : Link). maps.get k.frames ticket) m.1.link ∙ other-sent l m.0 ticket old
 left-alone l (event.Restart id) s ticket m old apart = ap (λ (k : Link). maps.get k.frames ticket) m.link
@@ -299,5 +326,7 @@ what_is_left l ticket f frame.Lose g at old is = let gone = get-set_at_same nat_
 what_is_left l ticket f frame.Repeat g at old is = let there = other-sent l f ticket old in cc
 what_is_left l ticket f (frame.Cut len) g at old is = let there = get-set_at_same nat_cmp_total exact_unsigned l.frames ticket (Some (cut_to f len)) in cc
 
-pub left-after : (l : Link) (ticket : ℕ) (e : FrameEvent) (s : Stepped) (m : Befalls l ticket e s) → AreGiven l → (g : InFlight) → maps.get s.world.link.frames ticket ≡ Some g → g ≡ left_of m.frame e
-left-after l ticket e s m are g is = what_is_left l ticket m.frame e g m.at (are.below ticket m.frame m.at) (ap (λ (k : Link). maps.get k.frames ticket) (sym m.link) ∙ is)
+pub left-after : (l : Link) (ticket : ℕ) (e : FrameEvent) (s : Stepped) (m : Befalls l ticket e s) → AreGiven l → (g : InFlight)
+    → maps.get s.world.link.frames ticket ≡ Some g → g ≡ left_of m.frame e
+left-after l ticket e s m are g is =
+    what_is_left l ticket m.frame e g m.at (are.below ticket m.frame m.at) (ap (λ (k : Link). maps.get k.frames ticket) (sym m.link) ∙ is)

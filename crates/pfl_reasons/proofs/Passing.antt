@@ -24,7 +24,8 @@ pub record IsPassing (ticket place : ℕ) (f : InFlight) (events : List Event) (
 all-bytes : (f : InFlight) → cut_to f (length f.bytes) ≡ f
 all-bytes f = ap (λ (bytes : List ℕ). record f { bytes = bytes }) (take-length f.bytes)
 
-pub passing-first : (ticket place : ℕ) (f : InFlight) (events : List Event) (steps : List FrameStep) (len : ℕ) → steps ≡ [] → len ≡ length f.bytes → ticket + 1 + senders (drop place events) ≤ greatest
+pub passing-first : (ticket place : ℕ) (f : InFlight) (events : List Event) (steps : List FrameStep) (len : ℕ) → steps ≡ []
+    → len ≡ length f.bytes → ticket + 1 + senders (drop place events) ≤ greatest
     → IsPassing ticket place f events place steps ticket len (ticket + 1)
 passing-first ticket place f events steps len none all few =
     let whole = ap (cut_to f) all ∙ all-bytes f in
@@ -40,41 +41,50 @@ listed-first None rest = refl
 listed-first (Some step) rest = refl
 
 -- one event more
-pub passing-next : (ticket place : ℕ) (f : InFlight) (events : List Event) (i : ℕ) (steps : List FrameStep) (t len next : ℕ) → IsPassing ticket place f events i steps t len next
+pub passing-next : (ticket place : ℕ) (f : InFlight) (events : List Event) (i : ℕ) (steps : List FrameStep) (t len next : ℕ)
+    → IsPassing ticket place f events i steps t len next
     → (e : Event) → slice_get events i ≡ Some e → (more : List FrameStep) (u less after : ℕ)
-    → more ≡ steps ++ option_to_list (step_of t next (i + 1) (cut_to f len) e) → u ≡ t → less ≤ len → cut_to f less ≡ left_after t (cut_to f len) e → after ≡ next_after next e
+    → more ≡ steps ++ option_to_list (step_of t next (i + 1) (cut_to f len) e) → u ≡ t → less ≤ len
+    → cut_to f less ≡ left_after t (cut_to f len) e → after ≡ next_after next e
     → IsPassing ticket place f events (i + 1) more u less after
 passing-next ticket place f events i steps t len next so e here more u less after pushed same fewer left on =
     let step = step_of ticket next (i + 1) (cut_to f len) e in
     let rest = steps_of ticket after (i + 1 + 1) (cut_to f less) (drop (i + 1) events) in
     let cut : drop i events ≡ e ∷ drop (i + 1) events = left-from events i e here in
     let left-then : cut_to f less ≡ left_after ticket (cut_to f len) e = left ∙ ap (λ (n : ℕ). left_after n (cut_to f len) e) so.same in
-    let rest-is : rest ≡ steps_of ticket (next_after next e) (i + 1 + 1) (left_after ticket (cut_to f len) e) (drop (i + 1) events) = λ j. steps_of ticket (on j) (i + 1 + 1) (left-then j) (drop (i + 1) events) in
-    let pushed-then : more ≡ steps ++ option_to_list step = pushed ∙ ap (λ (n : ℕ). steps ++ option_to_list (step_of n next (i + 1) (cut_to f len) e)) so.same in
+    let rest-is : rest ≡ steps_of ticket (next_after next e) (i + 1 + 1) (left_after ticket (cut_to f len) e) (drop (i + 1) events) =
+    λ j. steps_of ticket (on j) (i + 1 + 1) (left-then j) (drop (i + 1) events) in
+    let pushed-then : more ≡ steps ++ option_to_list step =
+    pushed ∙ ap (λ (n : ℕ). steps ++ option_to_list (step_of n next (i + 1) (cut_to f len) e)) so.same in
     let first = steps-first ticket next (i + 1) (cut_to f len) e (drop (i + 1) events) in
     record {
       listed =
           (λ j. pushed-then j ++ rest)
           ∙ append_assoc steps (option_to_list step) rest
-          ∙ ap (λ (xs : List FrameStep). steps ++ xs) (sym (listed-first step rest) ∙ ap (cons_option step) rest-is ∙ sym first ∙ ap (steps_of ticket next (i + 1) (cut_to f len)) (sym cut))
+          ∙ ap (λ (xs : List FrameStep). steps ++ xs) (sym (listed-first step rest) ∙ ap (cons_option step) rest-is ∙ sym first
+          ∙ ap (steps_of ticket next (i + 1) (cut_to f len)) (sym cut))
           ∙ so.listed;
       same = same ∙ so.same;
       within = omega (arith, so.within);
       countable =
-          let counted : next_after next e + senders (drop (i + 1) events) ≡ next + senders (drop i events) = senders-first next e (drop (i + 1) events) ∙ ap (λ (es : List Event). next + senders es) (sym cut) in
+          let counted : next_after next e + senders (drop (i + 1) events) ≡ next + senders (drop i events) =
+          senders-first next e (drop (i + 1) events) ∙ ap (λ (es : List Event). next + senders es) (sym cut) in
           omega (arith, so.countable);
     }
 
 -- the next ticket after the event is a number
-pub passing-number : (ticket place : ℕ) (f : InFlight) (events : List Event) (i : ℕ) (steps : List FrameStep) (t len next : ℕ) → IsPassing ticket place f events i steps t len next
+pub passing-number : (ticket place : ℕ) (f : InFlight) (events : List Event) (i : ℕ) (steps : List FrameStep) (t len next : ℕ)
+    → IsPassing ticket place f events i steps t len next
     → (e : Event) → slice_get events i ≡ Some e → next_after next e ≤ greatest
 passing-number ticket place f events i steps t len next so e here =
     let cut : drop i events ≡ e ∷ drop (i + 1) events = left-from events i e here in
-    let counted : next_after next e + senders (drop (i + 1) events) ≡ next + senders (drop i events) = senders-first next e (drop (i + 1) events) ∙ ap (λ (es : List Event). next + senders es) (sym cut) in
+    let counted : next_after next e + senders (drop (i + 1) events) ≡ next + senders (drop i events) =
+    senders-first next e (drop (i + 1) events) ∙ ap (λ (es : List Event). next + senders es) (sym cut) in
     omega (arith, so.countable)
 
 -- after all of them
-pub passing-all : (ticket place : ℕ) (f : InFlight) (events : List Event) (i : ℕ) (steps : List FrameStep) (t len next : ℕ) → IsPassing ticket place f events i steps t len next
+pub passing-all : (ticket place : ℕ) (f : InFlight) (events : List Event) (i : ℕ) (steps : List FrameStep) (t len next : ℕ)
+    → IsPassing ticket place f events i steps t len next
     → length events ≤ i → steps ≡ steps_of ticket (ticket + 1) (place + 1) f (drop place events)
 passing-all ticket place f events i steps t len next so all =
     let none = ap (steps_of ticket next (i + 1) (cut_to f len)) (drop_all i events all) ∙ no-steps-left ticket next (i + 1) (cut_to f len) in

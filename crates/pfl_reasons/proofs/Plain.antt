@@ -17,7 +17,8 @@ use Rattle.pfl_reasons.specs.declared.explained.Explained.{Explained as Given}
 use Rattle.pfl_reasons.specs.Explaining.{Explained, Plain, explained_at, explained_of, explained_of_frame, explained_outcome}
 
 -- the same is explained
-pub as_same : {M X : Type 0} (result : Result (Given M) X) (a b : Explained) → a ≡ b → IfOk result (λ r. explained_of r ≡ a) → IfOk result (λ r. explained_of r ≡ b)
+pub as_same : {M X : Type 0} (result : Result (Given M) X) (a b : Explained) → a ≡ b → IfOk result (λ r. explained_of r ≡ a)
+    → IfOk result (λ r. explained_of r ≡ b)
 as_same result a b same is = subst (λ (e : Explained). IfOk result (λ r. explained_of r ≡ e)) same is
 
 pub plain_at : (n : Node) (e : NodeEvent) → ((dir : Dir) (p : Packet) → e ≢ own.Packet dir p) → e ≢ own.Purge → Plain ≡ explained_at n e
@@ -36,7 +37,8 @@ plain_of_frame w ticket frame.Lose deliver = refl
 plain_of_frame w ticket frame.Repeat deliver = refl
 plain_of_frame w ticket (frame.Cut len) deliver = refl
 
-pub plain_of : (w : World) (e : Event) → ((id : NodeId) (x : NodeEvent) → e ≢ event.At id x) → ((ticket : ℕ) (x : FrameEvent) → e ≢ event.Of ticket x) → Plain ≡ explained_outcome w e
+pub plain_of : (w : World) (e : Event) → ((id : NodeId) (x : NodeEvent) → e ≢ event.At id x)
+    → ((ticket : ℕ) (x : FrameEvent) → e ≢ event.Of ticket x) → Plain ≡ explained_outcome w e
 plain_of w (event.At id x) at of = absurd (at id x refl)
 plain_of w (event.Of ticket x) at of = absurd (of ticket x refl)
 plain_of w (event.Flush id) at of = refl

@@ -1,5 +1,6 @@
 -- The numbers that are shown of an event that is refused are those of its refusal, and do stand against it.
-use Rattle.std.specs.Prelude.{◌≡◌, ◌<◌, ◌+◌, ◌==◌, ℕ, Bool, true, false, not, nat_le, nat_lt, List, [], ◌∷◌, filter, find, length, map, Option, Some, None, is_none, Result, Ok, Err, refl}
+use Rattle.std.specs.Prelude.{◌≡◌, ◌<◌, ◌+◌, ◌==◌, ℕ, Bool, true, false, not, nat_le, nat_lt, List, [], ◌∷◌, filter, find, length, map, Option, Some}
+use Rattle.std.specs.Prelude.{None, is_none, Result, Ok, Err, refl}
 use Rattle.std.specs.List.{slice_get}
 use Rattle.std.specs.Option.{option_map, option_map_or, option_or}
 use Rattle.std.proofs.Common.{cond, ap, subst}
@@ -8,7 +9,8 @@ use Rattle.std.proofs.Math.Dec.{eqb-suc-zero}
 use Rattle.pfl_base.specs.Numbers.{greatest}
 use Rattle.pfl_base.specs.declared.node_id.NodeId.{NodeId}
 use Rattle.pfl_base.specs.declared.refusal.Refusal.{Refusal}
-use Rattle.pfl_base.specs.declared.refusal.Refusal.TheVariants.{CountFull, ClockFull, LinkFull, NoSuchFrame, NoSuchState, NothingPending, NotSyncing, QueueFull, TooEarly}
+use Rattle.pfl_base.specs.declared.refusal.Refusal.TheVariants.{CountFull, ClockFull, LinkFull, NoSuchFrame, NoSuchState, NothingPending, NotSyncing}
+use Rattle.pfl_base.specs.declared.refusal.Refusal.TheVariants.{QueueFull, TooEarly}
 use Rattle.pfl_bulk.specs.Bulk.{is_due, is_serving, is_waiting}
 use Rattle.pfl_bulk.specs.declared.BulkClient.{BulkClient}
 use Rattle.pfl_bulk.specs.declared.BulkClient.TheVariants as client
@@ -62,7 +64,8 @@ Each P (t ∷ ts) = (t.0 ≡ true → P t.1) × (t.0 ≡ false → Each P ts)
 first-so : (P : Refusal → Type 0) (tests : List (Bool × Refusal)) → Each P tests → (why : Refusal) → refused_by tests ≡ Some why → P why
 first-so P [] each why is = absurd (cc)
 first-so P (t ∷ ts) each why is =
-    elim t.0 as (λ b. ((b ≡ true → P t.1) × (b ≡ false → Each P ts)) → option_map (λ (t : Bool × Refusal). t.1) (cond b (Some t) (find (λ (t : Bool × Refusal). t.0) ts)) ≡ Some why → P why) [
+    elim t.0 as (λ b. ((b ≡ true → P t.1) × (b ≡ false → Each P ts))
+    → option_map (λ (t : Bool × Refusal). t.1) (cond b (Some t) (find (λ (t : Bool × Refusal). t.0) ts)) ≡ Some why → P why) [
       | true ↦ λ each is. let same : t.1 ≡ why = cc in subst P same (each.0 refl)
       | false ↦ λ each is. first-so P ts (each.1 refl) why is
     ] each is
@@ -105,7 +108,8 @@ release-early e n (h ∷ hs) some none = by (nat_le (h.held_at + n.limits.defer_
     by false due none = (refl, leb-false _ _ due)
 
 -- a client that waits, but not long enough
-retry-early : (e : Event) (n : Node) (c : BulkClient) → not (is_waiting c) ≡ false → not (is_due c n.limits.bulk_ms n.clock) ≡ true → StandsAgainst e (asking_against n c) TooEarly
+retry-early : (e : Event) (n : Node) (c : BulkClient) → not (is_waiting c) ≡ false → not (is_due c n.limits.bulk_ms n.clock) ≡ true
+    → StandsAgainst e (asking_against n c) TooEarly
 retry-early e n client.Idle waits early = absurd (cc)
 retry-early e n (client.Waiting tries asked) waits early = by (nat_le (asked + n.limits.bulk_ms) n.clock) refl early
   where
@@ -126,7 +130,8 @@ tick-so : (w : World) (id : NodeId) (ms : ℕ) (why : Refusal) → node_refusal 
 unfolding against
 tick-so w id ms why is = by (nat_lt last_millisecond ((node_at w id).clock + ms)) refl is
   where
-    by : (b : Bool) → nat_lt last_millisecond ((node_at w id).clock + ms) ≡ b → cond b (Some ClockFull) None ≡ Some why → Stands w (event.At id (own.Tick ms)) why
+    by : (b : Bool) → nat_lt last_millisecond ((node_at w id).clock + ms) ≡ b → cond b (Some ClockFull) None ≡ Some why
+        → Stands w (event.At id (own.Tick ms)) why
     by true past is = let same : ClockFull ≡ why = cc in subst (Stands w (event.At id (own.Tick ms))) same (refl, ltb-true _ _ past)
     by false past is = absurd (cc)
 
@@ -138,7 +143,8 @@ node-so w id own.Purge why is = points-so w (event.At id own.Purge) (purge_point
 node-so w id own.Release why is =
     let n = node_at w id in
     let e = event.At id own.Release in
-    first-so (Stands w e) ((length n.held.list == 0, NothingPending) ∷ (length (due_names n) == 0, TooEarly) ∷ (is_overcounted (released_due n), CountFull) ∷ [])
+    first-so (Stands w e) ((length n.held.list == 0, NothingPending) ∷ (length (due_names n) == 0, TooEarly)
+    ∷ (is_overcounted (released_due n), CountFull) ∷ [])
     (λ none. tt, λ some. (λ none. release-early e n n.held.list some none, λ due. (λ high. tt, λ low. tt))) why is
 node-so w id (own.Kill name) why is =
     let n = node_at w id in
@@ -154,7 +160,8 @@ node-so w id own.BulkTurn why is =
 node-so w id own.BulkRetry why is =
     let n = node_at w id in
     let e = event.At id own.BulkRetry in
-    retry-so (Stands w e) (not (is_waiting n.client)) (not (is_due n.client n.limits.bulk_ms n.clock)) (is_overfull (retried_client n)) tt (retry-early e n n.client) refl why is
+    retry-so (Stands w e) (not (is_waiting n.client)) (not (is_due n.client n.limits.bulk_ms n.clock)) (is_overfull (retried_client n)) tt
+    (retry-early e n n.client) refl why is
 
 -- ---- of a frame in flight
 
@@ -165,7 +172,8 @@ receiver-full w e None f is = absurd (cc)
 receiver-full w e (Some g) f is = refl
 
 delivery-so : (w : World) (ticket : ℕ) (o : Option InFlight) (why : Refusal) → maps.get w.link.frames ticket ≡ o
-    → option_map_or (λ (f : InFlight). read_taken (without_ticket w ticket) f.to (node_at w f.to) (reading f.bytes)) o (Err NoSuchFrame) ≡ Err why → Stands w (event.Of ticket frame.Deliver) why
+    → option_map_or (λ (f : InFlight). read_taken (without_ticket w ticket) f.to (node_at w f.to) (reading f.bytes)) o (Err NoSuchFrame)
+    ≡ Err why → Stands w (event.Of ticket frame.Deliver) why
 unfolding against
 delivery-so w ticket None why at is = let same : NoSuchFrame ≡ why = cc in subst (Stands w (event.Of ticket frame.Deliver)) same refl
 delivery-so w ticket (Some f) why at is = by (reading f.bytes) is
@@ -182,13 +190,15 @@ delivery-so w ticket (Some f) why at is = by (reading f.bytes) is
     by : (r : Result Frame BadFrame) → read_taken (without_ticket w ticket) f.to n r ≡ Err why → Stands w e why
     by (Ok g) is =
         let points = receive_points n g in
-        points-so w e points full why (refusal-of (full_tests points) (with_node (without_ticket w ticket) f.to (received n g)) (Taken (length (records_of g))) why is)
+        points-so w e points full why
+        (refusal-of (full_tests points) (with_node (without_ticket w ticket) f.to (received n g)) (Taken (length (records_of g))) why is)
     by (Err bad) is =
         let points = count_broken n ∷ [] in
         points-so w e points full why (refusal-of (full_tests points) (with_node (without_ticket w ticket) f.to (count_broken n)) (Broken bad) why is)
 
 -- what needs no node
-ticket-so : (w : World) (e : Event) (tests : List (Bool × Refusal)) (after : InFlight → World) (gives : InFlight → Outcome) → Each (Stands w e) tests → (o : Option InFlight) (why : Refusal)
+ticket-so : (w : World) (e : Event) (tests : List (Bool × Refusal)) (after : InFlight → World) (gives : InFlight → Outcome)
+    → Each (Stands w e) tests → (o : Option InFlight) (why : Refusal)
     → option_map_or (λ (f : InFlight). step_unless tests (after f) (gives f)) o (Err NoSuchFrame) ≡ Err why → Stands w e why
 unfolding against
 ticket-so w e tests after gives each None why is = let same : NoSuchFrame ≡ why = cc in subst (Stands w e) same refl
@@ -197,7 +207,8 @@ ticket-so w e tests after gives each (Some f) why is = first-so (Stands w e) tes
 of_frame-so : (w : World) (ticket : ℕ) (e : FrameEvent) (why : Refusal) → frame_event w ticket e ≡ Err why → Stands w (event.Of ticket e) why
 unfolding against deliver_step lose_step repeat_step cut_step
 of_frame-so w ticket frame.Deliver why is = delivery-so w ticket (maps.get w.link.frames ticket) why refl is
-of_frame-so w ticket frame.Lose why is = ticket-so w (event.Of ticket frame.Lose) [] (λ f. without_ticket w ticket) (λ f. Lost) tt (maps.get w.link.frames ticket) why is
+of_frame-so w ticket frame.Lose why is =
+    ticket-so w (event.Of ticket frame.Lose) [] (λ f. without_ticket w ticket) (λ f. Lost) tt (maps.get w.link.frames ticket) why is
 of_frame-so w ticket frame.Repeat why is =
     ticket-so w (event.Of ticket frame.Repeat) ((is_full w.link, LinkFull) ∷ (is_counted_out w.link, CountFull) ∷ [])
     (λ f. with_link w (sent w.link f)) (λ f. Sent w.link.next (length f.bytes))

@@ -1,5 +1,6 @@
 -- What became of a frame that an event of a run sent, by counting.
-use Rattle.std.specs.Prelude.{◌≡◌, ◌≤◌, ◌<◌, ◌+◌, ◌-◌, ◌==◌, ◌⊎◌, ℕ, suc, Bool, true, false, nat_lt, List, [], ◌∷◌, length, filter, find, map, take, drop, slice_get, Option, Some, None, is_some, IsTrue, Result, Ok, refl}
+use Rattle.std.specs.Prelude.{◌≡◌, ◌≤◌, ◌<◌, ◌+◌, ◌-◌, ◌==◌, ◌⊎◌, ℕ, suc, Bool, true, false, nat_lt, List, [], ◌∷◌, length, filter, find, map, take}
+use Rattle.std.specs.Prelude.{drop, slice_get, Option, Some, None, is_some, IsTrue, Result, Ok, refl}
 use Rattle.std.specs.List.{cons_option}
 use Rattle.std.specs.Option.{option_and_then, option_map}
 use Rattle.std.proofs.Common.{cond, ◌∙◌, ap, sym, subst, inl, inr, arith}
@@ -19,7 +20,8 @@ use Rattle.pfl_world.specs.Runs.{run}
 use Rattle.pfl_world.specs.Worlds.{World}
 use Rattle.pfl_reasons.specs.declared.frame_step.FrameStep.{FrameStep}
 use Rattle.pfl_reasons.specs.Frames.{Done, Trace, befalls, done, done_with, is_sent, traced}
-use Rattle.pfl_reasons.specs.Senders.{TracesAreCounted, TracesAreThere, befallen, counted_trace, left_after, left_of, next_after, nth_sender, sending_place, sends, step_of, steps_of}
+use Rattle.pfl_reasons.specs.Senders.{TracesAreCounted, TracesAreThere, befallen, counted_trace, left_after, left_of, next_after, nth_sender}
+use Rattle.pfl_reasons.specs.Senders.{sending_place, sends, step_of, steps_of}
 use Rattle.pfl_reasons.proofs.Counting.{accepted, nth-here, nth-later, nth-none, nth-quiet, place-new, place-old, run-on}
 use Rattle.pfl_reasons.proofs.Moving.{AreGiven, IsSender, Moves, given, left-after, left-alone, moves, next-is, not_yet, stay-given, turns}
 
@@ -63,21 +65,27 @@ past-it : (ticket next k : ℕ) (f : InFlight) (e : Event) → befalls ticket e 
 past-it ticket next k f (event.At id e) past = (refl, refl)
 past-it ticket next k f (event.Flush id) past = (refl, refl)
 past-it ticket next k f (event.Restart id) past = (refl, refl)
-past-it ticket next k f (event.Of of e) past =
-    (ap (λ (b : Bool). cond b (Some (record { place = k; event = event.Of of e; outcome = befallen next f e })) None) past, ap (λ (b : Bool). cond b (left_of f e) f) past)
+past-it ticket next k f (event.Of of e) past = (
+  ap (λ (b : Bool). cond b (Some (record { place = k; event = event.Of of e; outcome = befallen next f e })) None) past,
+  ap
+      (λ (b : Bool). cond b (left_of f e) f) past,
+)
 
-steps-past : (ticket next k : ℕ) (f : InFlight) (e : Event) (es : List Event) → befalls ticket e ≡ false → steps_of ticket next k f (e ∷ es) ≡ steps_of ticket (next_after next e) (k + 1) f es
+steps-past : (ticket next k : ℕ) (f : InFlight) (e : Event) (es : List Event) → befalls ticket e ≡ false
+    → steps_of ticket next k f (e ∷ es) ≡ steps_of ticket (next_after next e) (k + 1) f es
 steps-past ticket next k f e es past =
     let it = past-it ticket next k f e past in
     steps-first ticket next k f e es ∙ (λ i. cons_option (it.0 i) (steps_of ticket (next_after next e) (k + 1) (it.1 i) es))
 
 -- one that befalls the frame
 steps-here : (ticket next k : ℕ) (f : InFlight) (e : FrameEvent) (es : List Event) (o : Outcome) → o ≡ befallen next f e
-    → steps_of ticket next k f (event.Of ticket e ∷ es) ≡ record { place = k; event = event.Of ticket e; outcome = o } ∷ steps_of ticket (next_after next (event.Of ticket e)) (k + 1) (left_of f e) es
+    → steps_of ticket next k f (event.Of ticket e ∷ es) ≡ record { place = k; event = event.Of ticket e; outcome = o }
+    ∷ steps_of ticket (next_after next (event.Of ticket e)) (k + 1) (left_of f e) es
 steps-here ticket next k f e es o gives =
     let own : (ticket == ticket) ≡ true = eq-eqb ticket ticket refl in
     steps-first ticket next k f (event.Of ticket e) es
-    ∙ (λ i. cons_option (cond (own i) (Some (record { place = k; event = event.Of ticket e; outcome = sym gives i })) None) (steps_of ticket (next_after next (event.Of ticket e)) (k + 1) (cond (own i) (left_of f e) f) es))
+    ∙ (λ i. cons_option (cond (own i) (Some (record { place = k; event = event.Of ticket e; outcome = sym gives i })) None)
+    (steps_of ticket (next_after next (event.Of ticket e)) (k + 1) (cond (own i) (left_of f e) f) es))
 
 -- an event befalls the frame of the ticket, or does not
 either : (ticket : ℕ) (e : Event) → (befalls ticket e ≡ false) ⊎ ((what : FrameEvent) × (e ≡ event.Of ticket what))
@@ -115,7 +123,8 @@ no-steps : (ticket next k : ℕ) (w : World) (f : InFlight) → befell ticket (d
 unfolding done steps_of
 no-steps ticket next k w f = refl
 
-befell-is : (ticket : ℕ) (es : List Event) (k : ℕ) (w : World) (f : InFlight) → AreGiven w.link → ticket < w.link.next → IsHeld w ticket f → IsTrue (is_some (run w es))
+befell-is : (ticket : ℕ) (es : List Event) (k : ℕ) (w : World) (f : InFlight) → AreGiven w.link → ticket < w.link.next → IsHeld w ticket f
+    → IsTrue (is_some (run w es))
     → befell ticket (done k w es) ≡ steps_of ticket w.link.next k f es
 befell-is ticket [] k w f are old held ran = no-steps ticket w.link.next k w f
 befell-is ticket (e ∷ es) k w f are old held ran =
@@ -136,7 +145,8 @@ befell-is ticket (e ∷ es) k w f are old held ran =
           let b = subst (λ (x : Event). Moves w.link x s) of.1 m in
           let same : b.frame ≡ f = held b.frame b.at in
           let rest =
-          befell-is ticket es (k + 1) s.world (left_of f what) on younger (λ g is. left-after w.link ticket what s b are g is ∙ ap (λ (h : InFlight). left_of h what) same) first.rest
+          befell-is ticket es (k + 1) s.world (left_of f what) on younger (λ g is. left-after w.link ticket what s b are g is
+          ∙ ap (λ (h : InFlight). left_of h what) same) first.rest
           ∙ ap (λ (n : ℕ). steps_of ticket n (k + 1) (left_of f what) es) (next ∙ ap (next_after w.link.next) of.1) in
           subst (λ (x : Event). befell ticket (done k w (x ∷ es)) ≡ steps_of ticket w.link.next k f (x ∷ es)) (sym of.1)
           (befell-here ticket k w what es s f (ap (step w) (sym of.1) ∙ first.is) (b.outcome ∙ ap (λ (h : InFlight). befallen w.link.next h what) same) rest)
@@ -158,13 +168,15 @@ unfolding traced
 traced-is opening es ticket = refl
 
 -- an event that has nothing to do with it
-traced-past : (ticket : ℕ) (d : Done) (all : List Done) → is_sent ticket d.step.outcome ≡ false → befalls ticket d.step.event ≡ false → traced_in ticket (d ∷ all) ≡ traced_in ticket all
+traced-past : (ticket : ℕ) (d : Done) (all : List Done) → is_sent ticket d.step.outcome ≡ false → befalls ticket d.step.event ≡ false
+    → traced_in ticket (d ∷ all) ≡ traced_in ticket all
 traced-past ticket d all unsent past =
     ap (λ (b : Bool). option_and_then (trace_by ticket (cond b (d.step ∷ befell ticket all) (befell ticket all))) (sending ticket (d ∷ all))) past
     ∙ ap (λ (b : Bool). option_and_then (trace_by ticket (befell ticket all)) (cond b (Some d) (sending ticket all))) unsent
 
 -- the one that sends it
-traced-here : (ticket : ℕ) (d : Done) (all : List Done) (f : InFlight) → is_sent ticket d.step.outcome ≡ true → befalls ticket d.step.event ≡ false → maps.get d.after.link.frames ticket ≡ Some f
+traced-here : (ticket : ℕ) (d : Done) (all : List Done) (f : InFlight) → is_sent ticket d.step.outcome ≡ true
+    → befalls ticket d.step.event ≡ false → maps.get d.after.link.frames ticket ≡ Some f
     → traced_in ticket (d ∷ all) ≡ Some (record { first = d.step; frame = f; later = befell ticket all })
 traced-here ticket d all f one past at =
     ap (λ (b : Bool). option_and_then (trace_by ticket (cond b (d.step ∷ befell ticket all) (befell ticket all))) (sending ticket (d ∷ all))) past
@@ -193,7 +205,12 @@ never ticket (e ∷ es) k w old ran =
 -- ---- the trace, and the place that is counted
 
 abbrev trace_at : ℕ → ℕ → Event → InFlight → List Event → Trace
-trace_at ticket place e f rest = record { first = record { place = place; event = e; outcome = Sent ticket (length f.bytes) }; frame = f; later = steps_of ticket (ticket + 1) (place + 1) f rest }
+trace_at ticket place e f rest =
+    record {
+      first = record { place = place; event = e; outcome = Sent ticket (length f.bytes) };
+      frame = f;
+      later = steps_of ticket (ticket + 1) (place + 1) f rest;
+    }
 
 -- the event at the index sends the frame
 record IsFound (ticket k : ℕ) (w : World) (es : List Event) : Type 0 where
@@ -224,7 +241,8 @@ missing-none ticket k w = record { nth = nth-none k (ticket - w.link.next); trac
 
 -- an event that does not send it comes before
 on : (ticket k : ℕ) (w : World) (e : Event) (es : List Event) (s : Stepped) → step w e ≡ Ok s
-    → nth_sender k (ticket - w.link.next) (e ∷ es) ≡ nth_sender (k + 1) (ticket - s.world.link.next) es → is_sent ticket s.outcome ≡ false → befalls ticket e ≡ false
+    → nth_sender k (ticket - w.link.next) (e ∷ es) ≡ nth_sender (k + 1) (ticket - s.world.link.next) es → is_sent ticket s.outcome ≡ false
+    → befalls ticket e ≡ false
     → IsEither ticket (k + 1) s.world es → IsEither ticket k w (e ∷ es)
 on ticket k w e es s is same unsent past rest =
     let past-it = ap (traced_in ticket) (done-first k w e es s is) ∙ traced-past ticket (done_at k e s) (done (k + 1) s.world es) unsent past in
@@ -256,7 +274,8 @@ unfolding run
 run-none w = refl
 
 -- the first event sends it
-here : (ticket k : ℕ) (w : World) (e : Event) (es : List Event) (s : Stepped) → step w e ≡ Ok s → IsSender w.link e s → w.link.next ≡ ticket → befalls ticket e ≡ false
+here : (ticket k : ℕ) (w : World) (e : Event) (es : List Event) (s : Stepped) → step w e ≡ Ok s → IsSender w.link e s
+    → w.link.next ≡ ticket → befalls ticket e ≡ false
     → AreGiven s.world.link → IsTrue (is_some (run s.world es)) → IsFound ticket k w (e ∷ es)
 here ticket k w e es s is q own past are ran =
     let f = q.frame in
@@ -310,7 +329,8 @@ either-way ticket (e ∷ es) k w are new ran =
 
 -- ---- the law
 
-counted-is : (opening : World) (es : List Event) (ticket p : ℕ) (e : Event) (w : World) (f : InFlight) → slice_get es (p - 1) ≡ Some e → run opening (take p es) ≡ Some w
+counted-is : (opening : World) (es : List Event) (ticket p : ℕ) (e : Event) (w : World) (f : InFlight) → slice_get es (p - 1) ≡ Some e
+    → run opening (take p es) ≡ Some w
     → maps.get w.link.frames ticket ≡ Some f → counted_trace opening es ticket p ≡ Some (trace_at ticket p e f (drop p es))
 counted-is opening es ticket p e w f there ran flies = rw (there, ran, flies) refl
 
@@ -331,7 +351,8 @@ traced-new opening es ticket new (inl r) =
     let before : p - 1 ≡ r.index = omega (arith, r.is) in
     traced-is opening es ticket ∙ r.traced
     ∙ ap (λ (n : ℕ). Some (trace_at ticket p r.what r.frame (drop n es))) (sym is)
-    ∙ sym (counted-is opening es ticket p r.what r.after r.frame (ap (slice_get es) before ∙ r.there) (ap (λ (n : ℕ). run opening (take n es)) is ∙ r.ran) r.flies)
+    ∙ sym (counted-is opening es ticket p r.what r.after r.frame (ap (slice_get es) before ∙ r.there)
+    (ap (λ (n : ℕ). run opening (take n es)) is ∙ r.ran) r.flies)
     ∙ sym (ap (option_and_then (counted_trace opening es ticket)) (place-new opening.link.next ticket es new ∙ r.nth))
 
 pub traces-counted : TracesAreCounted
@@ -341,12 +362,15 @@ traces-counted opening es ticket is ran = elim (nat_lt ticket opening.link.next)
       | false ↦ λ new. traced-new opening es ticket new (either-way ticket es 1 opening (given opening.link is.link) (grind (arith, nat_tests)) ran)
     ] refl
 
-there-new : (opening : World) (es : List Event) (ticket k : ℕ) → nth_sender 1 (ticket - opening.link.next) es ≡ Some k → IsEither ticket 1 opening es → IsTrue (is_some (traced opening es ticket))
+there-new : (opening : World) (es : List Event) (ticket k : ℕ) → nth_sender 1 (ticket - opening.link.next) es ≡ Some k
+    → IsEither ticket 1 opening es → IsTrue (is_some (traced opening es ticket))
 there-new opening es ticket k place (inl r) = ap is_some (traced-is opening es ticket ∙ r.traced)
 there-new opening es ticket k place (inr r) = let none = r.nth in absurd (cc)
 
 pub traces-there : TracesAreThere
-traces-there opening es ticket k is ran place = elim (nat_lt ticket opening.link.next) as (λ b. nat_lt ticket opening.link.next ≡ b → IsTrue (is_some (traced opening es ticket))) [
-  | true ↦ λ old. absurd (cc (place, place-old opening.link.next ticket es old))
-  | false ↦ λ new. there-new opening es ticket k (sym (place-new opening.link.next ticket es new) ∙ place) (either-way ticket es 1 opening (given opening.link is.link) (grind (arith, nat_tests)) ran)
-] refl
+traces-there opening es ticket k is ran place = elim (nat_lt ticket opening.link.next) as (λ b. nat_lt ticket opening.link.next ≡ b
+    → IsTrue (is_some (traced opening es ticket))) [
+      | true ↦ λ old. absurd (cc (place, place-old opening.link.next ticket es old))
+      | false ↦ λ new. there-new opening es ticket k (sym (place-new opening.link.next ticket es new) ∙ place)
+          (either-way ticket es 1 opening (given opening.link is.link) (grind (arith, nat_tests)) ran)
+    ] refl

@@ -56,7 +56,13 @@ events = out ∷ flush ∷ repeat 1 ∷ cut 1 147 ∷ deliver 2 ∷ lose 1 ∷ [
 abbrev seen : List Event → ℕ → Option Shown
 seen es ticket = option_map show (traced (opening limits) es ticket)
 
-the_first_frame : seen events 1 ≡ Some (record { first = at 2 flush (outcome.Sent 1 148); bytes = 148; later = at 3 (repeat 1) (outcome.Sent 2 148) ∷ at 4 (cut 1 147) (outcome.CutTo 147) ∷ at 6 (lose 1) outcome.Lost ∷ [] })
+the_first_frame : seen events 1
+    ≡ Some (record {
+      first = at 2 flush (outcome.Sent 1 148);
+      bytes = 148;
+      later = at 3 (repeat 1) (outcome.Sent 2 148)
+          ∷ at 4 (cut 1 147) (outcome.CutTo 147) ∷ at 6 (lose 1) outcome.Lost ∷ [];
+    })
 unfolding computing
 the_first_frame = refl
 
@@ -78,11 +84,23 @@ not_yet_sent = refl
 abbrev cut_first : List Event
 cut_first = out ∷ flush ∷ cut 1 147 ∷ repeat 1 ∷ deliver 1 ∷ cut 2 19 ∷ deliver 2 ∷ []
 
-what_was_cut : seen cut_first 1 ≡ Some (record { first = at 2 flush (outcome.Sent 1 148); bytes = 148; later = at 3 (cut 1 147) (outcome.CutTo 147) ∷ at 4 (repeat 1) (outcome.Sent 2 147) ∷ at 5 (deliver 1) (outcome.Broken fault.Length) ∷ [] })
+what_was_cut : seen cut_first 1
+    ≡ Some (record {
+      first = at 2 flush (outcome.Sent 1 148);
+      bytes = 148;
+      later = at 3 (cut 1 147) (outcome.CutTo 147)
+          ∷ at 4 (repeat 1) (outcome.Sent 2 147) ∷ at 5 (deliver 1) (outcome.Broken fault.Length) ∷ [];
+    })
 unfolding computing
 what_was_cut = refl
 
-the_copy_of_it : seen cut_first 2 ≡ Some (record { first = at 4 (repeat 1) (outcome.Sent 2 147); bytes = 147; later = at 6 (cut 2 19) (outcome.CutTo 19) ∷ at 7 (deliver 2) (outcome.Broken fault.Short) ∷ [] })
+the_copy_of_it : seen cut_first 2
+    ≡ Some (record {
+      first = at 4 (repeat 1) (outcome.Sent 2 147);
+      bytes = 147;
+      later = at 6 (cut 2 19) (outcome.CutTo 19)
+          ∷ at 7 (deliver 2) (outcome.Broken fault.Short) ∷ [];
+    })
 unfolding computing
 the_copy_of_it = refl
 

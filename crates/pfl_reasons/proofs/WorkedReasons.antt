@@ -57,7 +57,8 @@ abbrev block : Rule
 block = record pass { action = Block }
 
 abbrev pair : Limits → List Rule → World
-pair l rules = new_world l (record { list = rules; timeouts = replicate 14 None; print = replicate 16 7 }) (record { list = rules; timeouts = replicate 14 None; print = replicate 16 7 })
+pair l rules = new_world l (record { list = rules; timeouts = replicate 14 None; print = replicate 16 7 })
+    (record { list = rules; timeouts = replicate 14 None; print = replicate 16 7 })
 
 abbrev after : World → List Event → World
 after w events = unwrap_or (run w events) w
@@ -90,7 +91,8 @@ at_its_most : explained (after (pair limits (record pass { max = Some 1 } ∷ []
 unfolding computing
 at_its_most = refl
 
-node_full : explained (after (pair (record limits { states = 2 }) (pass ∷ [])) (packet Outbound u1 ∷ packet Outbound u2 ∷ [])) (packet Outbound u3) ≡ by_rules (Full 0 2 2)
+node_full : explained (after (pair (record limits { states = 2 }) (pass ∷ [])) (packet Outbound u1 ∷ packet Outbound u2 ∷ []))
+    (packet Outbound u3) ≡ by_rules (Full 0 2 2)
 unfolding computing
 node_full = refl
 
@@ -107,7 +109,8 @@ same_on_the_wire = refl
 abbrev back : Packet
 back = record u1 { src = u1.dst; dst = u1.src }
 
-same_before_translation : explained (after (pair limits (pass ∷ translated ∷ [])) (packet Outbound u1 ∷ [])) (packet Inbound back) ≡ by_rules (StackInUse 0 (name 1 1))
+same_before_translation : explained (after (pair limits (pass ∷ translated ∷ [])) (packet Outbound u1 ∷ [])) (packet Inbound back)
+    ≡ by_rules (StackInUse 0 (name 1 1))
 unfolding computing
 same_before_translation = refl
 
@@ -120,7 +123,8 @@ abbrev server : End
 server = record { addr = V4 0xc0000209; port = 80 }
 
 abbrev tcp : End → End → ℕ → ℕ → ℕ → ℕ → ℕ → Packet
-tcp src dst flags seq ack window len = record { proto = Tcp; src = src; dst = dst; flags = flags; seq = seq; ack = ack; window = window; len = len; scale = None }
+tcp src dst flags seq ack window len =
+    record { proto = Tcp; src = src; dst = dst; flags = flags; seq = seq; ack = ack; window = window; len = len; scale = None }
 
 abbrev out : ℕ → ℕ → ℕ → ℕ → ℕ → Event
 out flags seq ack window len = packet Outbound (tcp client server flags seq ack window len)
@@ -149,7 +153,8 @@ unfolding computing
 misses_nothing = refl
 
 -- a new connection over the closed one
-begins_anew : explained (after opened (out 17 101 501 1000 0 ∷ into 17 501 102 2000 0 ∷ out 16 102 502 1000 0 ∷ [])) (out 2 9000 0 1000 0) ≡ OfPacket (ByRules (Some (name 1 1)) (Makes 0 (name 1 2)))
+begins_anew : explained (after opened (out 17 101 501 1000 0 ∷ into 17 501 102 2000 0 ∷ out 16 102 502 1000 0 ∷ [])) (out 2 9000 0 1000 0)
+    ≡ OfPacket (ByRules (Some (name 1 1)) (Makes 0 (name 1 2)))
 unfolding computing
 begins_anew = refl
 
@@ -162,7 +167,8 @@ without_window = refl
 
 -- of two states between one and four, two thirds of the timeout are left: one is due, and one was used later
 abbrev two_states : World
-two_states = after (pair (record limits { astart = Some 1; aend = Some 4 }) (pass ∷ [])) (packet Outbound u1 ∷ event.At A (own.Tick 1) ∷ packet Outbound u2 ∷ event.At A (own.Tick 39999) ∷ [])
+two_states = after (pair (record limits { astart = Some 1; aend = Some 4 }) (pass ∷ [])) (packet Outbound u1 ∷ event.At A (own.Tick 1)
+    ∷ packet Outbound u2 ∷ event.At A (own.Tick 39999) ∷ [])
 
 abbrev first_of_udp : ℕ → ℕ → Expiry
 first_of_udp id expires = record { name = name 1 id; class = UdpFirst; timeout = 60; scaled = 40; expires = expires }
@@ -184,13 +190,15 @@ stands w e numbers = explained w e ≡ Stopped numbers
 
 -- nothing is in flight, and two frames were sent
 abbrev none_in_flight : World
-none_in_flight = after (pair limits (pass ∷ [])) (packet Outbound u1 ∷ event.Flush A ∷ event.Of 1 frame.Repeat ∷ event.Of 1 frame.Lose ∷ event.Of 2 frame.Lose ∷ [])
+none_in_flight = after (pair limits (pass ∷ [])) (packet Outbound u1 ∷ event.Flush A ∷ event.Of 1 frame.Repeat ∷ event.Of 1 frame.Lose
+    ∷ event.Of 2 frame.Lose ∷ [])
 
 next_ticket : stands none_in_flight (event.Of 1 frame.Lose) (Ticket 3)
 unfolding computing
 next_ticket = refl
 
-frames_in_flight : stands (after (pair (record limits { frames = 1 }) (pass ∷ [])) (packet Outbound u1 ∷ event.Flush A ∷ [])) (event.Of 1 frame.Repeat) (Frames 1 1)
+frames_in_flight : stands (after (pair (record limits { frames = 1 }) (pass ∷ [])) (packet Outbound u1 ∷ event.Flush A ∷ []))
+    (event.Of 1 frame.Repeat) (Frames 1 1)
 unfolding computing
 frames_in_flight = refl
 
@@ -203,7 +211,8 @@ unfolding computing
 own_queue = refl
 
 -- the request of a node that begins anew comes to a node that has something pending
-receivers_queue : stands (after little_queue (event.Restart A ∷ event.Flush A ∷ event.At B (own.Packet Outbound u1) ∷ [])) (event.Of 1 frame.Deliver) (Pending 1 1)
+receivers_queue : stands (after little_queue (event.Restart A ∷ event.Flush A ∷ event.At B (own.Packet Outbound u1) ∷ []))
+    (event.Of 1 frame.Deliver) (Pending 1 1)
 unfolding computing
 receivers_queue = refl
 
@@ -213,14 +222,16 @@ clock_ends = refl
 
 -- two packets are held since 3 and since 10, each for 20 milliseconds
 abbrev two_held : World
-two_held = after (pair (record limits { defer = true }) (pass ∷ [])) (event.At A (own.Tick 3) ∷ packet Outbound u1 ∷ event.At A (own.Tick 7) ∷ packet Outbound u2 ∷ [])
+two_held = after (pair (record limits { defer = true }) (pass ∷ [])) (event.At A (own.Tick 3) ∷ packet Outbound u1
+    ∷ event.At A (own.Tick 7) ∷ packet Outbound u2 ∷ [])
 
 oldest_is_due : stands two_held (event.At A own.Release) (Due 10 23)
 unfolding computing
 oldest_is_due = refl
 
 -- a node that began anew at 5 asked then
-client_is_due : stands (after (pair limits []) (event.At B (own.Tick 5) ∷ event.Restart B ∷ event.At B (own.Tick 1) ∷ [])) (event.At B own.BulkRetry) (Due 6 10005)
+client_is_due : stands (after (pair limits []) (event.At B (own.Tick 5) ∷ event.Restart B ∷ event.At B (own.Tick 1) ∷ []))
+    (event.At B own.BulkRetry) (Due 6 10005)
 unfolding computing
 client_is_due = refl
 
@@ -240,6 +251,7 @@ not_syncing : stands (pair limits []) (event.At A own.BulkRetry) Nothing
 unfolding computing
 not_syncing = refl
 
-count_full : stands (new_world_at limits (record { list = []; timeouts = replicate 14 None; print = replicate 16 7 }) (record { list = []; timeouts = replicate 14 None; print = replicate 16 7 }) 4294967295) (event.Restart A) Nothing
+count_full : stands (new_world_at limits (record { list = []; timeouts = replicate 14 None; print = replicate 16 7 })
+    (record { list = []; timeouts = replicate 14 None; print = replicate 16 7 }) 4294967295) (event.Restart A) Nothing
 unfolding computing
 count_full = refl

@@ -36,7 +36,17 @@ flow = record { proto = Udp; far = record { addr = V4 0xc0000209; port = 53 }; n
 
 -- the whole state of the query under a name, with half of its minute left, which asks for an acknowledgement
 abbrev insertion : StateName → Message
-insertion of = Insert (record { name = of; keys = record { wire = flow; stack = flow }; direction = Outbound; ack_wanted = true; src = silent; dst = silent; class = UdpFirst; remaining = 30; rule = None })
+insertion of = Insert (record {
+  name = of;
+  keys = record { wire = flow; stack = flow };
+  direction = Outbound;
+  ack_wanted = true;
+  src = silent;
+  dst = silent;
+  class = UdpFirst;
+  remaining = 30;
+  rule = None;
+})
 
 -- a part of the state, of which a third of the minute is left
 abbrev update : StateName → Peer → Message
@@ -75,22 +85,27 @@ unfolding computing
 asked_for = refl
 
 -- an end that is further is taken, and then the former one is older
-merged : become (insertion (name 2 1) ∷ update (name 2 1) heard ∷ update (name 2 1) silent ∷ []) ≡ fate.Imported 30000 ∷ fate.Merged false false 20000 ∷ fate.Merged true false 20000 ∷ []
+merged : become (insertion (name 2 1) ∷ update (name 2 1) heard ∷ update (name 2 1) silent ∷ []) ≡ fate.Imported 30000
+    ∷ fate.Merged false false 20000 ∷ fate.Merged true false 20000 ∷ []
 unfolding computing
 merged = refl
 
 -- requests for all states, for one and for one that is not there, and deletions
-asked_and_deleted : become (UpdateRequest (name 0 0) ∷ insertion (name 2 1) ∷ UpdateRequest (name 2 1) ∷ UpdateRequest (name 2 1) ∷ UpdateRequest (name 2 2) ∷ DeleteShort (name 2 1) ∷ DeleteShort (name 2 1) ∷ [])
+asked_and_deleted : become (UpdateRequest (name 0 0) ∷ insertion (name 2 1) ∷ UpdateRequest (name 2 1) ∷ UpdateRequest (name 2 1)
+    ∷ UpdateRequest (name 2 2) ∷ DeleteShort (name 2 1) ∷ DeleteShort (name 2 1) ∷ [])
     ≡ fate.Bulk false ∷ fate.Imported 30000 ∷ fate.Queued ∷ fate.Nothing ∷ fate.Bad bad.Unknown ∷ fate.Deleted ∷ fate.Bad bad.Unknown ∷ []
 unfolding computing
 asked_and_deleted = refl
 
 -- a clear of a creator's states up to a bound
-cleared : become (insertion (name 2 5) ∷ Clear 2 4 ∷ Clear 2 5 ∷ InsertAck (name 2 5) ∷ []) ≡ fate.Imported 30000 ∷ fate.Cleared 0 ∷ fate.Cleared 1 ∷ fate.Nothing ∷ []
+cleared : become (insertion (name 2 5) ∷ Clear 2 4 ∷ Clear 2 5 ∷ InsertAck (name 2 5) ∷ []) ≡ fate.Imported 30000 ∷ fate.Cleared 0
+    ∷ fate.Cleared 1 ∷ fate.Nothing ∷ []
 unfolding computing
 cleared = refl
 
 -- a bulk status is heard by a client that waits, which the end makes idle; an idle one does not hear it
-status_heard : map (λ t. t.fate) (fates (record fresh { client = client.Waiting 1 60000 }) true (Bulk 2 Start ∷ Bulk 2 Finish ∷ Bulk 2 Start ∷ [])) ≡ fate.Heard ∷ fate.Heard ∷ fate.Nothing ∷ []
+status_heard : map (λ t. t.fate)
+    (fates (record fresh { client = client.Waiting 1 60000 }) true (Bulk 2 Start ∷ Bulk 2 Finish ∷ Bulk 2 Start ∷ [])) ≡ fate.Heard
+    ∷ fate.Heard ∷ fate.Nothing ∷ []
 unfolding computing
 status_heard = refl

@@ -63,7 +63,8 @@ explained_frame n (Err why) = Plain
 
 -- of a frame in flight
 abbrev pub explained_of_frame : World → ℕ → FrameEvent → Explained
-explained_of_frame w ticket frame.Deliver = option_map_or (λ (f : InFlight). explained_frame (node_at w f.to) (reading f.bytes)) (maps.get w.link.frames ticket) Plain
+explained_of_frame w ticket frame.Deliver =
+    option_map_or (λ (f : InFlight). explained_frame (node_at w f.to) (reading f.bytes)) (maps.get w.link.frames ticket) Plain
 explained_of_frame w ticket other = Plain
 
 -- of an event that is accepted

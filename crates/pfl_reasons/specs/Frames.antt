@@ -47,7 +47,8 @@ pub record Trace : Type 0 where
 -- the frame of the ticket, in flight after the event that sent it
 abbrev pub trace : ℕ → List Done → Done → Option Trace
 trace ticket all d =
-    option_map (λ f. record { first = d.step; frame = f; later = filter (λ s. befalls ticket s.event) (map (λ (o : Done). o.step) all) }) (maps.get d.after.link.frames ticket)
+    option_map (λ f. record { first = d.step; frame = f; later = filter (λ s. befalls ticket s.event) (map (λ (o : Done). o.step) all) })
+    (maps.get d.after.link.frames ticket)
 
 -- what became of the frame that one of the events sent under the ticket, if one did
 unfoldable pub traced : World → List Event → ℕ → Option Trace

@@ -16,12 +16,14 @@ use Rattle.pfl_merge.specs.Merging.{merged}
 use Rattle.pfl_merge.specs.declared.received.Received.{Received}
 use Rattle.pfl_queue.specs.declared.Kind.TheVariants.{Update}
 use Rattle.pfl_queue.specs.Queues.{is_requested, kind_of}
-use Rattle.pfl_world.specs.receive.Receiving.{cleared_names, has_states, imported, is_delete, is_known, is_not_given, is_partly_told, of_state, of_update, taken}
+use Rattle.pfl_world.specs.receive.Receiving.{cleared_names, has_states, imported, is_delete, is_known, is_not_given, is_partly_announced, of_state}
+use Rattle.pfl_world.specs.receive.Receiving.{of_update, taken}
 use Rattle.pfl_world.specs.table.Tables.{by_stack, by_wire}
 use Rattle.pfl_reasons.specs.declared.record_fate.BadRecord.{BadRecord}
 use Rattle.pfl_reasons.specs.declared.record_fate.BadRecord.TheVariants as bad
 use Rattle.pfl_reasons.specs.declared.record_fate.RecordFate.{RecordFate}
-use Rattle.pfl_reasons.specs.declared.record_fate.RecordFate.TheVariants.{Bad, Imported, Merged, Asked, Queued, Bulk, Acknowledged, Deleted, Cleared, Heard, Nothing}
+use Rattle.pfl_reasons.specs.declared.record_fate.RecordFate.TheVariants.{Bad, Imported, Merged, Asked, Queued, Bulk, Acknowledged, Deleted, Cleared}
+use Rattle.pfl_reasons.specs.declared.record_fate.RecordFate.TheVariants.{Heard, Nothing}
 use Rattle.pfl_reasons.specs.declared.record_fate.TakenRecord.{TakenRecord}
 
 -- the state with a key of the record's, or else the limit
@@ -60,7 +62,7 @@ ack_fate n name = option_map_or (λ (s : State). if s.ack_wanted then Acknowledg
 
 -- a state is asked for: it is queued, unless it is to be sent whole already, or never
 abbrev pub answer_fate : Node → State → RecordFate
-answer_fate n s = if not s.no_sync && is_partly_told (kind_of n.queue s.name) then Queued else Nothing
+answer_fate n s = if not s.no_sync && is_partly_announced (kind_of n.queue s.name) then Queued else Nothing
 
 -- all states are asked for, or one, or one that is not there
 abbrev pub request_fate : Node → StateName → RecordFate
@@ -123,7 +125,8 @@ IsQueued n name after = IfSome (maps.get n.states name) (λ s. kind_of after.que
 abbrev pub CountedSo : Node → Node → StateName → RecordFate → Type 0
 CountedSo n after name (Bad why) = after ≡ count_bad n
 CountedSo n after name Nothing = after ≡ n
-CountedSo n after name (Merged stale_src stale_dst last) = (after.counters.bad ≡ n.counters.bad) × (after.counters.stale ≡ n.counters.stale + (if stale_src || stale_dst then 1 else 0))
+CountedSo n after name (Merged stale_src stale_dst last) = (after.counters.bad ≡ n.counters.bad)
+    × (after.counters.stale ≡ n.counters.stale + (if stale_src || stale_dst then 1 else 0))
 CountedSo n after name Asked = CountedAsMany n after × (is_requested after.queue name ≡ true)
 CountedSo n after name Queued = CountedAsMany n after × IsQueued n name after
 CountedSo n after name Deleted = CountedAsMany n after × (maps.get after.states name ≡ None)

@@ -1,5 +1,6 @@
 -- Events counted by the frames that they send, so that the event of a ticket is found without the pair (this project's profile).
-use Rattle.std.specs.Prelude.{◌≡◌, ◌≤◌, ℕ, ◌+◌, ◌-◌, ◌==◌, Bool, true, false, nat_lt, List, [], ◌∷◌, length, filter, take, drop, slice_get, Option, None, Some, is_some, IsTrue, Result, Ok, Err, if◌then◌else◌}
+use Rattle.std.specs.Prelude.{◌≡◌, ◌≤◌, ℕ, ◌+◌, ◌-◌, ◌==◌, Bool, true, false, nat_lt, List, [], ◌∷◌, length, filter, take, drop, slice_get, Option}
+use Rattle.std.specs.Prelude.{None, Some, is_some, IsTrue, Result, Ok, Err, if◌then◌else◌}
 use Rattle.std.specs.List.{cons_option}
 use Rattle.std.specs.Option.{option_map, option_and_then}
 use Rattle.pfl_base.specs.Numbers.{greatest}
@@ -100,11 +101,13 @@ TracesAreCounted =
 -- where an event is counted as the sender of a frame, the frame has a trace
 abbrev pub TracesAreThere : Type 0
 TracesAreThere =
-    (opening : World) (es : List Event) (ticket k : ℕ) → IsWorld opening → IsTrue (is_some (run opening es)) → sending_place opening.link.next ticket es ≡ Some k
+    (opening : World) (es : List Event) (ticket k : ℕ) → IsWorld opening → IsTrue (is_some (run opening es))
+    → sending_place opening.link.next ticket es ≡ Some k
     → IsTrue (is_some (traced opening es ticket))
 
 -- no ticket that is counted for it is above the greatest number
 abbrev pub TicketsAreNumbers : Type 0
 TicketsAreNumbers =
-    (opening : World) (es : List Event) (ticket k : ℕ) → IsWorld opening → IsTrue (is_some (run opening es)) → sending_place opening.link.next ticket es ≡ Some k
+    (opening : World) (es : List Event) (ticket k : ℕ) → IsWorld opening → IsTrue (is_some (run opening es))
+    → sending_place opening.link.next ticket es ≡ Some k
     → ticket + 1 + senders (drop k es) ≤ greatest

@@ -6,14 +6,11 @@ ghost use Rattle.pfl_edits.specs.Maps as maps;
 ghost use Rattle.pfl_link.specs.Links.{InFlight};
 ghost use Rattle.pfl_reasons.specs.Against as meant;
 
-use pfl_base::{Millis, NodeId, Refusal};
+use pfl_base::{LAST_MILLISECOND, Millis, NodeId, Refusal};
 use pfl_bulk::BulkClient;
 use pfl_language::{Event, NodeEvent};
 use pfl_world::{Node, World};
 use std::alloc::Allocator;
-
-/// The last millisecond that a clock can reach.
-const LAST_MILLISECOND: Millis = 1_000_000_000_000;
 
 /// What stands against an event that is refused, in numbers, as the pair is before the event.
 #[derive(Clone, Copy, Debug, PartialEq, Eq)]

@@ -16,9 +16,6 @@ use pfl_wire::{Message, StateRecord, UpdateRecord};
 use pfl_world::Node;
 use std::alloc::Allocator;
 
-/// The name that no state has: a request for it is one for all states.
-const NO_NAME: StateName = StateName { creator: 0, id: 0 };
-
 /// What becomes of a record that comes to the node. `same_rules` says that the peer's rules are the node's own.
 #[tactic(auto, unfolding(crate::specs::Records::record_fate))]
 pub(crate) fn record_fate<A: Allocator>(
@@ -215,7 +212,7 @@ fn of_update(sent: &UpdateRecord) -> Received
 fn request_fate<A: Allocator>(node: &Node<A>, name: StateName) -> RecordFate
     ensures { result ≡ meant.request_fate node.now name }
 {
-    if name == NO_NAME {
+    if name == StateName::NONE {
         return RecordFate::Bulk {
             begins: node.states().len() > 0,
         };
@@ -230,7 +227,7 @@ fn request_fate<A: Allocator>(node: &Node<A>, name: StateName) -> RecordFate
 fn answer_fate<A: Allocator>(node: &Node<A>, state: &State) -> RecordFate
     ensures { result ≡ meant.answer_fate node.now state.now }
 {
-    if !state.no_sync() && is_partly_told(node.queue().kind_of(state.name())) {
+    if !state.no_sync() && is_partly_announced(node.queue().kind_of(state.name())) {
         RecordFate::Queued
     } else {
         RecordFate::Nothing
@@ -238,8 +235,8 @@ fn answer_fate<A: Allocator>(node: &Node<A>, state: &State) -> RecordFate
 }
 
 /// On no queue, or on one that sends less than the whole state.
-fn is_partly_told(kind: Option<Kind>) -> bool
-    ensures { result ≡ receiving.is_partly_told kind }
+fn is_partly_announced(kind: Option<Kind>) -> bool
+    ensures { result ≡ receiving.is_partly_announced kind }
 {
     match kind {
         None | Some(Kind::UpdateShort | Kind::InsertAck) => true,

@@ -68,7 +68,8 @@ fn reuse_reason<A: Allocator + Copy>(
 ) -> Result<PacketReason, NoMemory>
     requires packet { IsPacket packet.now }
     requires stands { maps.get (node_at world.old id).states closed.now.name ≡ Some closed.now }
-    ensures reason { IfOk result (λ r. r ≡ PacketReason.ByRules (Some closed.now.name) (meant.judged_reason (deleted (node_at world.old id) closed.now) dir packet.now)) }
+    ensures reason { IfOk result (λ r. r
+        ≡ PacketReason.ByRules (Some closed.now.name) (meant.judged_reason (deleted (node_at world.old id) closed.now) dir packet.now)) }
     ensures still { world.new ≡ world.old }
 {
     let name = closed.name();
@@ -150,7 +151,8 @@ fn max_reached<A: Allocator>(node: &Node<A>, number: u16, rule: &Rule) -> Option
 
 /// The state with a key of the new one, or else the new one.
 fn by_keys<A: Allocator>(node: &Node<A>, rule: u16, keys: &KeyPair) -> Judged
-    ensures { result ≡ meant.by_keys rule (by_wire node.now.states keys.now.wire) (by_stack node.now.states keys.now.stack) (Judged.Makes rule (starting.next_name node.now)) }
+    ensures { result ≡ meant.by_keys rule (by_wire node.now.states keys.now.wire) (by_stack node.now.states keys.now.stack)
+        (Judged.Makes rule (starting.next_name node.now)) }
 {
     let states = node.states();
     if let Some(state) = states.by_wire(&keys.wire()) {

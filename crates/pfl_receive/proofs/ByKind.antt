@@ -12,7 +12,8 @@ use Rattle.pfl_wire.specs.declared.message.Message.TheVariants as message
 use Rattle.pfl_desk.specs.Changes.{ask}
 use Rattle.pfl_desk.specs.Nodes.{Node}
 use Rattle.pfl_receive.specs.Delivering.{cleared_by}
-use Rattle.pfl_receive.specs.Receiving.{taken, clear_taken, cleared_names, insert_taken, ack_taken, merge_taken, of_state, of_update, request_taken, delete_taken, status_taken}
+use Rattle.pfl_receive.specs.Receiving.{taken, clear_taken, cleared_names, insert_taken, ack_taken, merge_taken, of_state, of_update, request_taken}
+use Rattle.pfl_receive.specs.Receiving.{delete_taken, status_taken}
 
 module _ (n : Node) (same_rules : Bool) (m : Message) where
   pub taken-clear : (creator bound : ℕ) → m ≡ message.Clear creator bound → taken n same_rules m ≡ clear_taken n creator bound
@@ -27,11 +28,13 @@ module _ (n : Node) (same_rules : Bool) (m : Message) where
   unfolding taken
   taken-ack name e = ap (taken n same_rules) e
 
-  pub taken-update : (r : StateRecord) → m ≡ message.Update r → taken n same_rules m ≡ option_map_or (λ s. merge_taken n s (of_state r)) (maps.get n.states r.name) (insert_taken n same_rules r false)
+  pub taken-update : (r : StateRecord) → m ≡ message.Update r
+      → taken n same_rules m ≡ option_map_or (λ s. merge_taken n s (of_state r)) (maps.get n.states r.name) (insert_taken n same_rules r false)
   unfolding taken
   taken-update r e = ap (taken n same_rules) e
 
-  pub taken-short : (u : UpdateRecord) → m ≡ message.UpdateShort u → taken n same_rules m ≡ option_map_or (λ s. merge_taken n s (of_update u)) (maps.get n.states u.name) (ask n u.name)
+  pub taken-short : (u : UpdateRecord) → m ≡ message.UpdateShort u
+      → taken n same_rules m ≡ option_map_or (λ s. merge_taken n s (of_update u)) (maps.get n.states u.name) (ask n u.name)
   unfolding taken
   taken-short u e = ap (taken n same_rules) e
 

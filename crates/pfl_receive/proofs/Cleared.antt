@@ -1,5 +1,6 @@
 -- A clear takes the first of its names out, and then clears.
-use Rattle.std.specs.Prelude.{◌≡◌, ◌≤◌, ◌<◌, ℕ, ◌+◌, ◌*◌, ◌-◌, ◌==◌, ◌&&◌, ◌||◌, Bool, true, false, not, nat_le, List, [], ◌∷◌, map, filter, length, Option, Some, None, refl}
+use Rattle.std.specs.Prelude.{◌≡◌, ◌≤◌, ◌<◌, ℕ, ◌+◌, ◌*◌, ◌-◌, ◌==◌, ◌&&◌, ◌||◌, Bool, true, false, not, nat_le, List, [], ◌∷◌, map, filter, length}
+use Rattle.std.specs.Prelude.{Option, Some, None, refl}
 use Rattle.std.specs.List.{fold, list_any, slice_get}
 use Rattle.std.specs.declared.cmp.Ordering.{Ordering}
 use Rattle.std.specs.declared.cmp.Ordering.TheVariants.{Less, Equal, Greater}
@@ -55,11 +56,13 @@ others-above name (e ∷ es) t =
 
 module _ (p : StateName → Bool) where
   -- without the first name that passes, the others that pass are left
-  rest-names : (es : Entries) (name : StateName) (rest : List StateName) → T (is_sorted name_cmp es) → filter p (names es) ≡ name ∷ rest → filter p (names (others name es)) ≡ rest
+  rest-names : (es : Entries) (name : StateName) (rest : List StateName) → T (is_sorted name_cmp es) → filter p (names es) ≡ name ∷ rest
+      → filter p (names (others name es)) ≡ rest
   rest-names [] name rest t e = absurd (cc)
   rest-names (f ∷ es) name rest t e = by (rest-names es name rest (right _ _ t)) (p f.0) refl e
     where
-      by : (filter p (names es) ≡ name ∷ rest → filter p (names (others name es)) ≡ rest) → (b : Bool) → p f.0 ≡ b → cond b (f.0 ∷ filter p (names es)) (filter p (names es)) ≡ name ∷ rest → filter p (names (others name (f ∷ es))) ≡ rest
+      by : (filter p (names es) ≡ name ∷ rest → filter p (names (others name es)) ≡ rest) → (b : Bool) → p f.0 ≡ b
+          → cond b (f.0 ∷ filter p (names es)) (filter p (names es)) ≡ name ∷ rest → filter p (names (others name (f ∷ es))) ≡ rest
       by others-left true is e =
           let same : f.0 ≡ name = cc in
           let later : filter p (names es) ≡ rest = cc in
@@ -74,7 +77,8 @@ module _ (p : StateName → Bool) where
           passes false = ap (λ c. cond c (f.0 ∷ filter p (names (others name es))) (filter p (names (others name es)))) is
 
   -- and that name is one of them all
-  first-is_name : (es : Entries) (name : StateName) (rest : List StateName) → filter p (names es) ≡ name ∷ rest → list_any (eq_by_cmp name_cmp name) (names es) ≡ true
+  first-is_name : (es : Entries) (name : StateName) (rest : List StateName) → filter p (names es) ≡ name ∷ rest
+      → list_any (eq_by_cmp name_cmp name) (names es) ≡ true
   first-is_name [] name rest e = absurd (cc)
   first-is_name (f ∷ es) name rest e = by (first-is_name es name rest) (p f.0) e
     where
@@ -82,7 +86,8 @@ module _ (p : StateName → Bool) where
       or_true true b h = refl
       or_true false b h = h
 
-      by : (filter p (names es) ≡ name ∷ rest → list_any (eq_by_cmp name_cmp name) (names es) ≡ true) → (b : Bool) → cond b (f.0 ∷ filter p (names es)) (filter p (names es)) ≡ name ∷ rest → list_any (eq_by_cmp name_cmp name) (names (f ∷ es)) ≡ true
+      by : (filter p (names es) ≡ name ∷ rest → list_any (eq_by_cmp name_cmp name) (names es) ≡ true) → (b : Bool)
+          → cond b (f.0 ∷ filter p (names es)) (filter p (names es)) ≡ name ∷ rest → list_any (eq_by_cmp name_cmp name) (names (f ∷ es)) ≡ true
       by later true e =
           let same : f.0 ≡ name = cc in
           ap (λ b. b || list_any (eq_by_cmp name_cmp name) (names es)) (ap (eq_by_cmp name_cmp name) same ∙ (eq_by_cmp_equiv names_total).refl name)
@@ -94,10 +99,12 @@ some-entries q (f ∷ es) e = omega arith
 
 -- where a name is known, there is a state
 pub known-some : (m : States) (name : StateName) → maps.contains_key m name ≡ true → 1 ≤ maps.len m
-known-some m name known = let some = some-entries (eq_by_cmp name_cmp name) (maps.entries m) (sym (contains_key-keys m name) ∙ known) in omega (arith, some, len-entries m)
+known-some m name known = let some = some-entries (eq_by_cmp name_cmp name) (maps.entries m) (sym (contains_key-keys m name) ∙ known)
+    in omega (arith, some, len-entries m)
 
 -- what stands under the name is one state
-one-less : (m : States) (p : StateName → Bool) (name : StateName) (rest : List StateName) → filter p (maps.keys m) ≡ name ∷ rest → maps.len m ≡ maps.len (maps.remove m name) + 1
+one-less : (m : States) (p : StateName → Bool) (name : StateName) (rest : List StateName) → filter p (maps.keys m) ≡ name ∷ rest
+    → maps.len m ≡ maps.len (maps.remove m name) + 1
 one-less m p name rest e =
     let is = first-is_name p (maps.entries m) name rest e in
     let there = contains_key-keys m name ∙ is in
@@ -105,7 +112,8 @@ one-less m p name rest e =
     let some = known-some m name there in
     omega (arith, less, some)
 
-keys-without : (m : States) (p : StateName → Bool) (name : StateName) (rest : List StateName) → filter p (maps.keys m) ≡ name ∷ rest → filter p (maps.keys (maps.remove m name)) ≡ rest
+keys-without : (m : States) (p : StateName → Bool) (name : StateName) (rest : List StateName) → filter p (maps.keys m) ≡ name ∷ rest
+    → filter p (maps.keys (maps.remove m name)) ≡ rest
 unfolding maps.entries maps.remove maps.retain_keys
 keys-without m p name rest e = rest-names p (maps.entries m) name rest (entries_sorted m) e
 
@@ -130,7 +138,8 @@ with-rest : (ns : List StateName) (name : StateName) → slice_get ns 0 ≡ Some
 with-rest [] name e = absurd (cc)
 with-rest (k ∷ ns) name e = let same : k ≡ name = cc in (ns, ap (λ (l : StateName). l ∷ ns) same)
 
-pub next-is : (m : Node) (creator bound : ℕ) (name : StateName) (o : Option StateName) → o ≡ slice_get (cleared_names m creator bound) 0 → o ≡ Some name → IsNext m creator bound name
+pub next-is : (m : Node) (creator bound : ℕ) (name : StateName) (o : Option StateName) → o ≡ slice_get (cleared_names m creator bound) 0
+    → o ≡ Some name → IsNext m creator bound name
 next-is m creator bound name o first is =
     let split = with-rest (cleared_names m creator bound) name (sym first ∙ is) in
     let test = λ (k : StateName). (k.creator == creator) && nat_le k.id bound in
@@ -145,7 +154,8 @@ next-is m creator bound name o first is =
       fewer = one-less m.states test name split.0 split.1 ∙ ap (λ (s : States). maps.len s + 1) (sym states);
     }
 
-pub cleared-none : (m : Node) (creator bound : ℕ) (o : Option StateName) → o ≡ slice_get (cleared_names m creator bound) 0 → o ≡ None → clear_taken m creator bound ≡ m
+pub cleared-none : (m : Node) (creator bound : ℕ) (o : Option StateName) → o ≡ slice_get (cleared_names m creator bound) 0 → o ≡ None
+    → clear_taken m creator bound ≡ m
 cleared-none m creator bound o first none = ap (fold forgotten m) (empty (cleared_names m creator bound) (sym first ∙ none))
   where
     empty : (ns : List StateName) → slice_get ns 0 ≡ None → ns ≡ []
@@ -176,7 +186,8 @@ module _ (d e : Draft) (creator bound : ℕ) (so : IsCleared d e creator bound) 
       let spare = more.spare in
       let fewer = next.fewer ∙ ap (λ (n : Node). maps.len n.states + 1) (sym same) in
       let one = next.one ∙ ap (λ (n : Node). length (cleared_names n creator bound) + 1) (sym same) in
-      let now : d.edits.spare + 4 * length (cleared_names f.node creator bound) ≤ f.edits.spare + 4 * length (cleared_names d.node creator bound) = omega (arith, due, spare, one) in
+      let now : d.edits.spare + 4 * length (cleared_names f.node creator bound) ≤ f.edits.spare + 4 * length
+      (cleared_names d.node creator bound) = omega (arith, due, spare, one) in
       record {
         rest = ap (λ (n : Node). clear_taken n creator bound) same ∙ (sym next.rest ∙ so.rest);
         paid = omega (arith, paid, spare, fewer);

@@ -28,7 +28,8 @@ pub record IsDelivered (d e : Draft) (same_rules : Bool) (all left : List Messag
   pub writes : Writes (12 * records_work d.node same_rules all) d e
 
 pub delivered-first : (d : Draft) (same_rules : Bool) (all : List Message) → IsDelivered d d same_rules all all 0 false
-delivered-first d same_rules all = record { rest = refl; full = refl; counted = refl; sum = omega arith; paid = omega arith; due = omega arith; writes = writes-none _ d }
+delivered-first d same_rules all =
+    record { rest = refl; full = refl; counted = refl; sum = omega arith; paid = omega arith; due = omega arith; writes = writes-none _ d }
 
 assoc : (a b c : Bool) → ((a || b) || c) ≡ (a || (b || c))
 assoc true b c = refl
@@ -38,7 +39,8 @@ or_false : (a : Bool) → a ≡ (a || false)
 or_false true = refl
 or_false false = refl
 
-module _ (d e : Draft) (same_rules : Bool) (all left : List Message) (count : ℕ) (over : Bool) (so : IsDelivered d e same_rules all left count over) (m : Message) (others : List Message) (next : left ≡ m ∷ others) where
+module _ (d e : Draft) (same_rules : Bool) (all left : List Message) (count : ℕ) (over : Bool)
+    (so : IsDelivered d e same_rules all left count over) (m : Message) (others : List Message) (next : left ≡ m ∷ others) where
   -- what is left is the next record and the others
   work : records_work e.node same_rules left ≡ 1 + cleared_by e.node m + records_work (taken e.node same_rules m) same_rules others
   work = ap (records_work e.node same_rules) next ∙ work-next e.node same_rules m others
@@ -54,10 +56,12 @@ module _ (d e : Draft) (same_rules : Bool) (all left : List Message) (count : �
   delivered-room room = let paid = so.paid in omega (arith, paid, room)
 
   -- and it can be counted
-  pub delivered-count : records_room (maps.len d.node.states) (paid_by all) ≤ d.edits.spare → d.edits.spare + length d.edits.list ≤ most_room → count + 1 < 2 ^ 64
+  pub delivered-count : records_room (maps.len d.node.states) (paid_by all) ≤ d.edits.spare
+      → d.edits.spare + length d.edits.list ≤ most_room → count + 1 < 2 ^ 64
   delivered-count room few = let sum = so.sum in let one = long in let each = paid-each all in omega (arith, sum, one, each, room, few)
 
-  pub delivered-more : (f : Draft) (now : Bool) → f.node ≡ taken e.node same_rules m → IsPaid (paid_edits m) e f → Writes (8 + 4 * cleared_by e.node m) e f → is_overfull f.node ≡ false → now ≡ is_overcounted f.node
+  pub delivered-more : (f : Draft) (now : Bool) → f.node ≡ taken e.node same_rules m → IsPaid (paid_edits m) e f
+      → Writes (8 + 4 * cleared_by e.node m) e f → is_overfull f.node ≡ false → now ≡ is_overcounted f.node
       → IsDelivered d f same_rules all others (count + 1) (over || now)
   delivered-more f now same paid more fits counts =
       let together = writes-then (12 * records_work d.node same_rules all) (8 + 4 * cleared_by e.node m) d e f so.writes more in
@@ -68,7 +72,8 @@ module _ (d e : Draft) (same_rules : Bool) (all left : List Message) (count : �
       let due = so.due in
       let spare = more.spare in
       let weight = work ∙ ap (λ (n : Node). 1 + cleared_by e.node m + records_work n same_rules others) (sym same) in
-      let now_due : d.edits.spare + 12 * records_work f.node same_rules others ≤ f.edits.spare + 12 * records_work d.node same_rules all = omega (arith, due, spare, weight) in
+      let now_due : d.edits.spare + 12 * records_work f.node same_rules others ≤ f.edits.spare + 12 * records_work d.node same_rules all =
+      omega (arith, due, spare, weight) in
       record {
         rest = ap (λ (n : Node). fold (step same_rules) n others) same ∙ (ap (fold (step same_rules) e.node) (sym next) ∙ so.rest);
         full =
@@ -110,7 +115,8 @@ pub record IsAll (d e : Draft) (same_rules : Bool) (all : List Message) (count :
   pub whole : count ≡ length all
   pub writes : Writes (12 * records_work d.node same_rules all) d e
 
-pub delivered-all : (d e : Draft) (same_rules : Bool) (all left : List Message) (count : ℕ) (over : Bool) → IsDelivered d e same_rules all left count over → left ≡ [] → IsAll d e same_rules all count over
+pub delivered-all : (d e : Draft) (same_rules : Bool) (all left : List Message) (count : ℕ) (over : Bool)
+    → IsDelivered d e same_rules all left count over → left ≡ [] → IsAll d e same_rules all count over
 delivered-all d e same_rules all left count over so none =
     let sum = so.sum in
     let short = ap (λ (ms : List Message). length ms) none in

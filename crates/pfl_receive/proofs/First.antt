@@ -1,5 +1,6 @@
 -- The first name of a creator up to a bound: the least name of the creator's, or the first above that, if it is one.
-use Rattle.std.specs.Prelude.{◌≡◌, ◌<◌, ◌⊎◌, ℕ, ◌==◌, ◌&&◌, Bool, true, false, nat_le, nat_lt, List, [], ◌∷◌, map, filter, find, Option, Some, None, is_some, if◌then◌else◌, refl}
+use Rattle.std.specs.Prelude.{◌≡◌, ◌<◌, ◌⊎◌, ℕ, ◌==◌, ◌&&◌, Bool, true, false, nat_le, nat_lt, List, [], ◌∷◌, map, filter, find, Option, Some, None}
+use Rattle.std.specs.Prelude.{is_some, if◌then◌else◌, refl}
 use Rattle.std.specs.List.{AllByRecursion, slice_get}
 use Rattle.std.specs.Option.{option_map, option_and_then}
 use Rattle.std.specs.declared.cmp.Ordering.{Ordering}
@@ -49,7 +50,8 @@ below a b e = by (nat_lt a.creator b.creator) refl (a.creator == b.creator) refl
     ids false is true e = absurd (cc)
     ids false is false e = absurd (cc)
 
-    by : (l : Bool) → nat_lt a.creator b.creator ≡ l → (q : Bool) → (a.creator == b.creator) ≡ q → ordering_then (cond l Less (cond q Equal Greater)) (nat_cmp a.id b.id) ≡ Less → Below a b
+    by : (l : Bool) → nat_lt a.creator b.creator ≡ l → (q : Bool) → (a.creator == b.creator) ≡ q
+        → ordering_then (cond l Less (cond q Equal Greater)) (nat_cmp a.id b.id) ≡ Less → Below a b
     by true is q same e = inl (grind (arith, nat_tests))
     by false is true same e = inr (grind (arith, nat_tests), ids (nat_lt a.id b.id) refl (a.id == b.id) e)
     by false is false same e = absurd (cc)
@@ -91,7 +93,8 @@ module _ (creator bound : ℕ) where
       ids false is true same e = absurd (cc)
       ids false is false same e = grind (arith, nat_tests)
 
-      by : (l : Bool) → nat_lt creator k.creator ≡ l → (q : Bool) → (creator == k.creator) ≡ q → ordering_then (cond l Less (cond q Equal Greater)) (nat_cmp 0 k.id) ≡ Greater → passes k ≡ false
+      by : (l : Bool) → nat_lt creator k.creator ≡ l → (q : Bool) → (creator == k.creator) ≡ q
+          → ordering_then (cond l Less (cond q Equal Greater)) (nat_cmp 0 k.id) ≡ Greater → passes k ≡ false
       by true is q same e = absurd (cc)
       by false is true same e = absurd (ids (nat_lt 0 k.id) refl (0 == k.id) refl e)
       by false is false same e = other k (grind (arith, nat_tests))
@@ -140,28 +143,34 @@ module _ (creator bound : ℕ) where
 
   -- the first from the least on
   abbrev from_least : Entries → Option StateName
-  from_least es = if is_some (entries.find name_cmp least es) then Some least else option_map (λ s. s.name) (find (λ s. is_lt (name_cmp least s.name)) (values es))
+  from_least es = if is_some (entries.find name_cmp least es) then Some least
+      else option_map (λ s. s.name) (find (λ s. is_lt (name_cmp least s.name)) (values es))
 
-  first-passes : (es : Entries) → T (is_sorted name_cmp es) → AllByRecursion (λ e. e.1.name ≡ e.0) es → slice_get (filter passes (names es)) 0 ≡ option_and_then checked (from_least es)
+  first-passes : (es : Entries) → T (is_sorted name_cmp es) → AllByRecursion (λ e. e.1.name ≡ e.0) es
+      → slice_get (filter passes (names es)) 0 ≡ option_and_then checked (from_least es)
   first-passes [] t f = refl
   first-passes (e ∷ es) t f = by (first-passes es (right _ _ t) f.1) (name_cmp least e.0) refl
     where
       same : e.1.name ≡ e.0
       same = f.0
 
-      after : (r : Ordering) → name_cmp least e.0 ≡ r → find (λ s. is_lt (name_cmp least s.name)) (values (e ∷ es)) ≡ cond (is_lt r) (Some e.1) (find (λ s. is_lt (name_cmp least s.name)) (values es))
+      after : (r : Ordering) → name_cmp least e.0 ≡ r
+          → find (λ s. is_lt (name_cmp least s.name)) (values (e ∷ es))
+          ≡ cond (is_lt r) (Some e.1) (find (λ s. is_lt (name_cmp least s.name)) (values es))
       after r is = ap (λ q. cond (is_lt q) (Some e.1) (find (λ s. is_lt (name_cmp least s.name)) (values es))) (ap (name_cmp least) same ∙ is)
 
       found : (r : Ordering) → name_cmp least e.0 ≡ r → entries.find name_cmp least (e ∷ es) ≡ cond (is_eq r) (Some e.1) (entries.find name_cmp least es)
       found r is = ap (λ q. cond (is_eq q) (Some e.1) (entries.find name_cmp least es)) is
 
-      first : (b : Bool) → passes e.0 ≡ b → slice_get (filter passes (names (e ∷ es))) 0 ≡ slice_get (cond b (e.0 ∷ filter passes (names es)) (filter passes (names es))) 0
+      first : (b : Bool) → passes e.0 ≡ b
+          → slice_get (filter passes (names (e ∷ es))) 0 ≡ slice_get (cond b (e.0 ∷ filter passes (names es)) (filter passes (names es))) 0
       first b is = ap (λ c. slice_get (cond c (e.0 ∷ filter passes (names es)) (filter passes (names es))) 0) is
 
       checks : (b : Bool) → passes e.0 ≡ b → checked e.0 ≡ cond b (Some e.0) None
       checks b is = ap (λ c. cond c (Some e.0) None) is
 
-      by : slice_get (filter passes (names es)) 0 ≡ option_and_then checked (from_least es) → (r : Ordering) → name_cmp least e.0 ≡ r → slice_get (filter passes (names (e ∷ es))) 0 ≡ option_and_then checked (from_least (e ∷ es))
+      by : slice_get (filter passes (names es)) 0 ≡ option_and_then checked (from_least es) → (r : Ordering) → name_cmp least e.0 ≡ r
+          → slice_get (filter passes (names (e ∷ es))) 0 ≡ option_and_then checked (from_least (e ∷ es))
       by rest Less is = least_above (passes e.0) refl ∙ sym (ap (option_and_then checked) begins)
         where
           none : entries.find name_cmp least (e ∷ es) ≡ None
@@ -175,11 +184,14 @@ module _ (creator bound : ℕ) where
           least_above false p = first false p ∙ (ap (λ (ns : List StateName). slice_get ns 0) (none-high e.0 es is (left _ _ t) p) ∙ sym (checks false p))
       by rest Equal is =
           let p = least-passes e.0 is in
-          let begins : from_least (e ∷ es) ≡ Some least = ap (λ (o : Option State). if is_some o then Some least else option_map (λ (s : State). s.name) (find (λ s. is_lt (name_cmp least s.name)) (values (e ∷ es)))) (found Equal is) in
+          let begins : from_least (e ∷ es) ≡ Some least =
+          ap (λ (o : Option State). if is_some o then Some least
+          else option_map (λ (s : State). s.name) (find (λ s. is_lt (name_cmp least s.name)) (values (e ∷ es)))) (found Equal is) in
           let one : least ≡ e.0 = names_exact least e.0 is in
           first true p ∙ (sym (checks true p) ∙ (ap checked (sym one) ∙ sym (ap (option_and_then checked) begins)))
       by rest Greater is =
-          let begins : from_least (e ∷ es) ≡ from_least es = λ i. if is_some (found Greater is i) then Some least else option_map (λ (s : State). s.name) (after Greater is i) in
+          let begins : from_least (e ∷ es) ≡ from_least es = λ i. if is_some (found Greater is i) then Some least
+          else option_map (λ (s : State). s.name) (after Greater is i) in
           first false (low e.0 is) ∙ (rest ∙ sym (ap (option_and_then checked) begins))
 
 -- ---- those of a node
@@ -188,7 +200,8 @@ module _ (creator bound : ℕ) where
 apart : (a b : StateName) → name_cmp a b ≡ Less → eq_by_cmp name_cmp b a ≡ false
 apart a b e = ap is_eq (names_total.antisymm b a ∙ ap ordering_reverse e)
 
-found-lower : (e : StateName × State) (es gs : List (StateName × State)) → T (below_all name_cmp e.0 gs) → AllByRecursion (λ g. entries.find name_cmp g.0 es ≡ Some g.1) gs → AllByRecursion (λ g. entries.find name_cmp g.0 (e ∷ es) ≡ Some g.1) gs
+found-lower : (e : StateName × State) (es gs : List (StateName × State)) → T (below_all name_cmp e.0 gs)
+    → AllByRecursion (λ g. entries.find name_cmp g.0 es ≡ Some g.1) gs → AllByRecursion (λ g. entries.find name_cmp g.0 (e ∷ es) ≡ Some g.1) gs
 found-lower e es [] t a = tt
 found-lower e es (g ∷ gs) t a = (
   ap (λ b. cond b (Some e.1) (entries.find name_cmp g.0 es)) (apart e.0 g.0 (less_is _ (left _ _ t))) ∙ a.0,
@@ -203,7 +216,8 @@ entries-found (e ∷ es) t = (
 )
 
 -- each state stands under its name
-entries-filed : (m : States) → AreStates m → (es : List (StateName × State)) → AllByRecursion (λ e. entries.find name_cmp e.0 (maps.entries m) ≡ Some e.1) es → AllByRecursion (λ e. e.1.name ≡ e.0) es
+entries-filed : (m : States) → AreStates m → (es : List (StateName × State))
+    → AllByRecursion (λ e. entries.find name_cmp e.0 (maps.entries m) ≡ Some e.1) es → AllByRecursion (λ e. e.1.name ≡ e.0) es
 entries-filed m are [] a = tt
 entries-filed m are (e ∷ es) a = (are.filed e.0 e.1 (get-entries m e.0 ∙ a.0), entries-filed m are es a.1)
 
@@ -211,12 +225,14 @@ entries-filed m are (e ∷ es) a = (are.filed e.0 e.1 (get-entries m e.0 ∙ a.0
 abbrev pub first_from : States → StateName → Option StateName
 first_from m name = if is_some (maps.get m name) then Some name else option_map (λ s. s.name) (state_after m name)
 
-first-cleared : (n : Node) (creator bound : ℕ) → AreStates n.states → slice_get (cleared_names n creator bound) 0 ≡ option_and_then (checked creator bound) (first_from n.states (least creator bound))
+first-cleared : (n : Node) (creator bound : ℕ) → AreStates n.states
+    → slice_get (cleared_names n creator bound) 0 ≡ option_and_then (checked creator bound) (first_from n.states (least creator bound))
 first-cleared n creator bound is =
     let es = maps.entries n.states in
     let sorted = entries_sorted n.states in
     first-passes creator bound es sorted (entries-filed n.states is es (entries-found es sorted))
-    ∙ ap (λ (o : Option State). option_and_then (checked creator bound) (if is_some o then Some (least creator bound) else option_map (λ (s : State). s.name) (state_after n.states (least creator bound)))) (sym (get-entries n.states (least creator bound)))
+    ∙ ap (λ (o : Option State). option_and_then (checked creator bound) (if is_some o then Some (least creator bound)
+    else option_map (λ (s : State). s.name) (state_after n.states (least creator bound)))) (sym (get-entries n.states (least creator bound)))
 
 -- the same, where that first one is known
 module _ (n : Node) (creator bound : ℕ) (is : AreStates n.states) (o : Option StateName) (from : o ≡ first_from n.states (least creator bound)) where
@@ -226,5 +242,6 @@ module _ (n : Node) (creator bound : ℕ) (is : AreStates n.states) (o : Option 
   pub none-cleared : o ≡ None → None ≡ slice_get (cleared_names n creator bound) 0
   none-cleared at = sym (begins ∙ ap (option_and_then (checked creator bound)) at)
 
-  pub first-is : (k : StateName) (b t : Bool) → o ≡ Some k → t ≡ passes creator bound k → t ≡ b → (if b then Some k else None) ≡ slice_get (cleared_names n creator bound) 0
+  pub first-is : (k : StateName) (b t : Bool) → o ≡ Some k → t ≡ passes creator bound k → t ≡ b
+      → (if b then Some k else None) ≡ slice_get (cleared_names n creator bound) 0
   first-is k b t at test is = sym (begins ∙ (ap (option_and_then (checked creator bound)) at ∙ ap (λ (c : Bool). if c then Some k else None) (sym test ∙ is)))

@@ -1,5 +1,6 @@
 -- A state that may be taken over may be put.
-use Rattle.std.specs.Prelude.{◌≡◌, ◌≤◌, ◌<◌, ℕ, ◌+◌, ◌-◌, ◌==◌, ◌&&◌, ◌||◌, Bool, true, false, not, nat_le, nat_lt, length, Option, Some, None, is_some, IfSome, refl}
+use Rattle.std.specs.Prelude.{◌≡◌, ◌≤◌, ◌<◌, ℕ, ◌+◌, ◌-◌, ◌==◌, ◌&&◌, ◌||◌, Bool, true, false, not, nat_le, nat_lt, length, Option, Some, None}
+use Rattle.std.specs.Prelude.{is_some, IfSome, refl}
 use Rattle.std.specs.Option.{option_map}
 use Rattle.std.proofs.Common.{cond, T, ◌∙◌, ap, sym, subst, arith}
 use Rattle.std.proofs.lemmas.Bool.Decides.{nat_tests}
@@ -111,7 +112,8 @@ pub imported-node : (n : Node) (b : Bool) (r : StateRecord) → AreParts n → M
 imported-node n b r is may state =
     let s = imported n b r in
     put-node n s is (OwnsKeys-unused n.states s may.unused)
-    (subst (λ (k : ℕ). k ≤ n.limits.states) (sym (len-insert names_total n.states s.name s)) (within (maps.contains_key n.states s.name) (maps.len n.states) n.limits.states may.room))
+    (subst (λ (k : ℕ). k ≤ n.limits.states) (sym (len-insert names_total n.states s.name s))
+    (within (maps.contains_key n.states s.name) (maps.len n.states) n.limits.states may.room))
     (imported-state n b r may.given state)
     (λ k at. absurd (no-mark n r is may k at))
 

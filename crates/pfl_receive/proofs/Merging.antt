@@ -16,7 +16,8 @@ use Rattle.pfl_desk.specs.Nodes.{Node, AreParts, IsPast}
 use Rattle.pfl_desk.proofs.ForCallers.{state_still}
 
 -- a state that was found by a name stands under its own
-pub stands-found : (n : Node) (m : States) (name : StateName) (o p : Option State) (s : State) → AreParts n → m ≡ n.states → o ≡ maps.get m name → p ≡ o → p ≡ Some s → maps.get n.states s.name ≡ Some s
+pub stands-found : (n : Node) (m : States) (name : StateName) (o p : Option State) (s : State) → AreParts n → m ≡ n.states
+    → o ≡ maps.get m name → p ≡ o → p ≡ Some s → maps.get n.states s.name ≡ Some s
 stands-found n m name o p s is states found copied at =
     let there : maps.get n.states name ≡ Some s = ap (λ (k : States). maps.get k name) (sym states) ∙ (sym found ∙ (sym copied ∙ at)) in
     ap (maps.get n.states) (is.states.filed name s there) ∙ there
@@ -55,7 +56,8 @@ peer-now held r seconds now = by (not (stale_src held r && stale_dst held r)) _ 
     by false s t h k = k
 
 -- what a merge of a state of the node gives
-merged-may : (n : Node) (s t : State) (r : Received) (seconds : ℕ) → AreParts n → maps.get n.states s.name ≡ Some s → t ≡ (merged s r seconds n.clock).state → Keeps s t → IsState t → MayReplace (lost n s.name) t
+merged-may : (n : Node) (s t : State) (r : Received) (seconds : ℕ) → AreParts n → maps.get n.states s.name ≡ Some s
+    → t ≡ (merged s r seconds n.clock).state → Keeps s t → IsState t → MayReplace (lost n s.name) t
 merged-may n s t r seconds is stands same keeps state =
     let it = is.each s.name s stands in
     lost-may n s.name t (record {
@@ -75,6 +77,7 @@ merged-may n s t r seconds is stands same keeps state =
     })
 
 -- the same of what a merge gave, at the node's time
-pub merge-may : (n : Node) (s : State) (m : Merged) (r : Received) (seconds now : ℕ) → AreParts n → maps.get n.states s.name ≡ Some s → m ≡ merged s r seconds now → now ≡ n.clock → Keeps s m.state → IsState m.state → MayReplace (lost n s.name) m.state
+pub merge-may : (n : Node) (s : State) (m : Merged) (r : Received) (seconds now : ℕ) → AreParts n → maps.get n.states s.name ≡ Some s
+    → m ≡ merged s r seconds now → now ≡ n.clock → Keeps s m.state → IsState m.state → MayReplace (lost n s.name) m.state
 merge-may n s m r seconds now is stands gives clock =
     merged-may n s m.state r seconds is stands (ap (λ (k : Merged). k.state) gives ∙ ap (λ (k : ℕ). (merged s r seconds k).state) clock)

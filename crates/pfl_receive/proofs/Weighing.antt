@@ -23,7 +23,8 @@ move : (l c s : ℕ) → suc l + (c + s) ≡ 1 + c + (l + s)
 move l c s = omega arith
 
 -- the first, and the others at the node that it makes
-pub work-next : (n : Node) (same_rules : Bool) (d : Message) (ms : List Message) → records_work n same_rules (d ∷ ms) ≡ 1 + cleared_by n d + records_work (taken n same_rules d) same_rules ms
+pub work-next : (n : Node) (same_rules : Bool) (d : Message) (ms : List Message)
+    → records_work n same_rules (d ∷ ms) ≡ 1 + cleared_by n d + records_work (taken n same_rules d) same_rules ms
 unfolding records_work
 work-next n same_rules d ms =
     let others = zip (taken n same_rules d ∷ taken_points (taken n same_rules d) same_rules ms) ms in

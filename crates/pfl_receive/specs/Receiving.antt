@@ -22,7 +22,7 @@ use Rattle.pfl_merge.specs.declared.merged.Merged.{Merged}
 use Rattle.pfl_merge.specs.Merging.{merged, last_use}
 use Rattle.pfl_desk.specs.bulk.Bulk.{no_name, server_started, after_status}
 use Rattle.pfl_desk.specs.Nodes.{Node, timeout_at}
-use Rattle.pfl_desk.specs.Changes.{put_state, mark, push_if, ask, tell_status, count_bad, count_stale, lost, released, changed, forgotten}
+use Rattle.pfl_desk.specs.Changes.{put_state, mark, push_if, ask, announce_status, count_bad, count_stale, lost, released, changed, forgotten}
 
 -- the node has the state
 abbrev pub is_known : Node → StateName → Bool
@@ -105,18 +105,18 @@ has_states n = nat_lt 0 (maps.len n.states)
 
 -- all states are asked for: a node without states is done at once
 abbrev pub bulk_taken : Node → Node
-bulk_taken n = record (tell_status n (if has_states n then Start else Finish)) { server = server_started n.server (has_states n) n.clock }
+bulk_taken n = record (announce_status n (if has_states n then Start else Finish)) { server = server_started n.server (has_states n) n.clock }
 
 -- on no queue, or on one that sends less than the whole state
-abbrev pub is_partly_told : Option Kind → Bool
-is_partly_told None = true
-is_partly_told (Some UpdateShort) = true
-is_partly_told (Some InsertAck) = true
-is_partly_told (Some _) = false
+abbrev pub is_partly_announced : Option Kind → Bool
+is_partly_announced None = true
+is_partly_announced (Some UpdateShort) = true
+is_partly_announced (Some InsertAck) = true
+is_partly_announced (Some _) = false
 
 -- a state is asked for
 abbrev pub state_answered : Node → State → Node
-state_answered n s = if not s.no_sync && is_partly_told (kind_of n.queue s.name) then push_if true (mark n s.name Update) else n
+state_answered n s = if not s.no_sync && is_partly_announced (kind_of n.queue s.name) then push_if true (mark n s.name Update) else n
 
 -- a request: for all, for a state, or a bad one
 abbrev pub request_taken : Node → StateName → Node

@@ -49,7 +49,8 @@ fn is_cleared(name: StateName, creator: u32, bound: u64) -> bool
 
 /// The first name of a state from this one on.
 fn first_from<A: Allocator>(desk: &Desk<A>, name: StateName) -> Option<StateName>
-    ensures first { result ≡ (if is_some (maps.get desk.now.node.states name) then Some name else option_map (λ s. s.name) (state_after desk.now.node.states name)) }
+    ensures first { result ≡ (if is_some (maps.get desk.now.node.states name) then Some name else option_map
+        (λ s. s.name) (state_after desk.now.node.states name)) }
     ensures parts { AreParts desk.now.node }
 {
     let states = desk.states();

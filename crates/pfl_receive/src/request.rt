@@ -14,9 +14,6 @@ use pfl_track::State;
 use pfl_wire::BulkStatus;
 use std::alloc::Allocator;
 
-/// The name that no state has: a request for it is one for all states.
-const NO_NAME: StateName = StateName { creator: 0, id: 0 };
-
 /// A request for all states, for one, or a bad one.
 pub(crate) fn take_request<A: Allocator>(
     desk: &mut Desk<A>,
@@ -27,7 +24,7 @@ pub(crate) fn take_request<A: Allocator>(
     ensures node { OnOk result (desk.new.node ≡ receiving.request_taken desk.old.node name) }
     ensures writes { Writes 3 desk.old desk.new }
 {
-    if name == NO_NAME {
+    if name == StateName::NONE {
         return serve(desk);
     }
     let Some(state) = desk.states().by_name(name).copied() else {
@@ -46,7 +43,7 @@ fn serve<A: Allocator>(desk: &mut Desk<A>) -> Result<(), Overfull>
 {
     let has_states = desk.states().len() > 0;
     let server = desk.server().start(has_states, desk.clock());
-    desk.tell_status(status_of(has_states))?;
+    desk.announce_status(status_of(has_states))?;
     desk.set_server(server);
     Ok(())
 }
@@ -82,14 +79,14 @@ fn answer<A: Allocator>(desk: &mut Desk<A>, state: &State) -> Result<(), Overful
 
 /// The state may be announced to the peer, and the whole of it is not sent already.
 fn is_answered<A: Allocator>(desk: &Desk<A>, state: &State) -> bool
-    ensures answered { result ≡ (not state.now.no_sync && receiving.is_partly_told (kind_of desk.now.node.queue state.now.name)) }
+    ensures answered { result ≡ (not state.now.no_sync && receiving.is_partly_announced (kind_of desk.now.node.queue state.now.name)) }
 {
-    !state.no_sync() && is_partly_told(desk.queue().kind_of(state.name()))
+    !state.no_sync() && is_partly_announced(desk.queue().kind_of(state.name()))
 }
 
 /// On no queue, or on one that sends less than the whole state.
-fn is_partly_told(kind: Option<Kind>) -> bool
-    ensures { result ≡ receiving.is_partly_told kind }
+fn is_partly_announced(kind: Option<Kind>) -> bool
+    ensures { result ≡ receiving.is_partly_announced kind }
 {
     match kind {
         None | Some(Kind::UpdateShort | Kind::InsertAck) => true,

@@ -23,8 +23,10 @@ pub(crate) fn take_update<A: Allocator>(
     same_rules: bool,
 ) -> Result<(), Overfull>
     requires room { 7 ≤ desk.old.edits.spare }
-    ensures full { OnErr result (is_overfull (option_map_or (λ s. receiving.merge_taken desk.old.node s (receiving.of_state sent.now)) (maps.get desk.old.node.states sent.now.name) (receiving.insert_taken desk.old.node same_rules sent.now false)) ≡ true) }
-    ensures node { OnOk result (desk.new.node ≡ option_map_or (λ s. receiving.merge_taken desk.old.node s (receiving.of_state sent.now)) (maps.get desk.old.node.states sent.now.name) (receiving.insert_taken desk.old.node same_rules sent.now false)) }
+    ensures full { OnErr result (is_overfull (option_map_or (λ s. receiving.merge_taken desk.old.node s (receiving.of_state sent.now))
+        (maps.get desk.old.node.states sent.now.name) (receiving.insert_taken desk.old.node same_rules sent.now false)) ≡ true) }
+    ensures node { OnOk result (desk.new.node ≡ option_map_or (λ s. receiving.merge_taken desk.old.node s (receiving.of_state sent.now))
+        (maps.get desk.old.node.states sent.now.name) (receiving.insert_taken desk.old.node same_rules sent.now false)) }
     ensures writes { Writes 7 desk.old desk.new }
 {
     let Some(state) = desk.states().by_name(sent.name).copied() else {
@@ -39,8 +41,10 @@ pub(crate) fn take_short_update<A: Allocator>(
     sent: &UpdateRecord,
 ) -> Result<(), Overfull>
     requires room { 7 ≤ desk.old.edits.spare }
-    ensures full { OnErr result (is_overfull (option_map_or (λ s. receiving.merge_taken desk.old.node s (receiving.of_update sent.now)) (maps.get desk.old.node.states sent.now.name) (to.ask desk.old.node sent.now.name)) ≡ true) }
-    ensures node { OnOk result (desk.new.node ≡ option_map_or (λ s. receiving.merge_taken desk.old.node s (receiving.of_update sent.now)) (maps.get desk.old.node.states sent.now.name) (to.ask desk.old.node sent.now.name)) }
+    ensures full { OnErr result (is_overfull (option_map_or (λ s. receiving.merge_taken desk.old.node s (receiving.of_update sent.now))
+        (maps.get desk.old.node.states sent.now.name) (to.ask desk.old.node sent.now.name)) ≡ true) }
+    ensures node { OnOk result (desk.new.node ≡ option_map_or (λ s. receiving.merge_taken desk.old.node s (receiving.of_update sent.now))
+        (maps.get desk.old.node.states sent.now.name) (to.ask desk.old.node sent.now.name)) }
     ensures writes { Writes 7 desk.old desk.new }
 {
     let Some(state) = desk.states().by_name(sent.name).copied() else {

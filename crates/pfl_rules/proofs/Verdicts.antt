@@ -1,5 +1,6 @@
 -- The verdict in one pass: what the rules that are left make of the verdict so far.
-use Rattle.std.proofs.Common.{◌≡◌, ℕ, suc, ◌+◌, ◌<◌, ◌≤◌, Bool, true, false, ◌&&◌, nat_lt, Option, Some, None, List, [], ◌∷◌, length, get_or, drop, drop-cons, add-one, filter, if◌then◌else◌, refl, sym, ◌∙◌, ap, arith}
+use Rattle.std.proofs.Common.{◌≡◌, ℕ, suc, ◌+◌, ◌<◌, ◌≤◌, Bool, true, false, ◌&&◌, nat_lt, Option, Some, None, List, [], ◌∷◌, length, get_or, drop}
+use Rattle.std.proofs.Common.{drop-cons, add-one, filter, if◌then◌else◌, refl, sym, ◌∙◌, ap, arith}
 use Rattle.std.proofs.lemmas.Bool.Decides.{nat_tests}
 use Rattle.std.proofs.lemmas.List.{drop_all}
 use Rattle.pfl_rules.specs.declared.fault.RuleFault.{RuleFault}
@@ -36,7 +37,8 @@ module _ {X V : Type 0} (match quick : X → Bool) (out : Option (ℕ × X) → 
   last_match : Option (ℕ × X) → ℕ → List X → Option (ℕ × X)
   last_match o n xs = last_or o (filter (λ r. match r.1) (up_to_first (λ r. quick r.1 && match r.1) (enumerate_from n xs)))
 
-  step : (o : Option (ℕ × X)) (n : ℕ) (x : X) (xs : List X) (b c : Bool) → match x ≡ b → quick x ≡ c → ((o : Option (ℕ × X)) → out (last_match o (n + 1) xs) ≡ later (out o) (n + 1) xs) → out (last_match o n (x ∷ xs)) ≡ later (out o) n (x ∷ xs)
+  step : (o : Option (ℕ × X)) (n : ℕ) (x : X) (xs : List X) (b c : Bool) → match x ≡ b → quick x ≡ c
+      → ((o : Option (ℕ × X)) → out (last_match o (n + 1) xs) ≡ later (out o) (n + 1) xs) → out (last_match o n (x ∷ xs)) ≡ later (out o) n (x ∷ xs)
   unfolding last_match later last_or
   step o n x xs true true m q rest = simp (m, q) refl
   step o n x xs true false m q rest = simp (m, q) (rest (Some (n, x)))
@@ -55,7 +57,8 @@ rest p dir so_far n rules = later (λ r. matches r p dir) (λ r. r.quick) verdic
 pub rest-whole : (p : Packet) (dir : Dir) (rules : List Rule) → rest p dir (verdict_by None) 0 rules ≡ verdict rules p dir
 unfolding rest last_match
 rest-whole p dir rules =
-    sym (ap verdict_by (last_of-is (filter (λ r. matches r.1 p dir) (looked_at rules p dir))) ∙ last_match-is_later (λ r. matches r p dir) (λ r. r.quick) verdict_by None 0 rules)
+    sym (ap verdict_by (last_of-is (filter (λ r. matches r.1 p dir) (looked_at rules p dir)))
+    ∙ last_match-is_later (λ r. matches r p dir) (λ r. r.quick) verdict_by None 0 rules)
 
 module _ (p : Packet) (dir : Dir) (so_far : Verdict) (n : ℕ) where
   pub rest-end : rest p dir so_far n [] ≡ so_far
@@ -66,7 +69,8 @@ module _ (p : Packet) (dir : Dir) (so_far : Verdict) (n : ℕ) where
   unfolding rest later
   rest-passed_by r rules unmatched = rw unmatched refl
 
-  pub rest-taken : (r : Rule) (rules : List Rule) → matches r p dir ≡ true → r.quick ≡ false → rest p dir so_far n (r ∷ rules) ≡ rest p dir (verdict_by (Some (n, r))) (n + 1) rules
+  pub rest-taken : (r : Rule) (rules : List Rule) → matches r p dir ≡ true → r.quick ≡ false
+      → rest p dir so_far n (r ∷ rules) ≡ rest p dir (verdict_by (Some (n, r))) (n + 1) rules
   unfolding rest later
   rest-taken r rules matched slow = rw (matched, slow) refl
 

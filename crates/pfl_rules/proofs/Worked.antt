@@ -75,7 +75,8 @@ pool = refl
 abbrev hour : Rules
 hour = timed
     (None ∷ None ∷ Some 3600 ∷ None ∷ None ∷ None ∷ None ∷ None ∷ None ∷ None ∷ None ∷ None ∷ None ∷ None ∷ [])
-    (rule_set (pass_out ∷ record pass_out { timeouts = None ∷ None ∷ Some 60 ∷ replicate 11 None } ∷ record pass_out { action = Block; timeouts = replicate 14 (Some 1) } ∷ []))
+    (rule_set (pass_out ∷ record pass_out { timeouts = None ∷ None ∷ Some 60 ∷ replicate 11 None }
+    ∷ record pass_out { action = Block; timeouts = replicate 14 (Some 1) } ∷ []))
 
 set_timeout : timeout hour (Some 0) TcpEstablished ≡ 3600
 unfolding rule_set pass_out

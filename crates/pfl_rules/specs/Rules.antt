@@ -1,5 +1,6 @@
 -- Rule sets: their verdicts, timeouts and faults (pf.conf(5)).
-use Rattle.std.specs.Prelude.{◌≡◌, ℕ, Bool, true, false, not, ◌&&◌, ◌==◌, nat_lt, Option, Some, None, is_some, List, length, filter, replicate, slice_get, if◌then◌else◌, unwrap_or}
+use Rattle.std.specs.Prelude.{◌≡◌, ℕ, Bool, true, false, not, ◌&&◌, ◌==◌, nat_lt, Option, Some, None, is_some, List, length, filter, replicate}
+use Rattle.std.specs.Prelude.{slice_get, if◌then◌else◌, unwrap_or}
 use Rattle.std.specs.List.{enumerate_from, list_any}
 use Rattle.std.specs.Option.{option_and_then, option_map_or}
 use Rattle.pfl_base.specs.declared.direction.Dir.{Dir}

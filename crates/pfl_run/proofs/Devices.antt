@@ -9,8 +9,8 @@ use Rattle.pfl_script.specs.Answers.{Drains, RunsWhole}
 use Rattle.pfl_script.specs.Checks.{ChecksWhole}
 use Rattle.pfl_run.specs.Checks.{ChecksToEnd}
 use Rattle.pfl_run.specs.Runs.{HasFailed, IsDeviceFault, RunsToEnd}
-use Rattle.pfl_run.specs.declared.fault.LabFault.{LabFault}
-use Rattle.pfl_run.specs.declared.fault.LabFault.TheVariants as fault
+use Rattle.pfl_run.specs.declared.fault.RunFault.{RunFault}
+use Rattle.pfl_run.specs.declared.fault.RunFault.TheVariants as fault
 
 -- the calls of a setup alone
 pub of_setup : (old new : Calls) (n : ℕ) → n ≤ 16777216 → Counts old new n → CountsWithin n (2 * 16777216) old new
@@ -26,7 +26,8 @@ of_both old mid new m n few more h i = record {
 }
 
 -- calls through a reference are calls of the device
-pub of_lent : (old new : Calls) (x y least lower most : ℕ) → lower ≤ least → CountsWithin least most (lent_calls x old) (lent_calls y new) → CountsWithin lower most old new
+pub of_lent : (old new : Calls) (x y least lower most : ℕ) → lower ≤ least → CountsWithin least most (lent_calls x old) (lent_calls y new)
+    → CountsWithin lower most old new
 of_lent old new x y least lower most low h = record {
   calls = h.calls;
   enough = omega (arith, low, h.enough);
@@ -35,7 +36,7 @@ of_lent old new x y least lower most low h = record {
 }
 
 -- a device has failed, or its calls were too many, where its reader of lines says so
-pub has_failed : (why : LabFault) (was is broken : Bool) (turns : ℕ) (old new : Calls) (x y : ℕ) →
+pub has_failed : (why : RunFault) (was is broken : Bool) (turns : ℕ) (old new : Calls) (x y : ℕ) →
     is ≡ was → CountsWithin turns (2 * 16777216) (lent_calls x old) (lent_calls y new) →
     IsDeviceFault why was (turns ≡ 16777216) broken → HasFailed why is old new broken
 has_failed (fault.Line n e) was is broken turns old new x y same counted h = tt
@@ -54,7 +55,7 @@ pub setup_calls : (old new : Calls) (x y n : ℕ) → n ≤ 16777216 → Counts 
 setup_calls old new x y n few h =
     of_lent old new x y n 0 16777216 (omega (arith)) (record { calls = n; enough = omega (arith); few = few; counted = h })
 
-pub setup_has_failed : (why : LabFault) (was is broken : Bool) (turns : ℕ) (old new : Calls) (x y : ℕ) →
+pub setup_has_failed : (why : RunFault) (was is broken : Bool) (turns : ℕ) (old new : Calls) (x y : ℕ) →
     is ≡ was → turns ≤ 16777216 → Counts (lent_calls x old) (lent_calls y new) turns →
     IsDeviceFault why was (turns ≡ 16777216) broken → HasFailed why is old new broken
 setup_has_failed why was is broken turns old new x y same few counted h =

@@ -1,5 +1,6 @@
 -- Words without a fault name one of the program's subcommands, and give each option of `serve` a number in its range.
-use Rattle.std.proofs.Common.{◌≡◌, ℕ, ◌<◌, Bool, true, false, List, [], ◌∷◌, length, Option, Some, None, refl, sym, ◌∙◌, ap, subst, arith, cond, codes, inl, inr, slice_index}
+use Rattle.std.proofs.Common.{◌≡◌, ℕ, ◌<◌, Bool, true, false, List, [], ◌∷◌, length, Option, Some, None, refl, sym, ◌∙◌, ap, subst, arith, cond}
+use Rattle.std.proofs.Common.{codes, inl, inr, slice_index}
 use Rattle.std.specs.Prelude.{not, ◌&&◌, ◌||◌, ◌⊎◌, is_some, find, option_map, option_and_then, slice_get, unwrap_or}
 use Rattle.std.specs.Option.{option_map_or}
 use Rattle.std.specs.List.{list_any}
@@ -95,7 +96,8 @@ given : (words : List Text) → level_fault serve [] nothing_held words false []
 given words e = both_given _ _ (level_checked serve [] nothing_held words false [] e)
 
 -- the text of a row
-text_of : (id : Text) (rows : List Row) (r : Row) (most : ℕ) → find (λ r. bytes_eq r.id id) rows ≡ Some r → AreNumbers most r.values → HasNumber most (first_of id rows)
+text_of : (id : Text) (rows : List Row) (r : Row) (most : ℕ) → find (λ r. bytes_eq r.id id) rows ≡ Some r → AreNumbers most r.values
+    → HasNumber most (first_of id rows)
 text_of id rows r most found numbers =
     subst (λ (o : Option Row). HasNumber most (option_and_then (λ r. slice_get r.values 0) o)) (sym found) (first_number most r.values numbers)
 

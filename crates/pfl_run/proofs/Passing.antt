@@ -1,20 +1,26 @@
 -- Words without a fault give each option of a subcommand that was met values that pass.
-use Rattle.std.proofs.Common.{◌≡◌, ℕ, zero, suc, ◌<◌, Bool, true, false, List, [], ◌∷◌, ◌++◌, length, drop, Option, Some, None, refl, sym, ap, subst, arith, cond, inl, inr}
+use Rattle.std.proofs.Common.{◌≡◌, ℕ, zero, suc, ◌<◌, Bool, true, false, List, [], ◌∷◌, ◌++◌, length, drop, Option, Some, None, refl, sym, ap, subst}
+use Rattle.std.proofs.Common.{arith, cond, inl, inr}
 use Rattle.std.specs.Prelude.{not, ◌&&◌, ◌||◌, ◌⊎◌, is_some, find, fold, slice_get, encode_utf8}
 use Rattle.std.specs.Option.{option_map_or}
 use Rattle.std.specs.Str.{bytes_eq, chars}
 use Rattle.std.proofs.lemmas.Slice.Eq.{bytes_eq-Decides}
 use Rattle.clap.specs.Lexer.{long_of, short_of}
 use Rattle.clap.specs.Facts.{explicit_source, unwrap_or_range}
-use Rattle.clap.specs.Walk.{Held, Outcome, done, waits, plain, refused, Row, Rule, Step, next, trailing, subcommand, value, Text, Waiting, idle, option, positional, Walk}
-use Rattle.clap.specs.Walk.{action_of, after_flag, after_step, arg_by_id, arg_by_index, arg_by_long, arg_by_short, at_row, attached_value, bundle, bundle_met, bundle_step}
-use Rattle.clap.specs.Walk.{default_rows, flag_met, has_row, is_pending, long_met, long_or_other, more_values, most_values, nothing_held, option_met, option_word, plain_word, pushed}
-use Rattle.clap.specs.Walk.{reacted, reading_by, rows_after, settled, settled_rows, short_met, short_or_plain, subcommand_or_other, takes_several, takes_values, to_positional, used, used_as, used_by_id, values_or_missing}
+use Rattle.clap.specs.Walk.{Held, Outcome, done, waits, plain, refused, Row, Rule, Step, next, trailing, subcommand, value, Text, Waiting, idle}
+use Rattle.clap.specs.Walk.{option, positional, Walk}
+use Rattle.clap.specs.Walk.{action_of, after_flag, after_step, arg_by_id, arg_by_index, arg_by_long, arg_by_short, at_row, attached_value, bundle}
+use Rattle.clap.specs.Walk.{bundle_met, bundle_step}
+use Rattle.clap.specs.Walk.{default_rows, flag_met, has_row, is_pending, long_met, long_or_other, more_values, most_values, nothing_held, option_met}
+use Rattle.clap.specs.Walk.{option_word, plain_word, pushed}
+use Rattle.clap.specs.Walk.{reacted, reading_by, rows_after, settled, settled_rows, short_met, short_or_plain, subcommand_or_other, takes_several}
+use Rattle.clap.specs.Walk.{takes_values, to_positional, used, used_as, used_by_id, values_or_missing}
 use Rattle.clap.specs.Walk.{walk, walk_from, walked, walked_from, with_default, with_values, without, word_met}
 use Rattle.clap.specs.Simple.{Shape}
 use Rattle.clap.specs.Takes.{is_given}
 use Rattle.clap.specs.Kinds.{Kinds, or_else, range_kinds}
-use Rattle.clap.specs.Faults.{action_fault, bundle_fault, bundle_step_fault, flag_word_fault, flags_fault, level_fault, long_fault, option_fault, other_fault, positional_fault, react_fault}
+use Rattle.clap.specs.Faults.{action_fault, bundle_fault, bundle_step_fault, flag_word_fault, flags_fault, level_fault, long_fault, option_fault}
+use Rattle.clap.specs.Faults.{other_fault, positional_fault, react_fault}
 use Rattle.clap.specs.Faults.{set_fault, settle_fault, short_fault, step_fault, stray_fault, turn_fault, use_fault, values_fault, walk_fault, word_fault}
 use Rattle.clap.specs.declared.builder.action.ArgAction.{ArgAction}
 use Rattle.clap.specs.declared.builder.action.ArgAction.TheVariants.{Set, Help}
@@ -112,7 +118,8 @@ module _ (Good : Text → List Text → Type 0) where
       (set_kept a.id (reading_by a) (v ∷ vs) rows fresh h (good (v ∷ vs) (omega arith) passed))
 
   -- a use of an argument that fails in nothing
-  use_kept : (a : Rule) (values : List Text) (rows : List Row) → Meets a → use_fault false a values rows ≡ [] → Each Passes rows → Each Passes (used a values rows)
+  use_kept : (a : Rule) (values : List Text) (rows : List Row) → Meets a → use_fault false a values rows ≡ [] → Each Passes rows
+      → Each Passes (used a values rows)
   use_kept a values rows m e h = elim m.0.0 [
     | inl set ↦ use_set a values rows set.0 set.1 m.1 e h
     | inr help ↦
@@ -127,15 +134,18 @@ module _ (Good : Text → List Text → Type 0) where
   by_id_kept (Some a) vs rows m e h = use_kept a vs rows (m a refl) e h
 
   settle_kept : (c : List Rule) (p : Option (Text × List Text)) (rows : List Row) → Each Meets c →
-      option_map_or (λ p. option_map_or (λ a. use_fault false a p.1 rows) (arg_by_id c p.0) []) p [] ≡ [] → Each Passes rows → Each Passes (settled_rows c p rows)
+      option_map_or (λ p. option_map_or (λ a. use_fault false a p.1 rows) (arg_by_id c p.0) []) p [] ≡ [] → Each Passes rows
+      → Each Passes (settled_rows c p rows)
   settle_kept c None rows m e h = h
   settle_kept c (Some p) rows m e h = by_id_kept (arg_by_id c p.0) p.1 rows (λ a found. found_one Meets _ c a m found) e h
 
-  react_kept : (c : List Rule) (a : Rule) (vs : List Text) (h : Held) → Each Meets c → Meets a → react_fault c false a vs h ≡ [] → Kept h → Kept (reacted c a vs h)
+  react_kept : (c : List Rule) (a : Rule) (vs : List Text) (h : Held) → Each Meets c → Meets a → react_fault c false a vs h ≡ [] → Kept h
+      → Kept (reacted c a vs h)
   react_kept c a vs h m ma e k =
       use_kept a vs (settled c h).rows ma (or_else_second _ _ e) (settle_kept c h.pending h.rows m (or_else_first _ _ e) k)
 
-  option_kept : (c : List Rule) (a : Rule) (v : Option Text) (h : Held) → Each Meets c → Meets a → option_fault c false a v h ≡ [] → Kept h → Kept (option_met c a v h).0
+  option_kept : (c : List Rule) (a : Rule) (v : Option Text) (h : Held) → Each Meets c → Meets a → option_fault c false a v h ≡ [] → Kept h
+      → Kept (option_met c a v h).0
   option_kept c a (Some v) h m ma e k = react_kept c a (v ∷ []) h m ma e k
   option_kept c a None h m ma e k = settle_kept c h.pending h.rows m e k
 
@@ -211,7 +221,8 @@ module _ (Good : Text → List Text → Type 0) where
       after_kept c waiting word _ _ (long_kept c (arg_by_long c p.0) p.1 h m (λ a found. found_one Meets _ c a m found) e k)
 
   dashes_kept : (b : Bool) (c : List Rule) (waiting : Waiting) (position : ℕ) (word : Text) (h : Held) → Each Meets c →
-      cond b [] (flag_word_fault c false (long_of word) word h) ≡ [] → Kept h → Kept (cond b (h, trailing position) (long_or_other c waiting word (long_of word) h)).0
+      cond b [] (flag_word_fault c false (long_of word) word h) ≡ [] → Kept h
+      → Kept (cond b (h, trailing position) (long_or_other c waiting word (long_of word) h)).0
   dashes_kept true c waiting position word h m e k = k
   dashes_kept false c waiting position word h m e k = longs_kept c waiting word (long_of word) h m e k
 
@@ -249,7 +260,8 @@ module _ (Good : Text → List Text → Type 0) where
 
   stop_kept : (s : Shape) (stop : Option (Text × List Text)) (w : Walk) (word : Text) → s.args_override_self ≡ false → Each Meets s.rules →
       cond (is_some stop) [] (or_else (word_fault s [] w.is_trailing w.waiting word w.held)
-      (step_fault s w.position (word_met s.rules [] w.is_trailing w.waiting w.position word w.held).0 (word_met s.rules [] w.is_trailing w.waiting w.position word w.held).1)) ≡ [] →
+      (step_fault s w.position (word_met s.rules [] w.is_trailing w.waiting w.position word w.held).0
+      (word_met s.rules [] w.is_trailing w.waiting w.position word w.held).1)) ≡ [] →
       Kept w.held → Kept (walked_from s.rules [] stop w word).held
   stop_kept s (Some p) w word once m e k = k
   stop_kept s None w word once m e k =

@@ -10,7 +10,7 @@ use Rattle.pfl_script.specs.Answers.{RunsUntil}
 use Rattle.pfl_script.specs.reader.Readers.{Source}
 use Rattle.pfl_script.specs.Readers.{IsRunFault}
 use Rattle.pfl_run.specs.Faults.{of_engine}
-use Rattle.pfl_run.specs.Runs.{IsDeviceFault, IsStop, IsTold, SetsUp}
+use Rattle.pfl_run.specs.Runs.{IsDeviceFault, IsStop, IsPrinted, SetsUp}
 
 -- nothing is written where nothing is done
 pub keeps_same : (w : Option (List ℕ)) → Keeps w w
@@ -40,13 +40,13 @@ device_engine engine.TooManyTurns s failed h = h
 device_engine engine.NoMemory s failed h = tt
 
 -- a text was reported, whole or in part
-pub told_by : {T E : Type 0} (r : Result T E) (text : List ℕ) (w v : Option (List ℕ)) (failed : Bool) →
-    OnOk r (Appends w v text) → OnErr r ((n : ℕ) × (n ≤ length text) × Appends w v (take n text)) → OnErr r (failed ≡ true) → IsTold text w v failed
-told_by (Ok x) text w v failed whole part fails = record {
+pub printed_by : {T E : Type 0} (r : Result T E) (text : List ℕ) (w v : Option (List ℕ)) (failed : Bool) →
+    OnOk r (Appends w v text) → OnErr r ((n : ℕ) × (n ≤ length text) × Appends w v (take n text)) → OnErr r (failed ≡ true) → IsPrinted text w v failed
+printed_by (Ok x) text w v failed whole part fails = record {
   whole = λ quiet. whole;
   part = (length text, rw (take_all (length text) text (omega arith)) whole);
 }
-told_by (Err e) text w v failed whole part fails = record {
+printed_by (Err e) text w v failed whole part fails = record {
   whole = λ quiet. let bad : true ≡ false = sym fails ∙ quiet in cc;
   part = (part.0, part.2);
 }

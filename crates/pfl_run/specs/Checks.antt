@@ -5,7 +5,7 @@ use Rattle.pfl_rules.specs.Rules.{Rules}
 use Rattle.pfl_language.specs.declared.limits.Limits.{Limits}
 use Rattle.pfl_script.specs.declared.fault.EngineFault.{EngineFault}
 use Rattle.pfl_script.specs.Checks.{ChecksUntil, ChecksWhole}
-use Rattle.pfl_run.specs.declared.fault.LabFault.{LabFault}
+use Rattle.pfl_run.specs.declared.fault.RunFault.{RunFault}
 use Rattle.pfl_run.specs.Faults.{of_engine}
 use Rattle.pfl_run.specs.Runs.{IsSetup, IsSetupStop}
 
@@ -21,7 +21,7 @@ pub record ChecksToEnd (old new : Option (List ℕ)) (w v : Option (List ℕ)) (
   pub checks : ChecksWhole mid new number w v good bad
 
 -- a setup was read, and a fault of a device, or too many turns, stopped the check of the lines after it
-pub record StopsBehind (fault : LabFault) (old : Option (List ℕ)) (w v : Option (List ℕ)) : Type 0 where
+pub record StopsBehind (fault : RunFault) (old : Option (List ℕ)) (w v : Option (List ℕ)) : Type 0 where
   pub why : EngineFault
   pub fault_is : fault ≡ of_engine why
   pub mid : Option (List ℕ)
@@ -34,5 +34,5 @@ pub record StopsBehind (fault : LabFault) (old : Option (List ℕ)) (w v : Optio
   pub until : ChecksUntil why mid new number w v
 
 -- why a check stopped: there was no setup, and nothing was written; or it stopped after the setup
-abbrev pub IsCheckStop : LabFault → Option (List ℕ) → Option (List ℕ) → Option (List ℕ) → Type 0
+abbrev pub IsCheckStop : RunFault → Option (List ℕ) → Option (List ℕ) → Option (List ℕ) → Type 0
 IsCheckStop fault old w v = (IsSetupStop fault old × Keeps w v) ⊎ StopsBehind fault old w v

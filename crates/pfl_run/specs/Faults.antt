@@ -8,15 +8,15 @@ use Rattle.pfl_script.specs.declared.fault.EngineFault.{EngineFault}
 use Rattle.pfl_script.specs.declared.fault.EngineFault.TheVariants as engine
 use Rattle.pfl_script.specs.declared.setup_fault.SetupFault.{SetupFault}
 use Rattle.pfl_script.specs.declared.setup_fault.SetupFault.TheVariants as setup
-use Rattle.pfl_run.specs.declared.fault.LabFault.{LabFault}
-use Rattle.pfl_run.specs.declared.fault.LabFault.TheVariants as lab
+use Rattle.pfl_run.specs.declared.fault.RunFault.{RunFault}
+use Rattle.pfl_run.specs.declared.fault.RunFault.TheVariants as lab
 
 -- a fault of the setup, at the line with the number
 abbrev pub at_line : ℕ → List ℕ → List ℕ
 at_line n what = codes "pfl_lab: setup line " ++ decimal n ++ codes ": " ++ what
 
 -- the line that reports why a run stopped
-abbrev pub fault_text : LabFault → List ℕ
+abbrev pub fault_text : RunFault → List ℕ
 fault_text (lab.Line n why) = at_line n (codes "line " ++ decimal (line_number why) ++ codes "\n")
 fault_text (lab.Rule n why) = at_line n (codes "rule " ++ decimal (rule_number why) ++ codes "\n")
 fault_text (lab.World n why) = at_line n (codes "world " ++ decimal (world_number why) ++ codes "\n")
@@ -29,12 +29,12 @@ fault_text lab.NoThread = codes "pfl_lab: no thread\n"
 fault_text lab.NoMemory = codes "pfl_lab: no memory\n"
 
 -- the exit status of a run that stopped
-abbrev pub fault_status : LabFault → ℕ
+abbrev pub fault_status : RunFault → ℕ
 fault_status lab.NoMemory = 3
 fault_status _ = 1
 
 -- a fault of the setup as one of the run
-abbrev pub of_setup : SetupFault → LabFault
+abbrev pub of_setup : SetupFault → RunFault
 of_setup (setup.Line n why) = lab.Line n why
 of_setup (setup.Rule n why) = lab.Rule n why
 of_setup (setup.NoOpen n) = lab.NoOpen n
@@ -43,7 +43,7 @@ of_setup setup.TooManyTurns = lab.TooManyTurns
 of_setup setup.NoMemory = lab.NoMemory
 
 -- a fault of the engine as one of the run
-abbrev pub of_engine : EngineFault → LabFault
+abbrev pub of_engine : EngineFault → RunFault
 of_engine engine.Read = lab.Read
 of_engine engine.Write = lab.Write
 of_engine engine.TooManyTurns = lab.TooManyTurns

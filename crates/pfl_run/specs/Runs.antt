@@ -10,8 +10,8 @@ use Rattle.pfl_script.specs.world.Worlds.{new_world, world_fault}
 use Rattle.pfl_script.specs.timeline.Timelines.{Timeline, new_timeline}
 use Rattle.pfl_script.specs.Answers.{RunsWhole, RunsUntil}
 use Rattle.pfl_script.specs.Setups.{IsFaultyAt, IsUnopened, HasRuleFault, ReadsSetupTo}
-use Rattle.pfl_run.specs.declared.fault.LabFault.{LabFault}
-use Rattle.pfl_run.specs.declared.fault.LabFault.TheVariants as fault
+use Rattle.pfl_run.specs.declared.fault.RunFault.{RunFault}
+use Rattle.pfl_run.specs.declared.fault.RunFault.TheVariants as fault
 use Rattle.pfl_script.specs.declared.fault.EngineFault.{EngineFault}
 use Rattle.pfl_run.specs.Faults.{fault_text, fault_status, of_engine}
 
@@ -38,7 +38,7 @@ pub record RunsToEnd (old new : Option (List ℕ)) (w v : Option (List ℕ)) (ba
   pub runs : RunsWhole mid new first last w v lines bad
 
 -- a pair was set up, and first lines after the setup were executed, up to this fault
-pub record RunsToFault (fault : LabFault) (old : Option (List ℕ)) (w v : Option (List ℕ)) : Type 0 where
+pub record RunsToFault (fault : RunFault) (old : Option (List ℕ)) (w v : Option (List ℕ)) : Type 0 where
   pub why : EngineFault
   pub fault_is : fault ≡ of_engine why
   pub mid : Option (List ℕ)
@@ -63,7 +63,7 @@ abbrev pub HasRuleFaultAt : Option (List ℕ) → ℕ → RuleFault → Type 0
 HasRuleFaultAt old n why = (mid : Option (List ℕ)) × HasRuleFault old mid n why
 
 -- why no pair was set up
-abbrev pub IsSetupStop : LabFault → Option (List ℕ) → Type 0
+abbrev pub IsSetupStop : RunFault → Option (List ℕ) → Type 0
 IsSetupStop (fault.Line n why) old = IsFaultyAt old n why
 IsSetupStop (fault.Rule n why) old = HasRuleFaultAt old n why
 IsSetupStop (fault.World n why) old = HasWorldFault old n why
@@ -74,18 +74,18 @@ IsSetupStop fault.NoThread old = ⊥
 IsSetupStop _ old = Unit {0}
 
 -- why a run stopped: no pair was set up, and nothing was written; or it stopped after the setup
-abbrev pub IsStop : LabFault → Option (List ℕ) → Option (List ℕ) → Option (List ℕ) → Type 0
+abbrev pub IsStop : RunFault → Option (List ℕ) → Option (List ℕ) → Option (List ℕ) → Type 0
 IsStop fault old w v = (IsSetupStop fault old × Keeps w v) ⊎ RunsToFault fault old w v
 
 -- where a fault says so, the reader has failed, there were too many turns, or the writer has failed
-abbrev pub IsDeviceFault : LabFault → Bool → Type 0 → Bool → Type 0
+abbrev pub IsDeviceFault : RunFault → Bool → Type 0 → Bool → Type 0
 IsDeviceFault fault.Read failed IsLong broken = failed ≡ true
 IsDeviceFault fault.Write failed IsLong broken = broken ≡ true
 IsDeviceFault fault.TooManyTurns failed IsLong broken = IsLong
 IsDeviceFault _ failed IsLong broken = Unit {0}
 
 -- the same of devices: where there were too many turns, at least 16777216 calls of `read` were made, those of the setup among them
-abbrev pub HasFailed : LabFault → Bool → Calls → Calls → Bool → Type 0
+abbrev pub HasFailed : RunFault → Bool → Calls → Calls → Bool → Type 0
 HasFailed fault failed old new broken = IsDeviceFault fault failed (CountsWithin 16777216 (2 * 16777216) old new) broken
 
 -- the exit status after this many faulty lines
@@ -93,7 +93,7 @@ abbrev pub ended_status : ℕ → ℕ
 ended_status bad = if bad == 0 then 0 else 1
 
 -- a text was written: whole, unless the writer has failed, and else in part
-pub record IsTold (text : List ℕ) (w v : Option (List ℕ)) (failed : Bool) : Type 0 where
+pub record IsPrinted (text : List ℕ) (w v : Option (List ℕ)) (failed : Bool) : Type 0 where
   pub whole : failed ≡ false → Appends w v text
   pub part : (n : ℕ) × Appends w v (take n text)
 
@@ -106,9 +106,9 @@ pub record Ends (Reads : ℕ → Type 0) (f g : Option (List ℕ)) (status : ℕ
 
 -- it stopped for this reason, the devices have failed where it says so, and its fault is written; `failed`: the device that it is written
 -- to has failed
-pub record Stops (IsWhy IsBroken : LabFault → Type 0) (f g : Option (List ℕ)) (failed : Bool) (status : ℕ) : Type 0 where
-  pub fault : LabFault
+pub record Stops (IsWhy IsBroken : RunFault → Type 0) (f g : Option (List ℕ)) (failed : Bool) (status : ℕ) : Type 0 where
+  pub fault : RunFault
   pub why : IsWhy fault
   pub device : IsBroken fault
-  pub told : IsTold (fault_text fault) f g failed
+  pub printed : IsPrinted (fault_text fault) f g failed
   pub exit : status ≡ fault_status fault

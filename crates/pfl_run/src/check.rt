@@ -5,8 +5,8 @@ ghost use Rattle.pfl_base.specs.Counts.{CountsWithin};
 ghost use Rattle.pfl_run.specs.Checks.{ChecksToEnd, IsCheckStop};
 ghost use Rattle.pfl_run.specs.Runs.{Ends, HasFailed, IsDeviceFault, Stops};
 
-use crate::fault::LabFault;
-use crate::run::{ended_status, tell};
+use crate::fault::RunFault;
+use crate::run::{ended_status, report_fault};
 use crate::setups::read_opening;
 use pfl_base::{Input, Output};
 use pfl_script::{Checked, LineReader, check_lines};
@@ -18,7 +18,7 @@ pub fn check_whole<A: Allocator + Copy, R: Input, W: Output>(
     alloc: A,
     reader: &mut LineReader<R>,
     writer: &mut W,
-) -> Result<Checked, LabFault>
+) -> Result<Checked, RunFault>
     requires fresh { reader.old.lines ≡ 0 }
     ensures ends { IfOk result (λ checked. ChecksToEnd reader.old.left reader.new.left (W.written writer.old) (W.written writer.new) checked.bad) }
     ensures stop { IfErr result (λ fault. IsCheckStop fault reader.old.left (W.written writer.old) (W.written writer.new)) }
@@ -28,7 +28,7 @@ pub fn check_whole<A: Allocator + Copy, R: Input, W: Output>(
     match read_opening(alloc, reader) {
         Ok(_setup) => match check_lines(reader, writer) {
             Ok(checked) => Ok(checked),
-            Err(fault) => Err(LabFault::from(fault)),
+            Err(fault) => Err(RunFault::from(fault)),
         },
         Err(fault) => Err(fault),
     }
@@ -56,6 +56,6 @@ pub fn check_lab<A: Allocator + Copy, R: Input, W: Output, F: Output>(
     lines.into_inner();
     match whole {
         Ok(checked) => ended_status(checked.bad),
-        Err(fault) => tell(fault, faults),
+        Err(fault) => report_fault(fault, faults),
     }
 }

@@ -12,7 +12,7 @@ use pfl_script::{
 
 /// Why a run of the laboratory stopped. Lines count from 1.
 #[derive(Clone, Copy, Debug, PartialEq, Eq)]
-pub enum LabFault {
+pub enum RunFault {
     /// This line of the setup has a fault.
     Line(u64, LineFault),
     /// The rules have a fault; the line is that of `open`.
@@ -35,22 +35,22 @@ pub enum LabFault {
     NoMemory,
 }
 
-impl LabFault {
+impl RunFault {
     /// The line that reports the fault; it takes no memory.
     pub fn line(self) -> ShortLine
         ensures { result.bytes ≡ fault_text self }
     {
         match self {
-            LabFault::Line(line, fault) => numbered_line(line, "line ", fault.number()),
-            LabFault::Rule(line, fault) => numbered_line(line, "rule ", fault.number()),
-            LabFault::World(line, fault) => numbered_line(line, "world ", fault.number()),
-            LabFault::NoOpen(line) => unopened_line(line),
-            LabFault::Read => plain_line("pfl_lab: read\n"),
-            LabFault::Write => plain_line("pfl_lab: write\n"),
-            LabFault::TooManyTurns => plain_line("pfl_lab: too many turns\n"),
-            LabFault::Network => plain_line("pfl_lab: network\n"),
-            LabFault::NoThread => plain_line("pfl_lab: no thread\n"),
-            LabFault::NoMemory => plain_line("pfl_lab: no memory\n"),
+            RunFault::Line(line, fault) => numbered_line(line, "line ", fault.number()),
+            RunFault::Rule(line, fault) => numbered_line(line, "rule ", fault.number()),
+            RunFault::World(line, fault) => numbered_line(line, "world ", fault.number()),
+            RunFault::NoOpen(line) => unopened_line(line),
+            RunFault::Read => plain_line("pfl_lab: read\n"),
+            RunFault::Write => plain_line("pfl_lab: write\n"),
+            RunFault::TooManyTurns => plain_line("pfl_lab: too many turns\n"),
+            RunFault::Network => plain_line("pfl_lab: network\n"),
+            RunFault::NoThread => plain_line("pfl_lab: no thread\n"),
+            RunFault::NoMemory => plain_line("pfl_lab: no memory\n"),
         }
     }
 
@@ -59,7 +59,7 @@ impl LabFault {
         ensures { result ≡ fault_status self }
     {
         match self {
-            LabFault::NoMemory => 3,
+            RunFault::NoMemory => 3,
             _ => 1,
         }
     }
@@ -97,34 +97,34 @@ fn unopened_line(number: u64) -> ShortLine
     line
 }
 
-impl From<SetupFault> for LabFault {
+impl From<SetupFault> for RunFault {
     ghost use Rattle.pfl_run.specs.Faults.{of_setup};
 
     ghost from_gives = { λ setup fault. fault ≡ of_setup setup };
 
-    fn from(fault: SetupFault) -> LabFault {
+    fn from(fault: SetupFault) -> RunFault {
         match fault {
-            SetupFault::Line(line, fault) => LabFault::Line(line, fault),
-            SetupFault::Rule(line, fault) => LabFault::Rule(line, fault),
-            SetupFault::NoOpen(lines) => LabFault::NoOpen(lines),
-            SetupFault::Read => LabFault::Read,
-            SetupFault::TooManyTurns => LabFault::TooManyTurns,
-            SetupFault::NoMemory => LabFault::NoMemory,
+            SetupFault::Line(line, fault) => RunFault::Line(line, fault),
+            SetupFault::Rule(line, fault) => RunFault::Rule(line, fault),
+            SetupFault::NoOpen(lines) => RunFault::NoOpen(lines),
+            SetupFault::Read => RunFault::Read,
+            SetupFault::TooManyTurns => RunFault::TooManyTurns,
+            SetupFault::NoMemory => RunFault::NoMemory,
         }
     }
 }
 
-impl From<EngineFault> for LabFault {
+impl From<EngineFault> for RunFault {
     ghost use Rattle.pfl_run.specs.Faults.{of_engine};
 
     ghost from_gives = { λ engine fault. fault ≡ of_engine engine };
 
-    fn from(fault: EngineFault) -> LabFault {
+    fn from(fault: EngineFault) -> RunFault {
         match fault {
-            EngineFault::Read => LabFault::Read,
-            EngineFault::Write => LabFault::Write,
-            EngineFault::TooManyTurns => LabFault::TooManyTurns,
-            EngineFault::NoMemory => LabFault::NoMemory,
+            EngineFault::Read => RunFault::Read,
+            EngineFault::Write => RunFault::Write,
+            EngineFault::TooManyTurns => RunFault::TooManyTurns,
+            EngineFault::NoMemory => RunFault::NoMemory,
         }
     }
 }

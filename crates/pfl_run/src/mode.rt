@@ -6,7 +6,8 @@ ghost use Rattle.clap.specs.Kinds.{HasKind, Kinds};
 ghost use Rattle.clap.specs.Simple.{subcommand_of, subcommand_rows_of};
 ghost use Rattle.clap.specs.Words.{app_of, first_value, found_of, rule_of};
 ghost use Rattle.clap.specs.declared.builder.command.Command.TheViews.{out-Command as fields_of};
-ghost use Rattle.pfl_run.specs.Modes.{kind_status, lab_app, mode_word, number_rule, serve_app, subcommand_name, words_status, HasNumbers, IsWordsFault, WritesNumber};
+ghost use Rattle.pfl_run.specs.Modes.{kind_status, lab_app, mode_word, number_rule, serve_app, subcommand_name, words_status, HasNumbers};
+ghost use Rattle.pfl_run.specs.Modes.{IsWordsFault, WritesNumber};
 ghost use Rattle.pfl_run.specs.inner.Modes.{HasNumber, IsMet, IsModeOf, IsServeOf};
 
 use crate::version::VERSION;

@@ -7,7 +7,7 @@ ghost use Rattle.pfl_script.specs.world.Worlds.{new_world, world_fault};
 ghost use Rattle.pfl_script.specs.timeline.Timelines.{new_timeline};
 ghost use Rattle.pfl_run.specs.Runs.{IsDeviceFault, IsSetupStop, SetsUp};
 
-use crate::fault::LabFault;
+use crate::fault::RunFault;
 use crate::setups::read_opening;
 use pfl_base::Input;
 use pfl_edits::NoMemory;
@@ -48,7 +48,7 @@ fn opening_of<A: Allocator + Copy>(alloc: A, setup: Setup<A>) -> Result<Opening<
 pub fn open_pair<A: Allocator + Copy, R: Input>(
     alloc: A,
     reader: &mut LineReader<R>,
-) -> Result<Opening<A>, LabFault>
+) -> Result<Opening<A>, RunFault>
     requires fresh { reader.old.lines ≡ 0 }
     ensures sets_up { IfOk result (λ o. SetsUp reader.old.left reader.new.left reader.new.lines o.timeline) }
     ensures text { IfOk result (λ o. IfSome o.text (λ text. IsSetupText reader.old.left reader.new.left text.items)) }
@@ -60,7 +60,7 @@ pub fn open_pair<A: Allocator + Copy, R: Input>(
     match read_opening(alloc, reader) {
         Ok(setup) => match opening_of(alloc, setup) {
             Ok(opening) => Ok(opening),
-            Err(NoMemory) => Err(LabFault::NoMemory),
+            Err(NoMemory) => Err(RunFault::NoMemory),
         },
         Err(fault) => Err(fault),
     }
@@ -70,7 +70,7 @@ pub fn open_pair<A: Allocator + Copy, R: Input>(
 pub fn set_up<A: Allocator + Copy, R: Input>(
     alloc: A,
     reader: &mut LineReader<R>,
-) -> Result<Timeline<A>, LabFault>
+) -> Result<Timeline<A>, RunFault>
     requires fresh { reader.old.lines ≡ 0 }
     ensures sets_up { IfOk result (λ timeline. SetsUp reader.old.left reader.new.left reader.new.lines timeline) }
     ensures stop { IfErr result (λ fault. IsSetupStop fault reader.old.left) }

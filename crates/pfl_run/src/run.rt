@@ -3,9 +3,9 @@
 ghost use Rattle.std.specs.Prelude.{◌≡◌, ◌*◌, ◌⊎◌, IfOk, IfErr};
 ghost use Rattle.pfl_base.specs.Counts.{CountsWithin};
 ghost use Rattle.pfl_run.specs.Faults.{fault_status, fault_text};
-ghost use Rattle.pfl_run.specs.Runs.{Ends, HasFailed, IsDeviceFault, IsStop, IsTold, RunsToEnd, Stops, ended_status};
+ghost use Rattle.pfl_run.specs.Runs.{Ends, HasFailed, IsDeviceFault, IsStop, IsPrinted, RunsToEnd, Stops, ended_status};
 
-use crate::fault::LabFault;
+use crate::fault::RunFault;
 use crate::opened::set_up;
 use pfl_base::{Input, Output};
 use pfl_script::{Ended, LineReader, run_lines, write_text};
@@ -17,7 +17,7 @@ pub fn run_whole<A: Allocator + Copy, R: Input, W: Output>(
     alloc: A,
     reader: &mut LineReader<R>,
     writer: &mut W,
-) -> Result<Ended, LabFault>
+) -> Result<Ended, RunFault>
     requires fresh { reader.old.lines ≡ 0 }
     ensures ends { IfOk result (λ ended. RunsToEnd reader.old.left reader.new.left (W.written writer.old) (W.written writer.new) ended.bad) }
     ensures stop { IfErr result (λ fault. IsStop fault reader.old.left (W.written writer.old) (W.written writer.new)) }
@@ -27,26 +27,26 @@ pub fn run_whole<A: Allocator + Copy, R: Input, W: Output>(
     match set_up(alloc, reader) {
         Ok(mut timeline) => match run_lines(alloc, reader, writer, &mut timeline) {
             Ok(ended) => Ok(ended),
-            Err(fault) => Err(LabFault::from(fault)),
+            Err(fault) => Err(RunFault::from(fault)),
         },
         Err(fault) => Err(fault),
     }
 }
 
 /// Writes a text as far as the device takes it.
-pub fn tell_text<D: Output>(device: &mut D, text: &[u8])
-    ensures { IsTold text.now (D.written device.old) (D.written device.new) (D.has_failed device.new) }
+pub fn print_text<D: Output>(device: &mut D, text: &[u8])
+    ensures { IsPrinted text.now (D.written device.old) (D.written device.new) (D.has_failed device.new) }
 {
     let _ = write_text(device, text);
 }
 
 /// Reports a fault by its line, and returns the program's exit status.
-pub fn tell<F: Output>(fault: LabFault, faults: &mut F) -> u8
-    ensures told { IsTold (fault_text fault) (F.written faults.old) (F.written faults.new) (F.has_failed faults.new) }
+pub fn report_fault<F: Output>(fault: RunFault, faults: &mut F) -> u8
+    ensures printed { IsPrinted (fault_text fault) (F.written faults.old) (F.written faults.new) (F.has_failed faults.new) }
     ensures status { result ≡ fault_status fault }
 {
     let line = fault.line();
-    tell_text(faults, line.as_str().as_bytes());
+    print_text(faults, line.as_str().as_bytes());
     fault.status()
 }
 
@@ -79,6 +79,6 @@ pub fn run_lab<A: Allocator + Copy, R: Input, W: Output, F: Output>(
     lines.into_inner();
     match whole {
         Ok(ended) => ended_status(ended.bad),
-        Err(fault) => tell(fault, faults),
+        Err(fault) => report_fault(fault, faults),
     }
 }

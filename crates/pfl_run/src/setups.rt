@@ -7,7 +7,7 @@ ghost use Rattle.pfl_script.specs.world.Worlds.{world_fault};
 ghost use Rattle.pfl_run.specs.Runs.{IsDeviceFault, IsSetup, IsSetupStop};
 ghost use Rattle.pfl_run.specs.inner.Runs.{IsLimitsStop};
 
-use crate::fault::LabFault;
+use crate::fault::RunFault;
 use pfl_base::Input;
 use pfl_language::{LimitFault, Limits};
 use pfl_script::{LineReader, Setup, WorldFault, read_setup};
@@ -15,14 +15,14 @@ use std::alloc::Allocator;
 
 /// Tests the limits of a setup, whose line `open` has the number.
 #[tactic(auto, using(crate::proofs::LimitStops::too_small, crate::proofs::LimitStops::too_large, crate::proofs::LimitStops::no_fault))]
-fn judge(limits: &Limits, number: u64) -> Result<(), LabFault>
+fn judge(limits: &Limits, number: u64) -> Result<(), RunFault>
     ensures faultless { OnOk result (world_fault limits.now ≡ None) }
     ensures fault { IfErr result (λ fault. IsLimitsStop fault number (world_fault limits.now)) }
 {
     match limits.fault() {
         None => Ok(()),
-        Some(LimitFault::TooSmall) => Err(LabFault::World(number, WorldFault::TooSmall)),
-        Some(LimitFault::TooLarge) => Err(LabFault::World(number, WorldFault::TooLarge)),
+        Some(LimitFault::TooSmall) => Err(RunFault::World(number, WorldFault::TooSmall)),
+        Some(LimitFault::TooLarge) => Err(RunFault::World(number, WorldFault::TooLarge)),
     }
 }
 
@@ -30,7 +30,7 @@ fn judge(limits: &Limits, number: u64) -> Result<(), LabFault>
 pub fn read_opening<A: Allocator + Copy, R: Input>(
     alloc: A,
     reader: &mut LineReader<R>,
-) -> Result<Setup<A>, LabFault>
+) -> Result<Setup<A>, RunFault>
     requires fresh { reader.old.lines ≡ 0 }
     ensures setup { IfOk result (λ s. IsSetup reader.old.left reader.new.left reader.new.lines s.limits s.rules_a s.rules_b) }
     ensures text { IfOk result (λ s. IfSome s.text (λ text. IsSetupText reader.old.left reader.new.left text.items)) }
@@ -45,6 +45,6 @@ pub fn read_opening<A: Allocator + Copy, R: Input>(
             Ok(()) => Ok(setup),
             Err(fault) => Err(fault),
         },
-        Err(fault) => Err(LabFault::from(fault)),
+        Err(fault) => Err(RunFault::from(fault)),
     }
 }

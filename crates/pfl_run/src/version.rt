@@ -2,4 +2,4 @@
 
 /// The release, the sum of its sources, and the logic that proves them.
 pub(crate) const VERSION: &str =
-    "release 14, sources 487332d2d16461d08c05a9a1efc2e51259183f6356dd0c4f1c8187e0de19a380, logic dac8208d650f15bf";
+    "release 15, sources 5ce7525344e7a2d3dfc22d2c7e28c0fa49c74602802afd2497061fcf3dfaa1de, logic dac8208d650f15bf";

@@ -23,7 +23,8 @@ pub pushed_more : {X : Type 0} (line : X → List ℕ) (xs : List X) (i : ℕ) (
     so_far ≡ first ++ flat_map line (take i xs) → now ≡ so_far ++ line x → x ≡ get_or xs i d → i < length xs →
     now ≡ first ++ flat_map line (take (i + 1) xs)
 pushed_more line xs i x d first so_far now before pushed here within =
-    pushed ∙ (ap (λ text. text ++ line x) before ∙ (append_assoc first (flat_map line (take i xs)) (line x) ∙ ap (λ text. first ++ text) (text_more line xs i x d here within)))
+    pushed ∙ (ap (λ text. text ++ line x) before
+    ∙ (append_assoc first (flat_map line (take i xs)) (line x) ∙ ap (λ text. first ++ text) (text_more line xs i x d here within)))
 
 -- the text of the first element is appended to a text, before those of the others
 pub pushed_next : {X : Type 0} (line : X → List ℕ) (xs rest : List X) (x : X) (so_far now : List ℕ) → xs ≡ x ∷ rest → now ≡ so_far ++ line x →
@@ -44,7 +45,8 @@ pushed_five first a b c d e one two three four five h i j k l =
 
 -- six parts
 pub pushed_six : (first a b c d e f one two three four five six : List ℕ) →
-    one ≡ first ++ a → two ≡ one ++ b → three ≡ two ++ c → four ≡ three ++ d → five ≡ four ++ e → six ≡ five ++ f → six ≡ first ++ (((((a ++ b) ++ c) ++ d) ++ e) ++ f)
+    one ≡ first ++ a → two ≡ one ++ b → three ≡ two ++ c → four ≡ three ++ d → five ≡ four ++ e → six ≡ five ++ f
+    → six ≡ first ++ (((((a ++ b) ++ c) ++ d) ++ e) ++ f)
 pushed_six first a b c d e f one two three four five six h i j k l m =
     pushed_two first ((((a ++ b) ++ c) ++ d) ++ e) f five six (pushed_five first a b c d e one two three four five h i j k l) m
 

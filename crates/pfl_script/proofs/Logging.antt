@@ -6,7 +6,8 @@ use Rattle.pfl_script.specs.Logs.{logged_line, logged_lines}
 
 -- the line of the next event goes onto the text
 pub logged_next : (name : List ℕ) (es : List Event) (i : ℕ) (e : Event) (first so_far now : List ℕ) → i < length es → e ≡ get_or es i e
-    → so_far ++ logged_lines name i (drop i es) ≡ first → now ≡ so_far ++ logged_line name (i + 1) e → now ++ logged_lines name (i + 1) (drop (i + 1) es) ≡ first
+    → so_far ++ logged_lines name i (drop i es) ≡ first → now ≡ so_far ++ logged_line name (i + 1) e
+    → now ++ logged_lines name (i + 1) (drop (i + 1) es) ≡ first
 unfolding logged_lines
 logged_next name es i e first so_far now within here before pushed =
     let rest : List ℕ = logged_lines name (i + 1) (drop (i + 1) es) in

@@ -27,7 +27,8 @@ pub placed-part : (a b c : Option (List ℕ)) (places : List ℕ) (i : ℕ) (pie
     WritesAllBut a b (line_to places i) piece → length places ≤ i → now ≡ piece ++ codes "\n" → n ≤ length now → Appends b c (take n now) →
     (m : ℕ) × Appends a c (take m (reply_text (Excised places)))
 placed-part a b c places i piece now n h all pushed few part =
-    let text : codes "excised" ++ flat_map placed places ≡ line_to places i = ap (λ (ps : List ℕ). codes "excised" ++ flat_map placed ps) (sym (take_all i places all)) in
+    let text : codes "excised" ++ flat_map placed places ≡ line_to places i =
+    ap (λ (ps : List ℕ). codes "excised" ++ flat_map placed ps) (sym (take_all i places all)) in
     all-but-part a b c (line_to places i ++ codes "\n") now [] _ n
     (rw pushed (all-but-more a b (line_to places i) piece (codes "\n") h))
     (ap (λ (t : List ℕ). t ++ codes "\n") text ∙ sym (append-nil (line_to places i ++ codes "\n"))) few part

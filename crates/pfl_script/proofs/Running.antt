@@ -1,5 +1,6 @@
 -- A run of lines, line by line.
-use Rattle.std.proofs.Common.{◌≡◌, ℕ, ◌+◌, ◌≤◌, Bool, true, false, List, [], ◌∷◌, ◌++◌, length, take, refl, sym, ◌∙◌, ap, subst, arith, length-append, append_assoc, inl, inr, Option, Some, None}
+use Rattle.std.proofs.Common.{◌≡◌, ℕ, ◌+◌, ◌≤◌, Bool, true, false, List, [], ◌∷◌, ◌++◌, length, take, refl, sym, ◌∙◌, ap, subst, arith, length-append}
+use Rattle.std.proofs.Common.{append_assoc, inl, inr, Option, Some, None}
 use Rattle.std.specs.Io.KnownBytes.{Appends, Keeps as KeepsBytes}
 use Rattle.std.proofs.lemmas.Bool.{lt-ltb, le-ltb, cases_lt}
 use Rattle.std.proofs.lemmas.List.{append-nil, take_all}
@@ -8,7 +9,8 @@ use Rattle.pfl_timeline.specs.Timelines.{Timeline}
 use Rattle.pfl_reader.specs.Lines.{lines_of}
 use Rattle.pfl_reader.specs.Scans.{Kept, Keeps, ReadsLine, TakesLine, TakesLines, IsOver}
 use Rattle.pfl_reader.specs.Saids.{kept_said}
-use Rattle.pfl_script.specs.Answers.{Answer, line_answer, is_bad, is_command, kept_answer, kept_bad, kept_command, text, timeline_after, bad_lines, one_if, AreLines, AreFirst, Drains, RunsWhole, RunsPart, RunsLines, RunsUnanswered, RunsUntil}
+use Rattle.pfl_script.specs.Answers.{Answer, line_answer, is_bad, is_command, kept_answer, kept_bad, kept_command, text, timeline_after, bad_lines}
+use Rattle.pfl_script.specs.Answers.{one_if, AreLines, AreFirst, Drains, RunsWhole, RunsPart, RunsLines, RunsUnanswered, RunsUntil}
 use Rattle.pfl_script.specs.inner.Answers.{Breaks}
 use Rattle.pfl_script.specs.declared.fault.EngineFault.{EngineFault}
 use Rattle.pfl_script.specs.declared.fault.EngineFault.TheVariants as engine
@@ -51,7 +53,8 @@ unfolding kept_command is_command
 command-kept k body h = rw (h.head, said-kept k body h) refl
 
 -- one line more
-after-push : (lines : List (List ℕ)) (line : List ℕ) (t : Timeline) → timeline_after (lines ++ line ∷ []) t ≡ (line_answer line (timeline_after lines t)).timeline
+after-push : (lines : List (List ℕ)) (line : List ℕ) (t : Timeline)
+    → timeline_after (lines ++ line ∷ []) t ≡ (line_answer line (timeline_after lines t)).timeline
 after-push [] line t = refl
 after-push (x ∷ lines) line t = after-push lines line (line_answer x t).timeline
 

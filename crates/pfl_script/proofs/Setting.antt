@@ -1,5 +1,6 @@
 -- A setup is read line by line.
-use Rattle.std.proofs.Common.{◌≡◌, ℕ, ◌+◌, Bool, true, false, List, [], ◌∷◌, ◌++◌, length, refl, sym, ◌∙◌, ap, subst, arith, length-append, inl, inr, cond, Option, Some, None, Ok, Err}
+use Rattle.std.proofs.Common.{◌≡◌, ℕ, ◌+◌, Bool, true, false, List, [], ◌∷◌, ◌++◌, length, refl, sym, ◌∙◌, ap, subst, arith, length-append, inl, inr}
+use Rattle.std.proofs.Common.{cond, Option, Some, None, Ok, Err}
 use Rattle.std.specs.Prelude.{◌&&◌, Result, IfOk, IfErr, IfSome, OnErr, unwrap_or}
 use Rattle.std.specs.List.{flat_map}
 use Rattle.pfl_rules.specs.declared.fault.RuleFault.{RuleFault}
@@ -23,7 +24,8 @@ use Rattle.pfl_reader.specs.Readers.{Source, IsReadFault}
 use Rattle.pfl_reader.specs.declared.fault.ReadFault.{ReadFault}
 use Rattle.pfl_reader.specs.declared.fault.ReadFault.TheVariants as read
 use Rattle.pfl_script.specs.Readers.{setup_of_read}
-use Rattle.pfl_script.specs.Setups.{is_rule, says_rule, kept_line, IsSetupFault, IsSetupText, Draft, nothing_set, said, kept_words, set_by_said, goes_on, drafted, all_go_on, Opens, IsFaultyAt, IsUnopened, WantsRule, GoOn, StopsAt}
+use Rattle.pfl_script.specs.Setups.{is_rule, says_rule, kept_line, IsSetupFault, IsSetupText, Draft, nothing_set, said, kept_words, set_by_said}
+use Rattle.pfl_script.specs.Setups.{goes_on, drafted, all_go_on, Opens, IsFaultyAt, IsUnopened, WantsRule, GoOn, StopsAt}
 use Rattle.pfl_script.specs.inner.Setups.{Grows, IsTakeFault, IsRuleStop, IsFinishStop, Takes}
 use Rattle.pfl_script.proofs.Running.{taken-none, taken-line, taken-first, taken-all}
 
@@ -189,7 +191,8 @@ counts-finished fault.TooManyTurns old new n d h stop = absurd stop
 
 -- the first of four faults is none where memory is wanting in its place
 four_faults : (a b c d : Bool) →
-    rule.NoMemory ≡ unwrap_or (cond a (Some rule.TooMany) (cond b (Some rule.NatNotOut) (cond c (Some rule.ZeroMax) (cond d (Some rule.RdrNotIn) None)))) rule.NoMemory →
+    rule.NoMemory ≡ unwrap_or
+    (cond a (Some rule.TooMany) (cond b (Some rule.NatNotOut) (cond c (Some rule.ZeroMax) (cond d (Some rule.RdrNotIn) None)))) rule.NoMemory →
     cond a (Some rule.TooMany) (cond b (Some rule.NatNotOut) (cond c (Some rule.ZeroMax) (cond d (Some rule.RdrNotIn) None))) ≡ None
 four_faults true b c d h = cc
 four_faults false true c d h = cc
@@ -289,7 +292,8 @@ pub Text-open : {V : Type 0} (items : V → List ℕ) (t u : Option V) (old mid 
     kept_words k ≡ Some (Ok setup.Open) → IfSome u (λ v. IsSetupText old new (items v))
 Text-open items t None old mid new k line is h reads grows opens = tt
 Text-open items None (Some v) old mid new k line is h reads grows opens = absurd grows
-Text-open items (Some w) (Some v) old mid new k line is h reads grows opens = Texted-open old mid new k (items w) (items v) h reads (with-bytes _ _ k line is grows) opens
+Text-open items (Some w) (Some v) old mid new k line is h reads grows opens =
+    Texted-open old mid new k (items w) (items v) h reads (with-bytes _ _ k line is grows) opens
 
 -- what is true of each good value
 pub on-ok : {X E : Type 0} {P Q : X → Type 0} (r : Result X E) → ((x : X) → P x → Q x) → IfOk r P → IfOk r Q

@@ -22,17 +22,17 @@ said_text n (Ok said) = []
 said_text n (Err why) = faulty_text n why
 
 -- what is reported of line n: nothing where it has no word or is a comment
-unfoldable pub line_told : ℕ → List ℕ → List ℕ
-line_told n line = if has_word (head_of line) then said_text n (parsed_script line) else []
+unfoldable pub line_report : ℕ → List ℕ → List ℕ
+line_report n line = if has_word (head_of line) then said_text n (parsed_script line) else []
 
 -- what is reported of line n of which this is kept
-unfoldable pub kept_told : ℕ → Kept → List ℕ
-kept_told n k = if has_word k.head then said_text n (kept_said k) else []
+unfoldable pub kept_report : ℕ → Kept → List ℕ
+kept_report n k = if has_word k.head then said_text n (kept_said k) else []
 
 -- what is reported of lines that stand after line n
-abbrev pub lines_told : ℕ → List (List ℕ) → List ℕ
-lines_told n [] = []
-lines_told n (line ∷ lines) = line_told (n + 1) line ++ lines_told (n + 1) lines
+abbrev pub lines_report : ℕ → List (List ℕ) → List ℕ
+lines_report n [] = []
+lines_report n (line ∷ lines) = line_report (n + 1) line ++ lines_report (n + 1) lines
 
 -- how many lines are commands or searches
 abbrev pub good_lines : List (List ℕ) → ℕ
@@ -45,7 +45,7 @@ good_text n = codes "good " ++ decimal n ++ codes "\n"
 
 -- the text of a check of lines that stand after line n
 abbrev pub check_text : ℕ → List (List ℕ) → List ℕ
-check_text n lines = lines_told n lines ++ good_text (good_lines lines)
+check_text n lines = lines_report n lines ++ good_text (good_lines lines)
 
 -- All lines after line n were read, their whole check was written, and they were counted.
 pub record ChecksWhole (old new : Option (List ℕ)) (n : ℕ) (w v : Option (List ℕ)) (good bad : ℕ) : Type 0 where
@@ -60,7 +60,7 @@ pub record ChecksWhole (old new : Option (List ℕ)) (n : ℕ) (w v : Option (Li
 pub record ChecksLines (old : Option (List ℕ)) (n : ℕ) (w v : Option (List ℕ)) : Type 0 where
   pub lines : List (List ℕ)
   pub first : AreFirst old lines
-  pub written : Appends w v (lines_told n lines)
+  pub written : Appends w v (lines_report n lines)
 
 -- First lines after line n were read, and what is reported of them was written but for a part of the last one's.
 pub record ChecksPart (old : Option (List ℕ)) (n : ℕ) (w v : Option (List ℕ)) : Type 0 where
@@ -68,7 +68,7 @@ pub record ChecksPart (old : Option (List ℕ)) (n : ℕ) (w v : Option (List �
   pub last : List ℕ
   pub first : AreFirst old (lines ++ last ∷ [])
   pub part : ℕ
-  pub written : Appends w v (lines_told n lines ++ take part (line_told (n + length lines + 1) last))
+  pub written : Appends w v (lines_report n lines ++ take part (line_report (n + length lines + 1) last))
 
 -- All lines after line n were read, and their check was written but for a part of its last line.
 pub record ChecksUncounted (old new : Option (List ℕ)) (n : ℕ) (w v : Option (List ℕ)) : Type 0 where
@@ -76,7 +76,7 @@ pub record ChecksUncounted (old new : Option (List ℕ)) (n : ℕ) (w v : Option
   pub all : AreLines old lines
   pub end : Drains old new
   pub part : ℕ
-  pub written : Appends w v (lines_told n lines ++ take part (good_text (good_lines lines)))
+  pub written : Appends w v (lines_report n lines ++ take part (good_text (good_lines lines)))
 
 -- what a check did before this fault; it takes no memory
 abbrev pub ChecksUntil : EngineFault → Option (List ℕ) → Option (List ℕ) → ℕ → Option (List ℕ) → Option (List ℕ) → Type 0

@@ -44,7 +44,8 @@ edge_line side t = side ++ codes " " ++ decimal t.number ++ codes " " ++ decimal
 
 -- the acknowledged number: the least and the greatest that it may be, and by how much it is missed
 abbrev pub ack_line : AckTest → List ℕ
-ack_line t = codes "ack " ++ decimal t.number ++ codes " " ++ decimal t.least ++ codes " " ++ decimal t.most ++ codes " " ++ or_dash decimal t.missed ++ codes "\n"
+ack_line t = codes "ack " ++ decimal t.number ++ codes " " ++ decimal t.least ++ codes " " ++ decimal t.most ++ codes " "
+    ++ or_dash decimal t.missed ++ codes "\n"
 
 -- the test of a packet of TCP, with its acknowledgement where that counts
 abbrev pub test_lines : WindowTest → List ℕ
@@ -124,7 +125,8 @@ record_line r = codes "record " ++ record_text r.message ++ codes " " ++ record_
 -- the node's clock, how many states it finds, and between which numbers timeouts shrink
 abbrev pub scaling_lines : ℕ → ℕ → Adaptive → List ℕ
 scaling_lines clock states between =
-    codes "clock " ++ decimal clock ++ codes "\nscaling " ++ decimal states ++ codes " " ++ decimal between.start ++ codes " " ++ decimal between.end ++ codes "\n"
+    codes "clock " ++ decimal clock ++ codes "\nscaling " ++ decimal states ++ codes " " ++ decimal between.start ++ codes " "
+    ++ decimal between.end ++ codes "\n"
 
 -- a state: its class, its timeout, the timeout as it is scaled, and when it expires by that
 abbrev pub expiry_line : Expiry → List ℕ

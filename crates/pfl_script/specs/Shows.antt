@@ -55,7 +55,8 @@ client_text (client.Waiting tries asked) = decimal tries ++ codes "/" ++ decimal
 
 -- a node's clock, its boot, its next id and its next queueing number
 unfoldable pub numbers_text : ℕ → ℕ → ℕ → ℕ → List ℕ
-numbers_text clock boot id number = codes "clock " ++ decimal clock ++ codes " boot " ++ decimal boot ++ codes " id " ++ decimal id ++ codes " seq " ++ decimal number
+numbers_text clock boot id number = codes "clock " ++ decimal clock ++ codes " boot " ++ decimal boot ++ codes " id " ++ decimal id
+    ++ codes " seq " ++ decimal number
 
 -- whether a node asks for a push, and what its bulk updates are at
 unfoldable pub bulk_text : Bool → BulkServer → BulkClient → List ℕ
@@ -122,7 +123,8 @@ kind_text kind.Delete = codes "del"
 
 -- a name on a queue
 abbrev pub queue_line : NodeId → Mark → List ℕ
-queue_line id m = codes "queue " ++ node_text id ++ codes " " ++ kind_text m.kind ++ codes " " ++ decimal m.number ++ codes " " ++ name_text m.name ++ codes "\n"
+queue_line id m = codes "queue " ++ node_text id ++ codes " " ++ kind_text m.kind ++ codes " " ++ decimal m.number ++ codes " "
+    ++ name_text m.name ++ codes "\n"
 
 -- a name that is asked for
 abbrev pub ask_line : NodeId → StateName → List ℕ

@@ -35,7 +35,8 @@ fn answer_show<A: Allocator, B: Allocator + Copy, W: Output>(
     ensures still { (show_command timeline.now name.now).timeline ≡ timeline.now }
     ensures stays { OnOk result (W.has_failed writer.new ≡ W.has_failed writer.old) }
     ensures untouched { IfErr result (λ e. e ≡ EngineFault.NoMemory → writer.new ≡ writer.old) }
-    ensures part { OnErr result ((n : ℕ) × Appends (W.written writer.old) (W.written writer.new) (take n (reply_text (show_command timeline.now name.now).reply))) }
+    ensures part { OnErr result ((n : ℕ)
+        × Appends (W.written writer.old) (W.written writer.new) (take n (reply_text (show_command timeline.now name.now).reply))) }
     ensures fault { IfErr result (λ e. IsWriteFault e (W.has_failed writer.new)) }
 {
     match timeline.shown(name) {
@@ -57,7 +58,8 @@ fn answer_command<A: Allocator + Copy, B: Allocator + Copy, W: Output>(
     ensures timeline { OnOk result (timeline.new ≡ (answer_to (Ok (script.Command command)) timeline.old).timeline) }
     ensures text { OnOk result (Appends (W.written writer.old) (W.written writer.new) (answer_to (Ok (script.Command command)) timeline.old).text) }
     ensures stays { OnOk result (W.has_failed writer.new ≡ W.has_failed writer.old) }
-    ensures breaks { OnErr result (Breaks (answer_to (Ok (script.Command command)) timeline.old) timeline.old timeline.new (W.written writer.old) (W.written writer.new)) }
+    ensures breaks { OnErr result (Breaks (answer_to (Ok (script.Command command)) timeline.old) timeline.old timeline.new
+        (W.written writer.old) (W.written writer.new)) }
     ensures untouched { IfErr result (λ e. e ≡ EngineFault.NoMemory → writer.new ≡ writer.old) }
     ensures unchanged { IfErr result (λ e. e ≡ EngineFault.NoMemory → timeline.new ≡ timeline.old) }
     ensures fault { IfErr result (λ e. IsWriteFault e (W.has_failed writer.new)) }
@@ -82,10 +84,13 @@ fn answer_search<A: Allocator, B: Allocator + Copy, W: Output>(
     timeline: &mut Timeline<B>,
 ) -> Result<(), EngineFault>
     ensures still { timeline.new ≡ timeline.old }
-    ensures text { OnOk result (Appends (W.written writer.old) (W.written writer.new) (finding_text (finding timeline.old search.now.branch (sought_by search.now)))) }
+    ensures text { OnOk result (Appends (W.written writer.old)
+        (W.written writer.new) (finding_text (finding timeline.old search.now.branch (sought_by search.now)))) }
     ensures stays { OnOk result (W.has_failed writer.new ≡ W.has_failed writer.old) }
     ensures untouched { IfErr result (λ e. e ≡ EngineFault.NoMemory → writer.new ≡ writer.old) }
-    ensures part { OnErr result ((n : ℕ) × Appends (W.written writer.old) (W.written writer.new) (take n (finding_text (finding timeline.old search.now.branch (sought_by search.now))))) }
+    ensures part { OnErr result ((n : ℕ)
+        × Appends (W.written writer.old)
+        (W.written writer.new) (take n (finding_text (finding timeline.old search.now.branch (sought_by search.now))))) }
     ensures fault { IfErr result (λ e. IsWriteFault e (W.has_failed writer.new)) }
 {
     let choices = search.choices.as_slice();

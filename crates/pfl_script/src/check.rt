@@ -4,7 +4,7 @@ ghost use Rattle.std.specs.Prelude.{◌≡◌, ◌+◌, ◌<◌, ◌≤◌, ◌^
 ghost use Rattle.std.specs.Io.KnownBytes.{Appends};
 ghost use Rattle.pfl_base.specs.Counts.{Counts};
 ghost use Rattle.pfl_script.specs.Answers.{kept_bad, kept_command, one_if};
-ghost use Rattle.pfl_script.specs.Checks.{ChecksUntil, ChecksWhole, faulty_text, good_text, kept_told};
+ghost use Rattle.pfl_script.specs.Checks.{ChecksUntil, ChecksWhole, faulty_text, good_text, kept_report};
 ghost use Rattle.pfl_script.specs.Readers.{IsRunFault};
 
 use crate::fault::EngineFault;
@@ -66,13 +66,13 @@ fn good_line(good: u64) -> ShortLine
 }
 
 /// Reports the line with this number as faulty, if it is, and counts it.
-#[tactic(auto, unfolding(crate::specs::Answers::kept_bad, crate::specs::Answers::kept_command, crate::specs::Checks::kept_told))]
+#[tactic(auto, unfolding(crate::specs::Answers::kept_bad, crate::specs::Answers::kept_command, crate::specs::Checks::kept_report))]
 fn check_line<W: Output>(line: &Line, number: u64, writer: &mut W) -> Result<Checked, EngineFault>
     ensures good { IfOk result (λ counted. counted.good ≡ one_if (kept_command line.now)) }
     ensures bad { IfOk result (λ counted. counted.bad ≡ one_if (kept_bad line.now)) }
-    ensures told { OnOk result (Appends (W.written writer.old) (W.written writer.new) (kept_told number line.now)) }
+    ensures told { OnOk result (Appends (W.written writer.old) (W.written writer.new) (kept_report number line.now)) }
     ensures stays { OnOk result (W.has_failed writer.new ≡ W.has_failed writer.old) }
-    ensures part { OnErr result ((n : ℕ) × Appends (W.written writer.old) (W.written writer.new) (take n (kept_told number line.now))) }
+    ensures part { OnErr result ((n : ℕ) × Appends (W.written writer.old) (W.written writer.new) (take n (kept_report number line.now))) }
     ensures fails { OnErr result (W.has_failed writer.new ≡ true) }
     ensures fault { IfErr result (λ e. e ≡ EngineFault.Write) }
 {

@@ -81,10 +81,12 @@ pub(crate) fn write_shown<A: Allocator, B: Allocator + Copy, W: Output>(
     branch: &Branch<B>,
     writer: &mut W,
 ) -> Result<(), EngineFault>
-    ensures whole { OnOk result (IfSome (shown branch.now) (λ world. Appends (W.written writer.old) (W.written writer.new) (branch_text branch.now.branch world))) }
+    ensures whole { OnOk result (IfSome (shown branch.now)
+        (λ world. Appends (W.written writer.old) (W.written writer.new) (branch_text branch.now.branch world))) }
     ensures stays { OnOk result (W.has_failed writer.new ≡ W.has_failed writer.old) }
     ensures untouched { IfErr result (λ e. e ≡ EngineFault.NoMemory → writer.new ≡ writer.old) }
-    ensures part { OnErr result (IfSome (shown branch.now) (λ world. (n : ℕ) × Appends (W.written writer.old) (W.written writer.new) (take n (branch_text branch.now.branch world)))) }
+    ensures part { OnErr result (IfSome (shown branch.now)
+        (λ world. (n : ℕ) × Appends (W.written writer.old) (W.written writer.new) (take n (branch_text branch.now.branch world)))) }
     ensures fault { IfErr result (λ e. IsWriteFault e (W.has_failed writer.new)) }
 {
     let (events, cursor) = (branch.events().len(), branch.cursor());

@@ -55,7 +55,8 @@ pub(crate) fn answer_past<A: Allocator + Copy, B: Allocator + Copy, W: Output>(
     ensures whole { OnOk result (Appends (W.written writer.old) (W.written writer.new) (reply_text (past_command timeline.old name.now place).reply)) }
     ensures stays { OnOk result (W.has_failed writer.new ≡ W.has_failed writer.old) }
     ensures untouched { IfErr result (λ e. e ≡ EngineFault.NoMemory → writer.new ≡ writer.old) }
-    ensures part { OnErr result ((n : ℕ) × Appends (W.written writer.old) (W.written writer.new) (take n (reply_text (past_command timeline.old name.now place).reply))) }
+    ensures part { OnErr result ((n : ℕ)
+        × Appends (W.written writer.old) (W.written writer.new) (take n (reply_text (past_command timeline.old name.now place).reply))) }
     ensures fault { IfErr result (λ e. IsWriteFault e (W.has_failed writer.new)) }
 {
     match timeline.past(name, place, &Writing { alloc }, writer) {

@@ -4,7 +4,8 @@ ghost use Rattle.std.specs.Prelude.{◌≡◌, ◌+◌, ◌≤◌, ◌^◌, [], 
 ghost use Rattle.std.specs.Option.{option_map};
 ghost use Rattle.pfl_base.specs.Counts.{Counts};
 ghost use Rattle.pfl_rules.specs.Rules.{rule_fault, rule_set};
-ghost use Rattle.pfl_script.specs.Setups.{kept_words, nothing_set, with_rule, is_rule, CountsLines, Finishes, IsSetupFault, IsSetupText, ReadsSetup, ReadsSetupTo};
+ghost use Rattle.pfl_script.specs.Setups.{kept_words, nothing_set, with_rule, is_rule, CountsLines, Finishes, IsSetupFault, IsSetupText, ReadsSetup};
+ghost use Rattle.pfl_script.specs.Setups.{ReadsSetupTo};
 ghost use Rattle.pfl_script.specs.inner.Setups.{Grows, IsFinishStop, IsRuleStop, IsTakeFault, Takes};
 
 use crate::setup_fault::SetupFault;

@@ -1,6 +1,7 @@
 -- Two events that commute do the same in either order. What an event does is described by places: the node that it is about, the link, and
 -- the next boot.
-use Rattle.std.specs.Prelude.{◌≡◌, ◌≢◌, ◌≤◌, ◌<◌, ◌+◌, ◌==◌, ℕ, Bool, true, false, nat_le, nat_lt, ◌&&◌, [], ◌∷◌, length, Option, Some, None, Result, Ok, Err, refl}
+use Rattle.std.specs.Prelude.{◌≡◌, ◌≢◌, ◌≤◌, ◌<◌, ◌+◌, ◌==◌, ℕ, Bool, true, false, nat_le, nat_lt, ◌&&◌, [], ◌∷◌, length, Option, Some, None, Result}
+use Rattle.std.specs.Prelude.{Ok, Err, refl}
 use Rattle.std.specs.Option.{option_map_or}
 use Rattle.std.proofs.Common.{◌∙◌, ap, sym, subst, arith, ltb-true}
 use Rattle.std.proofs.lemmas.Bool.{and_parts}
@@ -39,8 +40,8 @@ use Rattle.pfl_world.specs.wire.Spelling.{spelling}
 use Rattle.pfl_world.specs.wire.declared.fault.BadFrame.{BadFrame}
 use Rattle.pfl_search.proofs.Flying.{IsCounted, LinkFits, LinkPart, LinkPasses, Sends, Stays, Takes, link_after, link_rises, link_swaps}
 use Rattle.pfl_search.specs.Orders.{comes_first, kind_of, last_of, may_pass, node_rank, rank, stood_at}
-use Rattle.pfl_search.specs.declared.order.Kind.{Kind}
-use Rattle.pfl_search.specs.declared.order.Kind.TheVariants as kind
+use Rattle.pfl_search.specs.declared.order.EventKind.{EventKind}
+use Rattle.pfl_search.specs.declared.order.EventKind.TheVariants as kind
 
 -- ---- the nodes
 
@@ -149,7 +150,7 @@ boot_part (Arrives t ticket f) = None
 boot_part (Vanishes ticket f) = None
 boot_part (Begins_anew t boot) = Some boot
 
-abbrev pub effect_kind : Effect → Kind
+abbrev pub effect_kind : Effect → EventKind
 effect_kind (Alone t) = kind.AtNode
 effect_kind (Flushes t f) = kind.Flush
 effect_kind (Arrives t ticket f) = kind.Delivery
@@ -474,7 +475,7 @@ acted w (Restart id) s h free = restart_acts w id s h
 
 -- ---- two events
 
-none_passes : (k : Kind) → may_pass k kind.Fixed ≡ true → ⊥
+none_passes : (k : EventKind) → may_pass k kind.Fixed ≡ true → ⊥
 none_passes kind.AtNode h = cc
 none_passes kind.Flush h = cc
 none_passes kind.Delivery h = cc
@@ -482,11 +483,11 @@ none_passes kind.Loss h = cc
 none_passes kind.Restart h = cc
 none_passes kind.Fixed h = cc
 
-first_free : (k l : Kind) → may_pass k l ≡ true → k ≢ kind.Fixed
-first_free k l may = λ same. let no : may_pass kind.Fixed l ≡ true = subst (λ (x : Kind). may_pass x l ≡ true) same may in absurd cc
+first_free : (k l : EventKind) → may_pass k l ≡ true → k ≢ kind.Fixed
+first_free k l may = λ same. let no : may_pass kind.Fixed l ≡ true = subst (λ (x : EventKind). may_pass x l ≡ true) same may in absurd cc
 
-second_free : (k l : Kind) → may_pass k l ≡ true → l ≢ kind.Fixed
-second_free k l may = λ same. none_passes k (subst (λ (x : Kind). may_pass k x ≡ true) same may)
+second_free : (k l : EventKind) → may_pass k l ≡ true → l ≢ kind.Fixed
+second_free k l may = λ same. none_passes k (subst (λ (x : EventKind). may_pass k x ≡ true) same may)
 
 -- What came second comes first, and the other event after it, to the same world. Neither has another rank.
 pub record Diamond (w : World) (f e : Event) (middle last : World) : Type 0 where
@@ -508,12 +509,12 @@ made w e s x acts h =
     ap (λ (t : Stepped). t.world) same
 
 -- what the test says
-record Test (last : ℕ) (k l : Kind) (r : ℕ) (stood : Bool) : Type 0 where
+record Test (last : ℕ) (k l : EventKind) (r : ℕ) (stood : Bool) : Type 0 where
   pub lower : r < last
   pub may : may_pass k l ≡ true
   pub stands : stood ≡ true
 
-test : (last : ℕ) (k l : Kind) (r : ℕ) (stood : Bool) → (nat_lt r last && may_pass k l && stood) ≡ true → Test last k l r stood
+test : (last : ℕ) (k l : EventKind) (r : ℕ) (stood : Bool) → (nat_lt r last && may_pass k l && stood) ≡ true → Test last k l r stood
 test last k l r stood h =
     let parts = and_parts (nat_lt r last && may_pass k l) stood h in
     let more = and_parts (nat_lt r last) (may_pass k l) parts.0 in
@@ -531,8 +532,8 @@ diamond w f e s t is done then first =
     let middle : s.world ≡ after x w = made w f s x former.acts done in
     let last : t.world ≡ after y s.world = made s.world e t y later.acts then in
     let may : may_pass (effect_kind x) (effect_kind y) ≡ true =
-    subst (λ (k : Kind). may_pass k (effect_kind y) ≡ true) former.acts.kind
-    (subst (λ (k : Kind). may_pass (kind_of f) k ≡ true) later.acts.kind tested.may) in
+    subst (λ (k : EventKind). may_pass k (effect_kind y) ≡ true) former.acts.kind
+    (subst (λ (k : EventKind). may_pass (kind_of f) k ≡ true) later.acts.kind tested.may) in
     let rank_x = former.acts.ranked w former.acts.fits in
     let rank_y = later.acts.ranked s.world later.acts.fits in
     let less = tested.lower in

@@ -17,7 +17,7 @@ use Rattle.pfl_world.specs.Worlds.{World, with_link}
 use Rattle.pfl_search.proofs.Commuting.{acted, link_part, made}
 use Rattle.pfl_search.proofs.Flying.{IsCounted, Sends, below-set_at, link_counted}
 use Rattle.pfl_search.specs.Orders.{kind_of}
-use Rattle.pfl_search.specs.declared.order.Kind.TheVariants as kind
+use Rattle.pfl_search.specs.declared.order.EventKind.TheVariants as kind
 
 -- those of a link are
 pub link_is_counted : (l : Link) → IsLink l → IsCounted l

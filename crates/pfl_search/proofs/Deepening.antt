@@ -23,12 +23,14 @@ NoneBelow g few d cs w = (es : List Event) → LeadsTo g d cs w es → few ≤ l
 pub none-at_first : (g : Goal) (d : ℕ) (cs : List Choice) (w : World) → NoneBelow g 0 d cs w
 none-at_first g d cs w es l = omega arith
 
-long : (g : Goal) (few d : ℕ) (cs : List Choice) (w : World) (es : List Event) → LeadsTo g d cs w es → few ≤ length es → (LeadsTo g few cs w es → ⊥) → (few ≡ length es) ⊎ (few < length es) → few + 1 ≤ length es
+long : (g : Goal) (few d : ℕ) (cs : List Choice) (w : World) (es : List Event) → LeadsTo g d cs w es → few ≤ length es
+    → (LeadsTo g few cs w es → ⊥) → (few ≡ length es) ⊎ (few < length es) → few + 1 ≤ length es
 long g few d cs w es l past none (inl same) = absurd (none (leads_within g d few cs w es l (omega arith)))
 long g few d cs w es l past none (inr more) = omega arith
 
 -- none of this many events either
-pub none-more : (g : Goal) (few d : ℕ) (cs : List Choice) (w : World) → NoneBelow g few d cs w → ((es : List Event) → LeadsTo g few cs w es → ⊥) → NoneBelow g (few + 1) d cs w
+pub none-more : (g : Goal) (few d : ℕ) (cs : List Choice) (w : World) → NoneBelow g few d cs w
+    → ((es : List Event) → LeadsTo g few cs w es → ⊥) → NoneBelow g (few + 1) d cs w
 none-more g few d cs w below none es l = long g few d cs w es l (below es l) (none es) (let past = below es l in eq-or-lt_of_le past)
 
 none_of : {V : Type 0} (P : Type 0) (o : Option V) → is_some o ≡ false → IfNone o P → P
@@ -39,7 +41,8 @@ none_of P (Some v) e h = absurd cc
 pub none-after : {V : Type 0} (g : Goal) (few d : ℕ) (cs : List Choice) (w at : World) (o : Option V) → at ≡ w → is_some o ≡ false → NoneBelow g few d cs w
     → IfNone o ((es : List Event) → ¬ (LeadsTo g few cs at es)) → NoneBelow g (few + 1) d cs w
 none-after g few d cs w at o same shut below none =
-    none-more g few d cs w below (subst (λ (v : World). (es : List Event) → ¬ (LeadsTo g few cs v es)) same (none_of ((es : List Event) → ¬ (LeadsTo g few cs at es)) o shut none))
+    none-more g few d cs w below (subst (λ (v : World). (es : List Event)
+    → ¬ (LeadsTo g few cs v es)) same (none_of ((es : List Event) → ¬ (LeadsTo g few cs at es)) o shut none))
 
 -- what it found leads to the goal within the depth
 pub found-deeper : {V : Type 0} (items : V → List Event) (g : Goal) (few d : ℕ) (cs : List Choice) (w at : World) (o : Option V) → at ≡ w → few ≤ d
@@ -78,7 +81,8 @@ visited_last : (g : Goal) (depth : ℕ) (cs : List Choice) (w : World) → visit
 unfolding visited_deeper
 visited_last g depth cs w = refl
 
-visited_found : (g : Goal) (more depth : ℕ) (cs : List Choice) (w : World) → is_some (first_visit g depth cs w) ≡ true → visited_deeper g (suc more) depth cs w ≡ worlds_visited g depth cs w
+visited_found : (g : Goal) (more depth : ℕ) (cs : List Choice) (w : World) → is_some (first_visit g depth cs w) ≡ true
+    → visited_deeper g (suc more) depth cs w ≡ worlds_visited g depth cs w
 unfolding visited_deeper
 visited_found g more depth cs w found = rw found (omega arith)
 
@@ -96,18 +100,21 @@ first_last : (g : Goal) (depth : ℕ) (cs : List Choice) (w : World) → first_d
 unfolding first_deeper
 first_last g depth cs w = refl
 
-first_found : (g : Goal) (more depth : ℕ) (cs : List Choice) (w : World) → is_some (first_run g depth cs w) ≡ true → first_deeper g (suc more) depth cs w ≡ first_run g depth cs w
+first_found : (g : Goal) (more depth : ℕ) (cs : List Choice) (w : World) → is_some (first_run g depth cs w) ≡ true
+    → first_deeper g (suc more) depth cs w ≡ first_run g depth cs w
 unfolding first_deeper
 first_found g more depth cs w found = or_some (first_run g depth cs w) (first_deeper g more (depth + 1) cs w) found
 
-first_next : (g : Goal) (more depth : ℕ) (cs : List Choice) (w : World) → is_some (first_run g depth cs w) ≡ false → first_deeper g (suc more) depth cs w ≡ first_deeper g more (depth + 1) cs w
+first_next : (g : Goal) (more depth : ℕ) (cs : List Choice) (w : World) → is_some (first_run g depth cs w) ≡ false
+    → first_deeper g (suc more) depth cs w ≡ first_deeper g more (depth + 1) cs w
 unfolding first_deeper
 first_next g more depth cs w none = or_none (first_run g depth cs w) (first_deeper g more (depth + 1) cs w) none
 
 -- The loop has come to a depth: `worlds` of the worlds that are visited in all were, and the run that is found first is the first of
 -- the searches that are left.
 module _ (g : Goal) (cs : List Choice) (w at : World) (same : at ≡ w) (few d worlds : ℕ)
-    (count : worlds + visited_deeper g (d - few) few cs w ≡ visited_to_shortest g d cs w) (first : first_deeper g (d - few) few cs w ≡ shortest_run g d cs w) where
+    (count : worlds + visited_deeper g (d - few) few cs w ≡ visited_to_shortest g d cs w)
+    (first : first_deeper g (d - few) few cs w ≡ shortest_run g d cs w) where
   here : worlds_visited g few cs at ≡ worlds_visited g few cs w
   here = ap (worlds_visited g few cs) same
 
@@ -147,7 +154,8 @@ module _ (g : Goal) (cs : List Choice) (w at : World) (same : at ≡ w) (few d w
     next_first = sym (ap (λ (n : ℕ). first_deeper g n few cs w) left_is ∙ first_next g (d - (few + 1)) few cs w none) ∙ first
 
   -- where too few worlds are left for the search of this depth, too few were to be had for all
-  pub stops-below : (s : Stopped) (most : ℕ) → worlds ≤ most → IsStop (most - worlds) (worlds_visited g few cs at) s → IsStop most (visited_to_shortest g d cs w) s
+  pub stops-below : (s : Stopped) (most : ℕ) → worlds ≤ most → IsStop (most - worlds) (worlds_visited g few cs at) s
+      → IsStop most (visited_to_shortest g d cs w) s
   stops-below NoMemory most within h = tt
   stops-below TooMany most within h =
       let part = visited_part g (d - few) few cs w in

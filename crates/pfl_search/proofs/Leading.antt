@@ -1,5 +1,6 @@
 -- The visits are exactly what runs of the choices lead to.
-use Rattle.std.specs.Prelude.{◌≡◌, ℕ, zero, suc, ◌≤◌, Bool, true, false, List, [], ◌∷◌, length, Contains, Option, Some, None, Result, Ok, Err, IsTrue, IsFalse, IfOk, IfSome, IfNone, refl}
+use Rattle.std.specs.Prelude.{◌≡◌, ℕ, zero, suc, ◌≤◌, Bool, true, false, List, [], ◌∷◌, length, Contains, Option, Some, None, Result, Ok, Err, IsTrue}
+use Rattle.std.specs.Prelude.{IsFalse, IfOk, IfSome, IfNone, refl}
 use Rattle.std.specs.List.{flat_map}
 use Rattle.std.specs.Option.{option_map}
 use Rattle.std.proofs.Common.{◌∙◌, ap, sym, subst, inl, inr, arith}
@@ -9,7 +10,8 @@ use Rattle.pfl_world.specs.Events.{step}
 use Rattle.pfl_world.specs.Meanings.{Stepped}
 use Rattle.pfl_world.specs.Runs.{run}
 use Rattle.pfl_world.specs.Worlds.{World, IsWorld}
-use Rattle.pfl_search.proofs.Lists.{found_in, none_in, from_filter, from_flat_map, from_map, in_cons, in_filter, in_flat_map, in_front, in_map, in_rest, nothing_in}
+use Rattle.pfl_search.proofs.Lists.{found_in, none_in, from_filter, from_flat_map, from_map, in_cons, in_filter, in_flat_map, in_front, in_map}
+use Rattle.pfl_search.proofs.Lists.{in_rest, nothing_in}
 use Rattle.pfl_search.proofs.Ordering.{ordered_run}
 use Rattle.pfl_search.proofs.Turning.{has_turn, tried}
 use Rattle.pfl_search.proofs.Visiting.{turn_visits}
@@ -23,7 +25,7 @@ use Rattle.pfl_search.specs.Visits.{Visit, after, first_visit, here, in_turn, on
 use Rattle.pfl_search.specs.declared.order.Last.{Last}
 use Rattle.pfl_language.specs.declared.choice.Choice.{Choice}
 use Rattle.pfl_language.specs.declared.goal.Goal.{Goal}
-use Rattle.pfl_search.specs.declared.turns.Turn.{Turn}
+use Rattle.pfl_search.specs.declared.turns.Candidate.{Candidate}
 
 run-none : (w : World) → run w [] ≡ Some w
 unfolding run
@@ -60,12 +62,12 @@ record Ordered (last : Option Last) (d : ℕ) (cs : List Choice) (w : World) (v 
 here-visit : (last : Option Last) (d : ℕ) (cs : List Choice) (w : World) (v : Visit) → here w ≡ v → Ordered last d cs w v
 here-visit last d cs w v e = subst (Ordered last d cs w) e (record { visit = record { is_run = tt; within = omega arith; reached = run-none w }; ordered = tt })
 
-after-visit : (last : Option Last) (d : ℕ) (cs : List Choice) (w : World) (t : Turn) (s : Stepped) (v : Visit) → Contains (in_turn last w (turns cs w)) t
+after-visit : (last : Option Last) (d : ℕ) (cs : List Choice) (w : World) (t : Candidate) (s : Stepped) (v : Visit) → Contains (in_turn last w (turns cs w)) t
     → step w t.event ≡ Ok s
     → Ordered (Some (last_of w t.event)) d (used cs t.place) s.world v → Ordered last (suc d) cs w (after t.event v)
 after-visit last d cs w t s v turned accepted later =
     let short = later.visit.within in
-    let kept = from_filter (λ (u : Turn). is_in_turn last w u.event) (turns cs w) t turned in
+    let kept = from_filter (λ (u : Candidate). is_in_turn last w u.event) (turns cs w) t turned in
     let parts = tried cs w t kept.0 in
     record {
       visit = record {
@@ -85,9 +87,10 @@ after-visit last d cs w t s v turned accepted later =
       ordered = ordered-next last w t.event v.run s accepted kept.1 later.ordered;
     }
 
-onward-visit : (last : Option Last) (d : ℕ) (cs : List Choice) (w : World) (t : Turn) → Contains (in_turn last w (turns cs w)) t
+onward-visit : (last : Option Last) (d : ℕ) (cs : List Choice) (w : World) (t : Candidate) → Contains (in_turn last w (turns cs w)) t
     → ((latest : Option Last) (left : List Choice) (u : World) (v : Visit) → Contains (visits latest d left u) v → Ordered latest d left u v)
-    → (r : Result Stepped Refusal) → step w t.event ≡ r → (v : Visit) → Contains (onward t.event (λ u. visits (Some (last_of w t.event)) d (used cs t.place) u) r) v
+    → (r : Result Stepped Refusal) → step w t.event ≡ r → (v : Visit)
+    → Contains (onward t.event (λ u. visits (Some (last_of w t.event)) d (used cs t.place) u) r) v
     → Ordered last (suc d) cs w v
 onward-visit last d cs w t tried later (Ok s) is v h =
     let from = from_map (after t.event) (visits (Some (last_of w t.event)) d (used cs t.place) s.world) v h in
@@ -139,7 +142,7 @@ visit-complete : (es : List Event) (last : Option Last) (d : ℕ) (cs : List Cho
 visit-complete [] last d cs w at is ordered short e = first-has last d cs w at e
 visit-complete (e ∷ es) last zero cs w at is ordered short leads = absurd (omega arith)
 visit-complete (e ∷ es) last (suc d) cs w at is ordered short leads =
-    let turned = in_filter (λ (u : Turn). is_in_turn last w u.event) (turns cs w) (turn is.place e)
+    let turned = in_filter (λ (u : Candidate). is_in_turn last w u.event) (turns cs w) (turn is.place e)
     (has_turn cs w is.place is.choice e is.at is.left is.fits) (ordered-first last w e es ordered) in
     later-has last d cs w e es at is.place is.gives turned is.accepted
     (visit-complete es (Some (last_of w e)) d (used cs is.place) is.gives.world at is.goes_on
@@ -148,7 +151,8 @@ visit-complete (e ∷ es) last (suc d) cs w at is ordered short leads =
 
 -- ---- what the search returns
 
-leads : (g : Goal) (d : ℕ) (cs : List Choice) (w : World) (es : List Event) (o : Option Visit) → first_visit g d cs w ≡ o → option_map (λ v. v.run) o ≡ Some es → LeadsTo g d cs w es
+leads : (g : Goal) (d : ℕ) (cs : List Choice) (w : World) (es : List Event) (o : Option Visit) → first_visit g d cs w ≡ o
+    → option_map (λ v. v.run) o ≡ Some es → LeadsTo g d cs w es
 leads g d cs w es None is e = absurd cc
 leads g d cs w es (Some v) is e =
     let found = found_in (λ u. meets g u.world) (visits None d cs w) v is in
@@ -179,7 +183,8 @@ none-leads g d cs w known none es leads =
 
 -- ---- as a search returns
 
-pub answer-found : {V : Type 0} (items : V → List Event) (g : Goal) (d : ℕ) (cs : List Choice) (w : World) (o : Option V) → option_map items o ≡ first_run g d cs w → IfSome o (λ v. LeadsTo g d cs w (items v))
+pub answer-found : {V : Type 0} (items : V → List Event) (g : Goal) (d : ℕ) (cs : List Choice) (w : World) (o : Option V)
+    → option_map items o ≡ first_run g d cs w → IfSome o (λ v. LeadsTo g d cs w (items v))
 answer-found items g d cs w None e = tt
 answer-found items g d cs w (Some v) e = first-leads g d cs w (items v) (sym e)
 

@@ -1,5 +1,6 @@
 -- What is found in lists that are made of others.
-use Rattle.std.specs.Prelude.{◌≡◌, ◌⊎◌, ℕ, zero, suc, ◌+◌, ◌-◌, ◌<◌, ◌≤◌, Bool, true, false, cond, List, [], ◌∷◌, ◌++◌, length, map, filter, find, drop, Contains, slice_index_or, Option, Some, None, refl}
+use Rattle.std.specs.Prelude.{◌≡◌, ◌⊎◌, ℕ, zero, suc, ◌+◌, ◌-◌, ◌<◌, ◌≤◌, Bool, true, false, cond, List, [], ◌∷◌, ◌++◌, length, map, filter, find}
+use Rattle.std.specs.Prelude.{drop, Contains, slice_index_or, Option, Some, None, refl}
 use Rattle.std.specs.List.{flat_map}
 use Rattle.std.specs.Option.{option_map, option_or}
 use Rattle.std.proofs.Common.{◌∙◌, ap, sym, subst, inl, inr, arith}
@@ -106,7 +107,8 @@ module _ {X : Type 0} (p : X → Bool) where
   in_filter [] x h pass = absurd (nothing_in x h)
   in_filter (y ∷ ys) x h pass = keeps_at y ys x (p y) refl pass (λ k. in_filter ys x k pass) h
 
-  some_at : (y : X) (ys : List X) (x : X) (b : Bool) → p y ≡ b → (find p ys ≡ Some x → Contains ys x × (p x ≡ true)) → cond b (Some y) (find p ys) ≡ Some x → Contains (y ∷ ys) x × (p x ≡ true)
+  some_at : (y : X) (ys : List X) (x : X) (b : Bool) → p y ≡ b → (find p ys ≡ Some x → Contains ys x × (p x ≡ true))
+      → cond b (Some y) (find p ys) ≡ Some x → Contains (y ∷ ys) x × (p x ≡ true)
   some_at y ys x true at later e = let same : y ≡ x = cc in (in_front y ys x same, ap p (sym same) ∙ at)
   some_at y ys x false at later e = let so = later e in (in_rest y ys x so.0, so.1)
 
@@ -115,7 +117,8 @@ module _ {X : Type 0} (p : X → Bool) where
   found_in [] x e = absurd cc
   found_in (y ∷ ys) x e = some_at y ys x (p y) refl (found_in ys x) e
 
-  none_at : (y : X) (ys : List X) (x : X) (b : Bool) → p y ≡ b → (find p ys ≡ None → Contains ys x → p x ≡ false) → cond b (Some y) (find p ys) ≡ None → Contains (y ∷ ys) x → p x ≡ false
+  none_at : (y : X) (ys : List X) (x : X) (b : Bool) → p y ≡ b → (find p ys ≡ None → Contains ys x → p x ≡ false)
+      → cond b (Some y) (find p ys) ≡ None → Contains (y ∷ ys) x → p x ≡ false
   none_at y ys x true at later e h = absurd cc
   none_at y ys x false at later e h = elim (in_cons y ys x h) [ inl same ↦ ap p (sym same) ∙ at | inr r ↦ later e r ]
 

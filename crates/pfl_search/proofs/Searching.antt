@@ -9,7 +9,8 @@ use Rattle.pfl_world.specs.Meanings.{Stepped}
 use Rattle.pfl_world.specs.Worlds.{World}
 use Rattle.pfl_search.proofs.Lists.{from_filter, in_added}
 use Rattle.pfl_search.proofs.Turning.{get_read, get_within, given_back, length-used, of_turns}
-use Rattle.pfl_search.proofs.Visiting.{among_found, among_passed, among_refused, first_among, visited_among, visited_found, visited_part, visited_passed, visited_refused}
+use Rattle.pfl_search.proofs.Visiting.{among_found, among_passed, among_refused, first_among, visited_among, visited_found, visited_part}
+use Rattle.pfl_search.proofs.Visiting.{visited_passed, visited_refused}
 use Rattle.pfl_search.specs.Choices.{turns, used}
 use Rattle.pfl_search.specs.Orders.{is_in_turn, last_of}
 use Rattle.pfl_search.specs.Runs.{IsStop, first_run_after}
@@ -19,31 +20,32 @@ use Rattle.pfl_language.specs.declared.goal.Goal.{Goal}
 use Rattle.pfl_search.specs.declared.order.Last.{Last}
 use Rattle.pfl_search.specs.declared.stopped.Stopped.{Stopped}
 use Rattle.pfl_search.specs.declared.stopped.Stopped.TheVariants.{NoMemory, TooMany}
-use Rattle.pfl_search.specs.declared.turns.Turn.{Turn}
+use Rattle.pfl_search.specs.declared.turns.Candidate.{Candidate}
 use Rattle.pfl_search.specs.inner.Turns.{IsOf}
 
 -- the turn that is tried next is of a choice with a use left
-pub is_of : (last : Option Last) (cs : List Choice) (w : World) (before ts : List Turn) (first i : ℕ) (t : Turn)
+pub is_of : (last : Option Last) (cs : List Choice) (w : World) (before ts : List Candidate) (first i : ℕ) (t : Candidate)
     → ts ≡ before ++ in_turn last w (turns cs w) → first ≡ length before → first ≤ i → i < length ts → t ≡ slice_index_or ts i t → IsOf cs t
 is_of last cs w before ts first i t all begins past within is =
     let there = in_added before (in_turn last w (turns cs w)) ts i t all (omega arith) within is in
-    of_turns cs w t (from_filter (λ (u : Turn). is_in_turn last w u.event) (turns cs w) t there).0
+    of_turns cs w t (from_filter (λ (u : Candidate). is_in_turn last w u.event) (turns cs w) t there).0
 
-pub held_of : (cs held : List Choice) (t : Turn) → held ≡ cs → IsOf cs t → IsOf held t
+pub held_of : (cs held : List Choice) (t : Candidate) → held ≡ cs → IsOf cs t → IsOf held t
 held_of cs held t holds of = subst (λ (xs : List Choice). IsOf xs t) (sym holds) of
 
-pub place_within : (cs held : List Choice) (t : Turn) → held ≡ cs → IsOf cs t → t.place < length held
+pub place_within : (cs held : List Choice) (t : Candidate) → held ≡ cs → IsOf cs t → t.place < length held
 place_within cs held t holds of = let lt = get_within cs t.place of.choice of.at in rw holds lt
 
 -- what was read is given back
-pub back_again : (cs held left : List Choice) (t : Turn) (read : Choice) → held ≡ cs → IsOf cs t → read ≡ slice_index_or held t.place read → left ≡ used held t.place → slice_set left t.place read ≡ cs
+pub back_again : (cs held left : List Choice) (t : Candidate) (read : Choice) → held ≡ cs → IsOf cs t
+    → read ≡ slice_index_or held t.place read → left ≡ used held t.place → slice_set left t.place read ≡ cs
 back_again cs held left t read holds of is gone =
     let same = get_read cs t.place of.choice read of.at (is ∙ ap (λ (xs : List Choice). slice_index_or xs t.place read) holds) in
     ap (λ (xs : List Choice). slice_set xs t.place read) (gone ∙ ap (λ (xs : List Choice). used xs t.place) holds)
     ∙ ap (λ (d : Choice). slice_set (used cs t.place) t.place d) same
     ∙ given_back cs t.place of.choice of.at
 
-pub place_left : (cs held left : List Choice) (t : Turn) → held ≡ cs → IsOf cs t → left ≡ used held t.place → t.place < length left
+pub place_left : (cs held left : List Choice) (t : Candidate) → held ≡ cs → IsOf cs t → left ≡ used held t.place → t.place < length left
 place_left cs held left t holds of gone =
     let lt = get_within cs t.place of.choice of.at in
     let long : length left ≡ length cs = ap length gone ∙ length-used held t.place ∙ ap length holds in
@@ -54,10 +56,11 @@ pub reversed : (e : Event) (es fs : List Event) → fs ≡ es ++ e ∷ [] → re
 reversed e es fs is = ap (λ (xs : List Event). reverse xs) is ∙ reverse-append es (e ∷ [])
 
 -- The search has come to a turn: the world and the choices are what they were.
-module _ (g : Goal) (d : ℕ) (cs : List Choice) (w : World) (ts : List Turn) (i : ℕ) (t : Turn) (within : i < length ts) (is : t ≡ slice_index_or ts i t)
+module _ (g : Goal) (d : ℕ) (cs : List Choice) (w : World) (ts : List Candidate) (i : ℕ) (t : Candidate) (within : i < length ts)
+    (is : t ≡ slice_index_or ts i t)
     (at : World) (same : at ≡ w) (held : List Choice) (holds : held ≡ cs) where
   rest_is : drop i ts ≡ t ∷ drop (i + 1) ts
-  rest_is = drop_more ts i t within ∙ ap (λ (u : Turn). u ∷ drop (i + 1) ts) (sym is)
+  rest_is = drop_more ts i t within ∙ ap (λ (u : Candidate). u ∷ drop (i + 1) ts) (sym is)
 
   -- its event is refused
   module _ (why : Refusal) (refused : step at t.event ≡ Err why) where
@@ -71,7 +74,8 @@ module _ (g : Goal) (d : ℕ) (cs : List Choice) (w : World) (ts : List Turn) (i
     refused_count = ap (visited_among g d cs w) rest_is ∙ visited_refused g d cs w t (drop (i + 1) ts) why refused_here
 
   -- its event is accepted
-  module _ (v : World) (left : List Choice) (latest : Last) (s : Stepped) (accepted : step at t.event ≡ Ok s) (went : v ≡ s.world) (gone : left ≡ used held t.place)
+  module _ (v : World) (left : List Choice) (latest : Last) (s : Stepped) (accepted : step at t.event ≡ Ok s) (went : v ≡ s.world)
+      (gone : left ≡ used held t.place)
       (kept : latest ≡ last_of at t.event) where
     accepted_here : step w t.event ≡ Ok s
     accepted_here = subst (λ (u : World). step u t.event ≡ Ok s) same accepted

@@ -1,5 +1,6 @@
 -- Turns: each is of a choice that has a use left, and a use that was taken is given back.
-use Rattle.std.specs.Prelude.{◌≡◌, ℕ, zero, suc, ◌+◌, ◌<◌, ◌≤◌, Bool, true, false, nat_lt, cond, List, [], ◌∷◌, ◌++◌, length, map, Contains, slice_get, slice_index_or, slice_set, drop, Option, Some, refl}
+use Rattle.std.specs.Prelude.{◌≡◌, ℕ, zero, suc, ◌+◌, ◌<◌, ◌≤◌, Bool, true, false, nat_lt, cond, List, [], ◌∷◌, ◌++◌, length, map, Contains}
+use Rattle.std.specs.Prelude.{slice_get, slice_index_or, slice_set, drop, Option, Some, refl}
 use Rattle.std.proofs.Common.{◌∙◌, ap, sym, subst, inl, inr, arith, lt-ltb, ltb-true, append_assoc}
 use Rattle.std.proofs.lemmas.List.{append-nil, at_drop_more, at_drop_all}
 use Rattle.std.proofs.lemmas.List.Elements.{Contains-append_cases, Contains-append_left, Contains-append_right, filter-append}
@@ -15,14 +16,14 @@ use Rattle.pfl_language.specs.declared.choice.Move.{Move}
 use Rattle.pfl_language.specs.declared.choice.Move.TheVariants.{AnyFrame}
 use Rattle.pfl_search.specs.Choices.{instances, once_less, turn, turn_on, turns, turns_from, turns_of, used}
 use Rattle.pfl_language.specs.declared.choice.Choice.{Choice}
-use Rattle.pfl_search.specs.declared.turns.Turn.{Turn}
+use Rattle.pfl_search.specs.declared.turns.Candidate.{Candidate}
 use Rattle.pfl_search.specs.declared.order.Last.{Last}
 use Rattle.pfl_search.specs.Orders.{is_in_turn}
 use Rattle.pfl_search.specs.Visits.{in_turn}
 use Rattle.pfl_search.specs.inner.Turns.{IsOf}
 
 -- the turn is of a choice in a list whose first one stands at this place
-record Of (place : ℕ) (w : World) (cs : List Choice) (t : Turn) : Type 0 where
+record Of (place : ℕ) (w : World) (cs : List Choice) (t : Candidate) : Type 0 where
   pub index : ℕ
   pub is : t.place ≡ place + index
   pub choice : Choice
@@ -30,20 +31,21 @@ record Of (place : ℕ) (w : World) (cs : List Choice) (t : Turn) : Type 0 where
   pub left : 0 < choice.uses
   pub fits : Contains (instances w choice.what) t.event
 
-own : (place : ℕ) (w : World) (c : Choice) (cs : List Choice) (t : Turn) (b : Bool) → nat_lt 0 c.uses ≡ b → Contains (cond b (map (turn place) (instances w c.what)) []) t → Of place w (c ∷ cs) t
+own : (place : ℕ) (w : World) (c : Choice) (cs : List Choice) (t : Candidate) (b : Bool) → nat_lt 0 c.uses ≡ b
+    → Contains (cond b (map (turn place) (instances w c.what)) []) t → Of place w (c ∷ cs) t
 own place w c cs t true at h =
     let from = from_map (turn place) (instances w c.what) t h in
     record {
       index = 0;
-      is = sym (ap (λ (s : Turn). s.place) from.2) ∙ (omega arith);
+      is = sym (ap (λ (s : Candidate). s.place) from.2) ∙ (omega arith);
       choice = c;
       at = refl;
       left = ltb-true 0 c.uses at;
-      fits = subst (λ (s : Turn). Contains (instances w c.what) s.event) from.2 from.1;
+      fits = subst (λ (s : Candidate). Contains (instances w c.what) s.event) from.2 from.1;
     }
 own place w c cs t false at h = absurd (nothing_in t h)
 
-of_from : (place : ℕ) (w : World) (cs : List Choice) (t : Turn) → Contains (turns_from place w cs) t → Of place w cs t
+of_from : (place : ℕ) (w : World) (cs : List Choice) (t : Candidate) → Contains (turns_from place w cs) t → Of place w cs t
 of_from place w [] t h = absurd (nothing_in t h)
 of_from place w (c ∷ cs) t h = elim (Contains-append_cases (turns_of w place c) (turns_from (place + 1) w cs) t h) [
   | inl l ↦ own place w c cs t (nat_lt 0 c.uses) refl l
@@ -54,14 +56,14 @@ of_from place w (c ∷ cs) t h = elim (Contains-append_cases (turns_of w place c
 ]
 
 -- an event of a choice that has a use left, at the place of the turn
-pub record Tried (cs : List Choice) (w : World) (t : Turn) : Type 0 where
+pub record Tried (cs : List Choice) (w : World) (t : Candidate) : Type 0 where
   pub choice : Choice
   pub at : slice_get cs t.place ≡ Some choice
   pub left : 0 < choice.uses
   pub fits : Contains (instances w choice.what) t.event
 
 -- each turn is one
-pub tried : (cs : List Choice) (w : World) (t : Turn) → Contains (turns cs w) t → Tried cs w t
+pub tried : (cs : List Choice) (w : World) (t : Candidate) → Contains (turns cs w) t → Tried cs w t
 unfolding turns
 tried cs w t h =
     let from = of_from 0 w cs t h in
@@ -69,13 +71,14 @@ tried cs w t h =
     let same : from.index ≡ t.place = omega arith in
     record { choice = from.choice; at = subst (λ (n : ℕ). slice_get cs n ≡ Some from.choice) same from.at; left = from.left; fits = from.fits }
 
-pub of_turns : (cs : List Choice) (w : World) (t : Turn) → Contains (turns cs w) t → IsOf cs t
+pub of_turns : (cs : List Choice) (w : World) (t : Candidate) → Contains (turns cs w) t → IsOf cs t
 of_turns cs w t h = let parts = tried cs w t h in record { choice = parts.choice; at = parts.at; left = parts.left }
 
 has_own : (place : ℕ) (w : World) (c : Choice) (e : Event) → 0 < c.uses → Contains (instances w c.what) e → Contains (turns_of w place c) (turn place e)
 has_own place w c e left h = rw (lt-ltb 0 c.uses left) (in_map (turn place) (instances w c.what) e h)
 
-has_from : (cs : List Choice) (place : ℕ) (w : World) (n : ℕ) (c : Choice) (e : Event) → slice_get cs n ≡ Some c → 0 < c.uses → Contains (instances w c.what) e → (m : ℕ) → m ≡ place + n → Contains (turns_from place w cs) (turn m e)
+has_from : (cs : List Choice) (place : ℕ) (w : World) (n : ℕ) (c : Choice) (e : Event) → slice_get cs n ≡ Some c → 0 < c.uses
+    → Contains (instances w c.what) e → (m : ℕ) → m ≡ place + n → Contains (turns_from place w cs) (turn m e)
 has_from [] place w n c e at left h m is = absurd cc
 has_from (d ∷ cs) place w zero c e at left h m is =
     let same : c ≡ d = cc in
@@ -87,7 +90,8 @@ has_from (d ∷ cs) place w (suc n) c e at left h m is =
     Contains-append_right (turns_of w place d) (turns_from (place + 1) w cs) (turn m e) (has_from cs (place + 1) w n c e at left h m (omega arith))
 
 -- and each such event is a turn
-pub has_turn : (cs : List Choice) (w : World) (place : ℕ) (c : Choice) (e : Event) → slice_get cs place ≡ Some c → 0 < c.uses → Contains (instances w c.what) e → Contains (turns cs w) (turn place e)
+pub has_turn : (cs : List Choice) (w : World) (place : ℕ) (c : Choice) (e : Event) → slice_get cs place ≡ Some c → 0 < c.uses
+    → Contains (instances w c.what) e → Contains (turns cs w) (turn place e)
 unfolding turns
 has_turn cs w place c e at left h = has_from cs 0 w place c e at left h place (omega arith)
 
@@ -125,12 +129,14 @@ length-used (d ∷ cs) (suc n) = ap suc (length-used cs n)
 
 -- ---- as they are listed
 
-by_rows : (place : ℕ) (e : FrameEvent) (rows : List Ticketed) → map (λ t. turn_on place e t.ticket) rows ≡ map (turn place) (map (λ ticket. event.Of ticket e) (map (λ x. x.0) (map entry_of rows)))
+by_rows : (place : ℕ) (e : FrameEvent) (rows : List Ticketed)
+    → map (λ t. turn_on place e t.ticket) rows ≡ map (turn place) (map (λ ticket. event.Of ticket e) (map (λ x. x.0) (map entry_of rows)))
 by_rows place e [] = refl
-by_rows place e (r ∷ rows) = ap (λ (ts : List Turn). turn_on place e r.ticket ∷ ts) (by_rows place e rows)
+by_rows place e (r ∷ rows) = ap (λ (ts : List Candidate). turn_on place e r.ticket ∷ ts) (by_rows place e rows)
 
 -- the turns of the frames in flight
-pub frame_turns : (place : ℕ) (w : World) (e : FrameEvent) (what : Move) (rows : List Ticketed) → what ≡ AnyFrame e → map entry_of rows ≡ maps.entries w.link.frames
+pub frame_turns : (place : ℕ) (w : World) (e : FrameEvent) (what : Move) (rows : List Ticketed) → what ≡ AnyFrame e
+    → map entry_of rows ≡ maps.entries w.link.frames
     → map (λ t. turn_on place e t.ticket) rows ≡ map (turn place) (instances w what)
 frame_turns place w e what rows is all =
     by_rows place e rows
@@ -138,35 +144,35 @@ frame_turns place w e what rows is all =
     ∙ ap (λ (m : Move). map (turn place) (instances w m)) (sym is)
 
 -- a frame more
-pub frames_more : (last : Option Last) (w : World) (place : ℕ) (e : FrameEvent) (row : Ticketed) (rows : List Ticketed) (ts us : List Turn)
+pub frames_more : (last : Option Last) (w : World) (place : ℕ) (e : FrameEvent) (row : Ticketed) (rows : List Ticketed) (ts us : List Candidate)
     → us ≡ ts ++ in_turn last w (turn_on place e row.ticket ∷ [])
     → us ++ in_turn last w (map (λ t. turn_on place e t.ticket) rows) ≡ ts ++ in_turn last w (map (λ t. turn_on place e t.ticket) (row ∷ rows))
 frames_more last w place e row rows ts us added =
-    let p : Turn → Bool = λ t. is_in_turn last w t.event in
+    let p : Candidate → Bool = λ t. is_in_turn last w t.event in
     let one = turn_on place e row.ticket in
-    let others : List Turn = map (λ t. turn_on place e t.ticket) rows in
-    ap (λ (xs : List Turn). xs ++ in_turn last w others) added
+    let others : List Candidate = map (λ t. turn_on place e t.ticket) rows in
+    ap (λ (xs : List Candidate). xs ++ in_turn last w others) added
     ∙ append_assoc ts (in_turn last w (one ∷ [])) (in_turn last w others)
-    ∙ ap (λ (xs : List Turn). ts ++ xs) (sym (filter-append p (one ∷ []) others))
+    ∙ ap (λ (xs : List Candidate). ts ++ xs) (sym (filter-append p (one ∷ []) others))
 
 -- a choice more
-pub turns_more : (last : Option Last) (w : World) (cs : List Choice) (place : ℕ) (c : Choice) (ts us : List Turn) → place < length cs
+pub turns_more : (last : Option Last) (w : World) (cs : List Choice) (place : ℕ) (c : Choice) (ts us : List Candidate) → place < length cs
     → c ≡ slice_index_or cs place c → us ≡ ts ++ in_turn last w (turns_of w place c)
     → us ++ in_turn last w (turns_from (place + 1) w (drop (place + 1) cs)) ≡ ts ++ in_turn last w (turns_from place w (drop place cs))
 turns_more last w cs place c ts us within is added =
-    let p : Turn → Bool = λ t. is_in_turn last w t.event in
+    let p : Candidate → Bool = λ t. is_in_turn last w t.event in
     let others = turns_from (place + 1) w (drop (place + 1) cs) in
     let here : turns_of w place c ++ others ≡ turns_from place w (drop place cs) =
     ap (λ (d : Choice). turns_of w place d ++ others) is ∙ sym (at_drop_more (turns_from place w) cs place c within) in
-    ap (λ (xs : List Turn). xs ++ in_turn last w others) added
+    ap (λ (xs : List Candidate). xs ++ in_turn last w others) added
     ∙ append_assoc ts (in_turn last w (turns_of w place c)) (in_turn last w others)
-    ∙ ap (λ (xs : List Turn). ts ++ xs) (sym (filter-append p (turns_of w place c) others) ∙ ap (in_turn last w) here)
+    ∙ ap (λ (xs : List Candidate). ts ++ xs) (sym (filter-append p (turns_of w place c) others) ∙ ap (in_turn last w) here)
 
 -- no choice is left
-pub turns_all : (last : Option Last) (w : World) (cs : List Choice) (place : ℕ) (before ts : List Turn) → length cs ≤ place
+pub turns_all : (last : Option Last) (w : World) (cs : List Choice) (place : ℕ) (before ts : List Candidate) → length cs ≤ place
     → ts ++ in_turn last w (turns_from place w (drop place cs)) ≡ before ++ in_turn last w (turns_from 0 w cs)
     → ts ≡ before ++ in_turn last w (turns cs w)
 unfolding turns
 turns_all last w cs place before ts past is =
     let none = at_drop_all (λ (ds : List Choice). in_turn last w (turns_from place w ds)) cs place past in
-    sym (append-nil ts) ∙ ap (λ (xs : List Turn). ts ++ xs) (sym none) ∙ is
+    sym (append-nil ts) ∙ ap (λ (xs : List Candidate). ts ++ xs) (sym none) ∙ is

@@ -18,10 +18,10 @@ use Rattle.pfl_search.specs.Visits.{Visit, asked, after, here, in_turn, onward, 
 use Rattle.pfl_search.specs.declared.order.Last.{Last}
 use Rattle.pfl_language.specs.declared.choice.Choice.{Choice}
 use Rattle.pfl_language.specs.declared.goal.Goal.{Goal}
-use Rattle.pfl_search.specs.declared.turns.Turn.{Turn}
+use Rattle.pfl_search.specs.declared.turns.Candidate.{Candidate}
 
 -- what is visited after a turn
-abbrev pub turn_visits : ℕ → List Choice → World → Turn → List Visit
+abbrev pub turn_visits : ℕ → List Choice → World → Candidate → List Visit
 turn_visits d cs w t = onward t.event (λ v. visits (Some (last_of w t.event)) d (used cs t.place) v) (step w t.event)
 
 module _ (g : Goal) where
@@ -38,7 +38,7 @@ module _ (g : Goal) where
   first_none last (suc d) cs w h is = absurd (omega arith)
 
   -- the first run that begins with one of the turns
-  unfoldable pub first_among : ℕ → List Choice → World → List Turn → Option (List Event)
+  unfoldable pub first_among : ℕ → List Choice → World → List Candidate → Option (List Event)
   first_among d cs w ts = option_map (λ v. v.run) (find (λ v. meets g v.world) (flat_map (turn_visits d cs w) ts))
 
   first_on_suc : (last : Option Last) (d : ℕ) (cs : List Choice) (w : World) → meets g w ≡ false
@@ -59,7 +59,8 @@ module _ (g : Goal) where
   among_none d cs w = refl
 
   -- the event of a turn is refused
-  pub among_refused : (d : ℕ) (cs : List Choice) (w : World) (t : Turn) (ts : List Turn) (why : Refusal) → step w t.event ≡ Err why → first_among d cs w (t ∷ ts) ≡ first_among d cs w ts
+  pub among_refused : (d : ℕ) (cs : List Choice) (w : World) (t : Candidate) (ts : List Candidate) (why : Refusal)
+      → step w t.event ≡ Err why → first_among d cs w (t ∷ ts) ≡ first_among d cs w ts
   unfolding first_among
   among_refused d cs w t ts why h = rw h
 
@@ -69,7 +70,8 @@ module _ (g : Goal) where
 
   split : (e : Event) (vs rest : List Visit)
       → option_map (λ v. v.run) (find (λ v. meets g v.world) (map (after e) vs ++ rest))
-      ≡ option_or (option_map (λ es. e ∷ es) (option_map (λ v. v.run) (find (λ v. meets g v.world) vs))) (option_map (λ v. v.run) (find (λ v. meets g v.world) rest))
+      ≡ option_or (option_map (λ es. e ∷ es) (option_map (λ v. v.run) (find (λ v. meets g v.world) vs)))
+      (option_map (λ v. v.run) (find (λ v. meets g v.world) rest))
   split e vs rest =
       let p : Visit → Bool = λ v. meets g v.world in
       let r : Visit → List Event = λ v. v.run in
@@ -78,20 +80,20 @@ module _ (g : Goal) where
       ∙ ap (λ (o : Option (List Event)). option_or o (option_map r (find p rest))) (ap (option_map r) (find-map (after e) p vs) ∙ run_after e (find p vs))
 
   -- it is accepted
-  pub among_on : (d : ℕ) (cs : List Choice) (w : World) (t : Turn) (ts : List Turn) (s : Stepped) → step w t.event ≡ Ok s
+  pub among_on : (d : ℕ) (cs : List Choice) (w : World) (t : Candidate) (ts : List Candidate) (s : Stepped) → step w t.event ≡ Ok s
       → first_among d cs w (t ∷ ts)
       ≡ option_or (option_map (λ es. t.event ∷ es) (first_run_after (Some (last_of w t.event)) g d (used cs t.place) s.world)) (first_among d cs w ts)
   unfolding first_among
   among_on d cs w t ts s h = rw h (split t.event (visits (Some (last_of w t.event)) d (used cs t.place) s.world) (flat_map (turn_visits d cs w) ts))
 
   -- nothing is found after it
-  pub among_passed : (d : ℕ) (cs : List Choice) (w : World) (t : Turn) (ts : List Turn) (s : Stepped) → step w t.event ≡ Ok s
+  pub among_passed : (d : ℕ) (cs : List Choice) (w : World) (t : Candidate) (ts : List Candidate) (s : Stepped) → step w t.event ≡ Ok s
       → first_run_after (Some (last_of w t.event)) g d (used cs t.place) s.world ≡ None
       → first_among d cs w (t ∷ ts) ≡ first_among d cs w ts
   among_passed d cs w t ts s h none = among_on d cs w t ts s h ∙ (rw none refl)
 
   -- a run is found after it
-  pub among_found : (d : ℕ) (cs : List Choice) (w : World) (t : Turn) (ts : List Turn) (s : Stepped) (es : List Event) → step w t.event ≡ Ok s
+  pub among_found : (d : ℕ) (cs : List Choice) (w : World) (t : Candidate) (ts : List Candidate) (s : Stepped) (es : List Event) → step w t.event ≡ Ok s
       → first_run_after (Some (last_of w t.event)) g d (used cs t.place) s.world ≡ Some es
       → first_among d cs w (t ∷ ts) ≡ Some (t.event ∷ es)
   among_found d cs w t ts s es h found = among_on d cs w t ts s h ∙ (rw found refl)
@@ -119,7 +121,7 @@ module _ (g : Goal) where
   visited_some last (suc d) cs w = some_asked (here w) (flat_map (turn_visits d cs w) (in_turn last w (turns cs w))) (meets g w)
 
   -- how many are visited after some turns
-  unfoldable pub visited_among : ℕ → List Choice → World → List Turn → ℕ
+  unfoldable pub visited_among : ℕ → List Choice → World → List Candidate → ℕ
   visited_among d cs w ts = asked (λ v. meets g v.world) (flat_map (turn_visits d cs w) ts)
 
   visited_on_suc : (last : Option Last) (d : ℕ) (cs : List Choice) (w : World) → meets g w ≡ false
@@ -138,7 +140,8 @@ module _ (g : Goal) where
   unfolding visited_among
   visited_no_turn d cs w = refl
 
-  pub visited_refused : (d : ℕ) (cs : List Choice) (w : World) (t : Turn) (ts : List Turn) (why : Refusal) → step w t.event ≡ Err why → visited_among d cs w (t ∷ ts) ≡ visited_among d cs w ts
+  pub visited_refused : (d : ℕ) (cs : List Choice) (w : World) (t : Candidate) (ts : List Candidate) (why : Refusal)
+      → step w t.event ≡ Err why → visited_among d cs w (t ∷ ts) ≡ visited_among d cs w ts
   unfolding visited_among
   visited_refused d cs w t ts why h = rw h
 
@@ -147,7 +150,7 @@ module _ (g : Goal) where
   no_visit (Some v) e = absurd cc
 
   -- all worlds after a turn are visited, and none meets the goal
-  pub visited_passed : (d : ℕ) (cs : List Choice) (w : World) (t : Turn) (ts : List Turn) (s : Stepped) → step w t.event ≡ Ok s
+  pub visited_passed : (d : ℕ) (cs : List Choice) (w : World) (t : Candidate) (ts : List Candidate) (s : Stepped) → step w t.event ≡ Ok s
       → first_run_after (Some (last_of w t.event)) g d (used cs t.place) s.world ≡ None
       → visited_among d cs w (t ∷ ts) ≡ worlds_visited_after (Some (last_of w t.event)) g d (used cs t.place) s.world + visited_among d cs w ts
   unfolding visited_among
@@ -163,7 +166,7 @@ module _ (g : Goal) where
   some_visit (Some v) es e = (v, refl)
 
   -- one of them meets it
-  pub visited_found : (d : ℕ) (cs : List Choice) (w : World) (t : Turn) (ts : List Turn) (s : Stepped) (es : List Event) → step w t.event ≡ Ok s
+  pub visited_found : (d : ℕ) (cs : List Choice) (w : World) (t : Candidate) (ts : List Candidate) (s : Stepped) (es : List Event) → step w t.event ≡ Ok s
       → first_run_after (Some (last_of w t.event)) g d (used cs t.place) s.world ≡ Some es
       → visited_among d cs w (t ∷ ts) ≡ worlds_visited_after (Some (last_of w t.event)) g d (used cs t.place) s.world
   unfolding visited_among
@@ -176,7 +179,7 @@ module _ (g : Goal) where
       rw h (asked-some p (map (after t.event) vs) rest (after t.event v.0) there ∙ asked-map (after t.event) p vs)
 
   -- no more are visited after one turn than after all that are left
-  pub visited_part : (d : ℕ) (cs : List Choice) (w : World) (t : Turn) (ts : List Turn) (s : Stepped) → step w t.event ≡ Ok s
+  pub visited_part : (d : ℕ) (cs : List Choice) (w : World) (t : Candidate) (ts : List Candidate) (s : Stepped) → step w t.event ≡ Ok s
       → worlds_visited_after (Some (last_of w t.event)) g d (used cs t.place) s.world ≤ visited_among d cs w (t ∷ ts)
   unfolding visited_among
   visited_part d cs w t ts s h =

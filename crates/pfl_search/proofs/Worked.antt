@@ -147,7 +147,8 @@ unfolding computing
 sent = refl
 
 -- the first way copies the frame, and loses both
-copied_and_lost : first_run (stuck Landed) 3 (once frame.Repeat ∷ twice frame.Lose ∷ []) pair ≡ Some (event.Of 1 frame.Repeat ∷ event.Of 1 frame.Lose ∷ event.Of 2 frame.Lose ∷ [])
+copied_and_lost : first_run (stuck Landed) 3 (once frame.Repeat ∷ twice frame.Lose ∷ []) pair
+    ≡ Some (event.Of 1 frame.Repeat ∷ event.Of 1 frame.Lose ∷ event.Of 2 frame.Lose ∷ [])
 unfolding computing
 copied_and_lost = refl
 

@@ -8,7 +8,7 @@ use Rattle.pfl_world.specs.Worlds.{World}
 use Rattle.pfl_language.specs.declared.choice.Move.{Move}
 use Rattle.pfl_language.specs.declared.choice.Move.TheVariants.{Given, AnyFrame}
 use Rattle.pfl_language.specs.declared.choice.Choice.{Choice}
-use Rattle.pfl_search.specs.declared.turns.Turn.{Turn}
+use Rattle.pfl_search.specs.declared.turns.Candidate.{Candidate}
 
 -- the tickets of the frames in flight, in order
 abbrev pub tickets : World → List ℕ
@@ -20,24 +20,24 @@ instances w (Given e) = e ∷ []
 instances w (AnyFrame e) = map (λ ticket. Of ticket e) (tickets w)
 
 -- an event, and the place of its choice
-abbrev pub turn : ℕ → Event → Turn
+abbrev pub turn : ℕ → Event → Candidate
 turn place e = record { place = place; event = e }
 
 -- the turn in which this happens to the frame of the ticket
-abbrev pub turn_on : ℕ → FrameEvent → ℕ → Turn
+abbrev pub turn_on : ℕ → FrameEvent → ℕ → Candidate
 turn_on place e ticket = turn place (Of ticket e)
 
 -- what can be tried of the choice at a place: the events of its move, if it has a use left
-abbrev pub turns_of : World → ℕ → Choice → List Turn
+abbrev pub turns_of : World → ℕ → Choice → List Candidate
 turns_of w place c = if nat_lt 0 c.uses then map (turn place) (instances w c.what) else []
 
 -- what can be tried of choices, of which the first stands at this place
-abbrev pub turns_from : ℕ → World → List Choice → List Turn
+abbrev pub turns_from : ℕ → World → List Choice → List Candidate
 turns_from place w [] = []
 turns_from place w (c ∷ cs) = turns_of w place c ++ turns_from (place + 1) w cs
 
 -- what can be tried in a world, in the order of the choices
-unfoldable pub turns : List Choice → World → List Turn
+unfoldable pub turns : List Choice → World → List Candidate
 turns cs w = turns_from 0 w cs
 
 -- the choice with one use less

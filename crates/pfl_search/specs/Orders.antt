@@ -9,12 +9,12 @@ use Rattle.pfl_language.specs.declared.event.Event.TheVariants.{At, Flush, Of, R
 use Rattle.pfl_language.specs.declared.event.FrameEvent.{FrameEvent}
 use Rattle.pfl_language.specs.declared.event.FrameEvent.TheVariants as frame
 use Rattle.pfl_world.specs.Worlds.{World}
-use Rattle.pfl_search.specs.declared.order.Kind.{Kind}
-use Rattle.pfl_search.specs.declared.order.Kind.TheVariants as kind
+use Rattle.pfl_search.specs.declared.order.EventKind.{EventKind}
+use Rattle.pfl_search.specs.declared.order.EventKind.TheVariants as kind
 use Rattle.pfl_search.specs.declared.order.Last.{Last}
 
 -- what the order of an event depends on
-abbrev pub kind_of : Event → Kind
+abbrev pub kind_of : Event → EventKind
 kind_of (At node e) = kind.AtNode
 kind_of (Flush node) = kind.Flush
 kind_of (Of ticket frame.Deliver) = kind.Delivery
@@ -42,7 +42,7 @@ rank w (Restart node) = node_rank node
 
 -- an event of the second kind may come before one of the first, at another node or frame: both would not take the next ticket, nor
 -- the next boot number, and no frame is sent before a delivery has made room for it
-abbrev pub may_pass : Kind → Kind → Bool
+abbrev pub may_pass : EventKind → EventKind → Bool
 may_pass kind.Fixed e = false
 may_pass kind.Flush kind.Flush = false
 may_pass kind.Delivery kind.Flush = false

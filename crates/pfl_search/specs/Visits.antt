@@ -12,7 +12,7 @@ use Rattle.pfl_language.specs.declared.goal.Goal.{Goal}
 use Rattle.pfl_search.specs.Goals.{meets}
 use Rattle.pfl_search.specs.Orders.{is_in_turn, last_of}
 use Rattle.pfl_search.specs.declared.order.Last.{Last}
-use Rattle.pfl_search.specs.declared.turns.Turn.{Turn}
+use Rattle.pfl_search.specs.declared.turns.Candidate.{Candidate}
 
 -- a world, and the run that leads to it
 pub record Visit : Type 0 where
@@ -33,7 +33,7 @@ onward e later (Ok s) = map (after e) (later s.world)
 onward e later (Err why) = []
 
 -- those turns whose events are in turn after the last event
-abbrev pub in_turn : Option Last → World → List Turn → List Turn
+abbrev pub in_turn : Option Last → World → List Candidate → List Candidate
 in_turn last w ts = filter (λ t. is_in_turn last w t.event) ts
 
 -- The worlds to which ordered runs of at most `depth` events lead after the last event: the world itself, and then those after each

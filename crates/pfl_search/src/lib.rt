@@ -13,10 +13,10 @@ mod stopped;
 mod turns;
 
 pub use laws::searches_are_exhaustive;
-pub use order::{Kind, Last};
+pub use order::{EventKind, Last};
 pub use pfl_language::{Choice, Goal, Move, Question, Scope};
 pub use pfl_world::{Counters, Node, World, WorldFault, WorldTape};
 pub use runs::{Searched, search};
 pub use shortest::search_shortest;
 pub use stopped::Stopped;
-pub use turns::Turn;
+pub use turns::Candidate;

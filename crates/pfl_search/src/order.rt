@@ -10,7 +10,7 @@ use std::alloc::Allocator;
 
 /// What the order of an event depends on.
 #[derive(Clone, Copy, Debug, PartialEq, Eq)]
-pub enum Kind {
+pub enum EventKind {
     /// It happens at a node by itself.
     AtNode,
     /// A node sends a frame, under the next ticket.
@@ -31,24 +31,24 @@ pub struct Last {
     /// Of two events that commute that of the lower rank is tried first.
     pub rank: u64,
     /// Its kind.
-    pub kind: Kind,
+    pub kind: EventKind,
     /// The next ticket when it came.
     pub next: u32,
 }
 
 /// The kind of an event.
-fn kind_of(event: &Event) -> Kind
+fn kind_of(event: &Event) -> EventKind
     ensures { result ≡ kind_of event.now }
 {
     match event {
-        Event::At { .. } => Kind::AtNode,
-        Event::Flush { .. } => Kind::Flush,
+        Event::At { .. } => EventKind::AtNode,
+        Event::Flush { .. } => EventKind::Flush,
         Event::Of { event, .. } => match event {
-            FrameEvent::Deliver => Kind::Delivery,
-            FrameEvent::Lose => Kind::Loss,
-            FrameEvent::Repeat | FrameEvent::Cut { .. } => Kind::Fixed,
+            FrameEvent::Deliver => EventKind::Delivery,
+            FrameEvent::Lose => EventKind::Loss,
+            FrameEvent::Repeat | FrameEvent::Cut { .. } => EventKind::Fixed,
         },
-        Event::Restart { .. } => Kind::Restart,
+        Event::Restart { .. } => EventKind::Restart,
     }
 }
 
@@ -99,23 +99,23 @@ pub(crate) fn last_of<A: Allocator>(world: &World<A>, event: &Event) -> Last
 }
 
 /// Whether an event of the second kind may come before one of the first, at another node or frame.
-fn may_pass(last: Kind, kind: Kind) -> bool
+fn may_pass(last: EventKind, kind: EventKind) -> bool
     ensures { result ≡ may_pass last kind }
 {
     match last {
-        Kind::AtNode | Kind::Loss => match kind {
-            Kind::Fixed => false,
+        EventKind::AtNode | EventKind::Loss => match kind {
+            EventKind::Fixed => false,
             _ => true,
         },
-        Kind::Flush | Kind::Delivery => match kind {
-            Kind::Flush | Kind::Fixed => false,
+        EventKind::Flush | EventKind::Delivery => match kind {
+            EventKind::Flush | EventKind::Fixed => false,
             _ => true,
         },
-        Kind::Restart => match kind {
-            Kind::Restart | Kind::Fixed => false,
+        EventKind::Restart => match kind {
+            EventKind::Restart | EventKind::Fixed => false,
             _ => true,
         },
-        Kind::Fixed => false,
+        EventKind::Fixed => false,
     }
 }
 

@@ -12,7 +12,7 @@ use crate::append::append;
 use crate::goal::meets;
 use crate::order::{Last, last_of};
 use crate::stopped::Stopped;
-use crate::turns::{Turn, add_all};
+use crate::turns::{Candidate, add_all};
 use pfl_base::Refusal;
 use pfl_edits::{NoMemory, Tape, undo_to};
 use pfl_language::{Choice, Event, Goal};
@@ -39,7 +39,7 @@ fn enter<A: Allocator + Copy>(
     world: &mut World<A>,
     tape: &mut WorldTape<A>,
     choices: &mut [Choice],
-    turn: &Turn,
+    turn: &Candidate,
 ) -> Result<bool, NoMemory>
     requires turn { IsOf choices.old turn.now }
     ensures unchanged_world { OnErr result (world.new ≡ world.old) }
@@ -90,7 +90,7 @@ fn search_from<A: Allocator + Copy>(
     alloc: A,
     world: &mut World<A>,
     tape: &mut WorldTape<A>,
-    turns: &mut Vec<Turn, A>,
+    turns: &mut Vec<Candidate, A>,
     choices: &mut [Choice],
     before: Option<Last>,
     depth: u32,

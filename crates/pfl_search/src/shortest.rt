@@ -26,7 +26,8 @@ pub fn search_shortest<A: Allocator + Copy>(
     ensures unchanged { world.new ≡ world.old }
     ensures first { IfOk result (λ s. option_map (λ run. run.items) s.found ≡ shortest_run goal.now depth choices.now world.old) }
     ensures found { IfOk result (λ s. IfSome s.found (λ run. LeadsTo goal.now depth choices.now world.old run.items)) }
-    ensures shortest { IfOk result (λ s. IfSome s.found (λ run. (events : List Happening) → LeadsTo goal.now depth choices.now world.old events → length run.items ≤ length events)) }
+    ensures shortest { IfOk result (λ s. IfSome s.found (λ run. (events : List Happening)
+        → LeadsTo goal.now depth choices.now world.old events → length run.items ≤ length events)) }
     ensures none { IfOk result (λ s. IfNone s.found ((events : List Happening) → ¬ (LeadsTo goal.now depth choices.now world.old events))) }
     ensures worlds { IfOk result (λ s. s.worlds ≡ visited_to_shortest goal.now depth choices.now world.old) }
     ensures within { IfOk result (λ s. s.worlds ≤ most) }

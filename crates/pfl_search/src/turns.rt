@@ -14,17 +14,17 @@ use std::alloc::Allocator;
 
 /// An event that can be tried, and the place of its choice among the choices.
 #[derive(Clone, Copy)]
-pub struct Turn {
+pub struct Candidate {
     pub place: usize,
     pub event: Event,
 }
 
 /// Puts a turn after the others, if its event is in turn.
 fn add_turn<A: Allocator, B: Allocator>(
-    turns: &mut Vec<Turn, A>,
+    turns: &mut Vec<Candidate, A>,
     last: Option<Last>,
     world: &World<B>,
-    turn: Turn,
+    turn: Candidate,
 ) -> Result<(), NoMemory>
     ensures { OnOk result (turns.new.items ≡ turns.old.items ++ in_turn last world.now (turn ∷ [])) }
 {
@@ -36,7 +36,7 @@ fn add_turn<A: Allocator, B: Allocator>(
 
 /// Puts a turn for each frame after the others, if its event is in turn.
 fn add_frames<A: Allocator, B: Allocator>(
-    turns: &mut Vec<Turn, A>,
+    turns: &mut Vec<Candidate, A>,
     last: Option<Last>,
     world: &World<B>,
     place: usize,
@@ -47,7 +47,7 @@ fn add_frames<A: Allocator, B: Allocator>(
 {
     while let Some(ticketed) = frames.next() {
         let ticket = ticketed.ticket();
-        let turn = Turn {
+        let turn = Candidate {
             place,
             event: Event::Of { ticket, event },
         };
@@ -58,7 +58,7 @@ fn add_frames<A: Allocator, B: Allocator>(
 
 /// Puts those turns of a move after the others whose events are in turn.
 fn add_turns<A: Allocator, B: Allocator>(
-    turns: &mut Vec<Turn, A>,
+    turns: &mut Vec<Candidate, A>,
     last: Option<Last>,
     world: &World<B>,
     place: usize,
@@ -68,7 +68,7 @@ fn add_turns<A: Allocator, B: Allocator>(
 {
     match what {
         Move::Given(event) => {
-            let turn = Turn {
+            let turn = Candidate {
                 place,
                 event: *event,
             };
@@ -83,7 +83,7 @@ fn add_turns<A: Allocator, B: Allocator>(
 
 /// Puts the turns of a choice that are in turn after the others, if it has a use left.
 fn add_choice<A: Allocator, B: Allocator>(
-    turns: &mut Vec<Turn, A>,
+    turns: &mut Vec<Candidate, A>,
     last: Option<Last>,
     world: &World<B>,
     place: usize,
@@ -100,7 +100,7 @@ fn add_choice<A: Allocator, B: Allocator>(
 /// Puts what is tried in the world after the others: what is in turn after the last event, in the order of the choices, and of one
 /// choice in the order of the tickets.
 pub(crate) fn add_all<A: Allocator, B: Allocator>(
-    turns: &mut Vec<Turn, A>,
+    turns: &mut Vec<Candidate, A>,
     last: Option<Last>,
     world: &World<B>,
     choices: &[Choice],

@@ -4,7 +4,7 @@ use Rattle.std.specs.Prelude.{Result, IfErr, IfOk, OnErr, OnOk}
 use Rattle.std.specs.Io.KnownBytes.{Appends}
 use Rattle.pfl_language.specs.declared.command.Command.{Command}
 use Rattle.pfl_script.specs.timeline.Replies.{Reply}
-use Rattle.pfl_session.specs.Desks.{one_more_counted}
+use Rattle.pfl_session.specs.Ledgers.{one_more_counted}
 use Rattle.pfl_session.specs.Passes.{Seen, GoesOn, HasSeenItsCalls, HasSeenJournal, AddsCall}
 use Rattle.pfl_script.specs.lines.declared.fault.LineFault.{LineFault}
 use Rattle.pfl_script.specs.lines.declared.session.SessionLine.{SessionLine}
@@ -27,12 +27,15 @@ breaks-text (Err engine.TooManyTurns) Is Lacks text w v is fault part = absurd c
 
 module _ {M : Type 0} where
   -- what a line says is what its arm says: its answer was written in part
-  pub breaks-said : {X : Type 0} (site : Site) (said what : Option (Result SessionLine LineFault)) (old new : Seen M) (r : Result X EngineFault) (w v : Option (List ℕ)) →
+  pub breaks-said : {X : Type 0} (site : Site) (said what : Option (Result SessionLine LineFault)) (old new : Seen M)
+      (r : Result X EngineFault) (w v : Option (List ℕ)) →
       said ≡ what → IfErr r (λ e. Breaks (IsBegun site what old new) (Lacks site what old new) e w v) →
       IfErr r (λ e. Breaks (IsBegun site said old new) (Lacks site said old new) e w v)
-  breaks-said site said what old new r w v same breaks = subst (λ s. IfErr r (λ e. Breaks (IsBegun site s old new) (Lacks site s old new) e w v)) (sym same) breaks
+  breaks-said site said what old new r w v same breaks =
+      subst (λ s. IfErr r (λ e. Breaks (IsBegun site s old new) (Lacks site s old new) e w v)) (sym same) breaks
 
-module _ {M : Type 0} (site : Site) (old new : Seen M) (command : Command) (reply : Reply) (goes_on : GoesOn old new) (journal : HasSeenJournal site.opening site.sessions site.limit new)
+module _ {M : Type 0} (site : Site) (old new : Seen M) (command : Command) (reply : Reply) (goes_on : GoesOn old new)
+    (journal : HasSeenJournal site.opening site.sessions site.limit new)
     (own : HasSeenItsCalls old) (call : AddsCall old new command reply) (half : new.half ≡ one_more_counted old.half) where
   asked : HasAsked site old new
   asked = record { goes_on = goes_on; journal = journal; own = own }
@@ -41,24 +44,27 @@ module _ {M : Type 0} (site : Site) (old new : Seen M) (command : Command) (repl
   called = record { call = call; half = half }
 
   replied : IsReplied site old new command (reply_text reply)
-  replied = record { asked = asked; told = inl (record { reply = reply; called = called; told = refl }) }
+  replied = record { asked = asked; sent = inl (record { reply = reply; called = called; sent = refl }) }
 
   unanswered : takes_memory reply ≡ true → IsUnanswered site old new command
   unanswered memory = record { asked = asked; done = inl (reply, called, memory) }
 
   -- the reply to a call was written whole
   pub whole-reply : {X D : Type 0} (r : Result X EngineFault) (written : D → Option (List ℕ)) (before after : D) →
-      OnOk r (Appends (written before) (written after) (reply_text reply)) → IfOk r (λ _. Writes (IsReplied site old new command) (written before) (written after))
+      OnOk r (Appends (written before) (written after) (reply_text reply))
+      → IfOk r (λ _. Writes (IsReplied site old new command) (written before) (written after))
   whole-reply (Ok x) written before after whole = (reply_text reply, replied, whole)
   whole-reply (Err e) written before after whole = tt
 
   -- the reply to a call was written in part, or for want of memory not at all
   pub breaks-reply : {X D : Type 0} (r : Result X EngineFault) (written : D → Option (List ℕ)) (before after : D) (failed : Bool) →
-      IfErr r (λ e. IsWriteFault e failed) → OnErr r ((part : ℕ) × Appends (written before) (written after) (take part (reply_text reply))) → IfErr r (λ e. e ≡ engine.NoMemory → after ≡ before) →
+      IfErr r (λ e. IsWriteFault e failed) → OnErr r ((part : ℕ) × Appends (written before) (written after) (take part (reply_text reply)))
+      → IfErr r (λ e. e ≡ engine.NoMemory → after ≡ before) →
       IfErr r (λ e. e ≡ engine.NoMemory → takes_memory reply ≡ true) →
       IfErr r (λ e. Breaks (IsReplied site old new command) (Unanswered site command old new) e (written before) (written after))
   breaks-reply (Ok x) written before after failed fault part same memory = tt
   breaks-reply (Err engine.Write) written before after failed fault part same memory = (reply_text reply, replied, part)
-  breaks-reply (Err engine.NoMemory) written before after failed fault part same memory = ([], (unanswered (memory refl), refl), subst (λ d. Appends (written before) (written d) []) (sym (same refl)) (appends_none (written before)))
+  breaks-reply (Err engine.NoMemory) written before after failed fault part same memory =
+      ([], (unanswered (memory refl), refl), subst (λ d. Appends (written before) (written d) []) (sym (same refl)) (appends_none (written before)))
   breaks-reply (Err engine.Read) written before after failed fault part same memory = absurd fault
   breaks-reply (Err engine.TooManyTurns) written before after failed fault part same memory = absurd fault

@@ -11,7 +11,8 @@ use Rattle.pfl_serve.specs.declared.seat.Seat.{Seat}
 use Rattle.pfl_serve.specs.declared.seat.Served.{Served}
 
 -- one more was taken
-pub mapped-more : {X Y : Type 0} (f : X → Y) (ys : List Y) (x : X) (left : List X) (all : List Y) → ys ++ map f (x ∷ left) ≡ all → (ys ++ f x ∷ []) ++ map f left ≡ all
+pub mapped-more : {X Y : Type 0} (f : X → Y) (ys : List Y) (x : X) (left : List X) (all : List Y) → ys ++ map f (x ∷ left) ≡ all
+    → (ys ++ f x ∷ []) ++ map f left ≡ all
 mapped-more f ys x left all split = append_assoc ys (f x ∷ []) (map f left) ∙ split
 
 -- all were taken where none is left
@@ -28,7 +29,8 @@ module _ {K A I W : Type 0} (j : Which.Ghosts K) (o : Output.Ghosts W) where
   served-many (old ∷ olds) (s ∷ ss) are = let rest = served-many olds ss are.1 in omega (arith, rest)
 
   -- their passes are still the lab's
-  pub served-passes : (olds : List (Seat A I W)) (ss : List (Served A I W)) → AreServed j o olds ss → AllByRecursion (IsPassOf j.publisher j.tallies) (map pass_of ss)
+  pub served-passes : (olds : List (Seat A I W)) (ss : List (Served A I W)) → AreServed j o olds ss
+      → AllByRecursion (IsPassOf j.publisher j.tallies) (map pass_of ss)
   served-passes [] [] are = tt
   served-passes [] (s ∷ ss) are = absurd are
   served-passes (old ∷ olds) [] are = absurd are

@@ -1,5 +1,6 @@
 -- Entries of the journal that are sent to a session.
-use Rattle.std.proofs.Common.{◌≡◌, ◌≤◌, ℕ, zero, suc, ◌+◌, List, [], ◌∷◌, ◌++◌, length, take, refl, sym, ◌∙◌, ap, subst, arith, length-append, append_assoc, inl, inr, Option, Some, None, Ok, Err}
+use Rattle.std.proofs.Common.{◌≡◌, ◌≤◌, ℕ, zero, suc, ◌+◌, List, [], ◌∷◌, ◌++◌, length, take, refl, sym, ◌∙◌, ap, subst, arith, length-append}
+use Rattle.std.proofs.Common.{append_assoc, inl, inr, Option, Some, None, Ok, Err}
 use Rattle.std.specs.Prelude.{slice_get, min, Result, IfErr, IfOk, OnErr, OnOk}
 use Rattle.std.specs.Io.KnownBytes.{Appends}
 use Rattle.std.proofs.Math.Seq.{take-append-add}
@@ -19,9 +20,9 @@ use Rattle.pfl_session.specs.publish.Revisions.{Log}
 use Rattle.pfl_session.specs.publish.Seats.{LoadsOnce}
 use Rattle.pfl_session.proofs.ForCallers.{count-append, goes-on, length-history}
 use Rattle.pfl_serve.proofs.Passed.{goes-none, not-called-own}
-use Rattle.pfl_serve.specs.Sessions.{told_lines, AreTold, Follows, HasAsked, IsFollowed, IsFollowing, IsNotCalled, IsTold, Site, Telling}
-use Rattle.pfl_serve.specs.Texts.{first_told, followed_text, following_text, told_text}
-use Rattle.pfl_serve.specs.inner.Answers.{Breaks, IsFollowingOn, IsToldOn, Writes}
+use Rattle.pfl_serve.specs.Sessions.{sent_lines, AreSent, Follows, HasAsked, IsFollowed, IsFollowing, IsNotCalled, IsSent, Site, Sending}
+use Rattle.pfl_serve.specs.Texts.{first_sent, followed_text, following_text, sent_text}
+use Rattle.pfl_serve.specs.inner.Answers.{Breaks, IsFollowingOn, IsSentOn, Writes}
 
 -- a text, and then a first part of another one
 part-then : (w v x : Option (List ℕ)) (t u : List ℕ) (part : ℕ) → Appends w v t → Appends v x (take part u) → Appends w x (take (length t + part) (t ++ u))
@@ -41,39 +42,40 @@ got-in-longer (z ∷ xs) ys zero x is = is
 got-in-longer (z ∷ xs) ys (suc n) x is = got-in-longer xs ys n x is
 
 module _ {M : Type 0} where
-  told-more : (low n : ℕ) (ts : List (Telling M)) (js more : List (Entry M)) → AreTold low n ts js → AreTold low n ts (js ++ more)
-  told-more low n [] js more are = tt
-  told-more low n (t ∷ ts) js more are =
-      (got-in-longer js more n t.entry are.0, are.1, are.2, omega (arith, are.3, length-append js more), told-more low (n + 1) ts js more are.4)
+  sent-more : (low n : ℕ) (ts : List (Sending M)) (js more : List (Entry M)) → AreSent low n ts js → AreSent low n ts (js ++ more)
+  sent-more low n [] js more are = tt
+  sent-more low n (t ∷ ts) js more are =
+      (got-in-longer js more n t.entry are.0, are.1, are.2, omega (arith, are.3, length-append js more), sent-more low (n + 1) ts js more are.4)
 
   -- there were fewer entries at least
-  told-lower : (low less n : ℕ) (ts : List (Telling M)) (js : List (Entry M)) → less ≤ low → AreTold low n ts js → AreTold less n ts js
-  told-lower low less n [] js below are = tt
-  told-lower low less n (t ∷ ts) js below are = (are.0, are.1, omega (arith, below, are.2), are.3, told-lower low less (n + 1) ts js below are.4)
+  sent-lower : (low less n : ℕ) (ts : List (Sending M)) (js : List (Entry M)) → less ≤ low → AreSent low n ts js → AreSent less n ts js
+  sent-lower low less n [] js below are = tt
+  sent-lower low less n (t ∷ ts) js below are = (are.0, are.1, omega (arith, below, are.2), are.3, sent-lower low less (n + 1) ts js below are.4)
 
   -- the entries that were sent are those of a journal that goes on
-  pub told-in-longer : (low n : ℕ) (ts : List (Telling M)) (js more all : List (Entry M)) → all ≡ js ++ more → AreTold low n ts js → AreTold low n ts all
-  told-in-longer low n ts js more all is are = subst (AreTold low n ts) (sym is) (told-more low n ts js more are)
+  pub sent-in-longer : (low n : ℕ) (ts : List (Sending M)) (js more all : List (Entry M)) → all ≡ js ++ more → AreSent low n ts js → AreSent low n ts all
+  sent-in-longer low n ts js more all is are = subst (AreSent low n ts) (sym is) (sent-more low n ts js more are)
 
   -- entries, and then others from there on
-  told-append : (low n : ℕ) (ts us : List (Telling M)) (js : List (Entry M)) → AreTold low n ts js → AreTold low (n + length ts) us js → AreTold low n (ts ++ us) js
-  told-append low n [] us js ts-are us-are = let same : n + 0 ≡ n = omega arith in subst (λ (m : ℕ). AreTold low m us js) same us-are
-  told-append low n (t ∷ ts) us js ts-are us-are =
+  sent-append : (low n : ℕ) (ts us : List (Sending M)) (js : List (Entry M)) → AreSent low n ts js → AreSent low (n + length ts) us js
+      → AreSent low n (ts ++ us) js
+  sent-append low n [] us js ts-are us-are = let same : n + 0 ≡ n = omega arith in subst (λ (m : ℕ). AreSent low m us js) same us-are
+  sent-append low n (t ∷ ts) us js ts-are us-are =
       let same : n + suc (length ts) ≡ (n + 1) + length ts = omega arith in
-      (ts-are.0, ts-are.1, ts-are.2, ts-are.3, told-append low (n + 1) ts us js ts-are.4 (subst (λ (m : ℕ). AreTold low m us js) same us-are))
+      (ts-are.0, ts-are.1, ts-are.2, ts-are.3, sent-append low (n + 1) ts us js ts-are.4 (subst (λ (m : ℕ). AreSent low m us js) same us-are))
 
   -- a pass that has not called has seen no less
   grown : (a b : Seen M) → IsNotCalled a b → length (seen_in a) ≤ length (seen_in b)
   grown a b met = omega (arith, ap (λ (l : List (Entry M)). length l) met.others.seen, length-append (seen_in a) met.others.others)
 
-  lines-append : (n : ℕ) (ts us : List (Telling M)) → told_lines n (ts ++ us) ≡ told_lines n ts ++ told_lines (n + length ts) us
-  lines-append n [] us = let same : n ≡ n + 0 = omega arith in ap (λ (m : ℕ). told_lines m us) same
+  lines-append : (n : ℕ) (ts us : List (Sending M)) → sent_lines n (ts ++ us) ≡ sent_lines n ts ++ sent_lines (n + length ts) us
+  lines-append n [] us = let same : n ≡ n + 0 = omega arith in ap (λ (m : ℕ). sent_lines m us) same
   lines-append n (t ∷ ts) us =
       let same : (n + 1) + length ts ≡ n + suc (length ts) = omega arith in
-      let text = told_text (n + 1) t.now t.entry.session t.entry.command in
+      let text = sent_text (n + 1) t.now t.entry.session t.entry.command in
       ap (λ (l : List ℕ). text ++ l) (lines-append (n + 1) ts us)
-      ∙ (sym (append_assoc text (told_lines (n + 1) ts) (told_lines ((n + 1) + length ts) us))
-      ∙ ap (λ (m : ℕ). (text ++ told_lines (n + 1) ts) ++ told_lines m us) same)
+      ∙ (sym (append_assoc text (sent_lines (n + 1) ts) (sent_lines ((n + 1) + length ts) us))
+      ∙ ap (λ (m : ℕ). (text ++ sent_lines (n + 1) ts) ++ sent_lines m us) same)
 
   module _ (site : Site) where
     asked-on : (a b c : Seen M) → HasAsked site a b → HasAsked site b c → HasAsked site a c
@@ -83,33 +85,42 @@ module _ {M : Type 0} where
     others-on a b c same ab bc = record {
       others = record {
         others = ab.others.others ++ bc.others.others;
-        seen = bc.others.seen ∙ (ap (λ (l : List (Entry M)). l ++ bc.others.others) ab.others.seen ∙ append_assoc (seen_in a) ab.others.others bc.others.others);
-        none_own = omega (arith, count-append a.session ab.others.others bc.others.others, ab.others.none_own, bc.others.none_own, ap (λ (s : ℕ). count_of s bc.others.others) same);
+        seen = bc.others.seen ∙ (ap (λ (l : List (Entry M)). l ++ bc.others.others) ab.others.seen
+            ∙ append_assoc (seen_in a) ab.others.others bc.others.others);
+        none_own = omega (
+          arith,
+          count-append a.session ab.others.others bc.others.others,
+          ab.others.none_own,
+          bc.others.none_own,
+          ap
+              (λ (s : ℕ). count_of s bc.others.others) same,
+        );
       };
       half = bc.half ∙ ab.half;
     }
 
     -- no entry yet: the pass has met
-    pub told-none : (low n : ℕ) (a b : Seen M) → HasAsked site a b → IsNotCalled a b → IsTold site low n n a b []
-    told-none low n a b asked met = record {
+    pub sent-none : (low n : ℕ) (a b : Seen M) → HasAsked site a b → IsNotCalled a b → IsSent site low n n a b []
+    sent-none low n a b asked met = record {
       asked = asked;
       not_called = met;
-      tellings = [];
+      sendings = [];
       are = tt;
       number = omega arith;
-      told = refl;
+      sent = refl;
     }
 
     -- one entry
-    pub told-one : (n now : ℕ) (a b : Seen M) (e : Entry M) (text : List ℕ) → HasAsked site a b → IsNotCalled a b → slice_get (seen_in b) n ≡ Some e → now ≡ length (seen_in b)
-        → text ≡ told_text (n + 1) now e.session e.command → IsTold site (length (seen_in a)) n (n + 1) a b text
-    told-one n now a b e text asked met there all is = record {
+    pub sent-one : (n now : ℕ) (a b : Seen M) (e : Entry M) (text : List ℕ) → HasAsked site a b → IsNotCalled a b
+        → slice_get (seen_in b) n ≡ Some e → now ≡ length (seen_in b)
+        → text ≡ sent_text (n + 1) now e.session e.command → IsSent site (length (seen_in a)) n (n + 1) a b text
+    sent-one n now a b e text asked met there all is = record {
       asked = asked;
       not_called = met;
-      tellings = record { entry = e; now = now } ∷ [];
+      sendings = record { entry = e; now = now } ∷ [];
       are = (there, omega (arith, slice_get_within (seen_in b) n e there, all), omega (arith, all, grown a b met), omega (arith, all), tt);
       number = refl;
-      told = is ∙ sym (append-nil (told_text (n + 1) now e.session e.command));
+      sent = is ∙ sym (append-nil (sent_text (n + 1) now e.session e.command));
     }
 
     -- the entry that a lab gives
@@ -118,75 +129,90 @@ module _ {M : Type 0} where
     made-at n m None is = absurd cc
     made-at n m (Some e) is = (e, refl, cc)
 
-    pub told-made : (n now : ℕ) (a b : Seen M) (m : Made) (text : List ℕ) → HasAsked site a b → IsNotCalled a b → Some m ≡ made_after n (seen_in b) → now ≡ length (seen_in b)
-        → text ≡ told_text m.number now m.session m.command → IsTold site (length (seen_in a)) n m.number a b text
-    told-made n now a b m text asked met made all is =
+    pub sent-made : (n now : ℕ) (a b : Seen M) (m : Made) (text : List ℕ) → HasAsked site a b → IsNotCalled a b
+        → Some m ≡ made_after n (seen_in b) → now ≡ length (seen_in b)
+        → text ≡ sent_text m.number now m.session m.command → IsSent site (length (seen_in a)) n m.number a b text
+    sent-made n now a b m text asked met made all is =
         let one = made-at n m (slice_get (seen_in b) n) made in
         let same : m.number ≡ n + 1 = ap (λ (x : Made). x.number) one.2 in
-        let told = told-one n now a b one.0 text asked met one.1 all (is ∙ (λ z. told_text (one.2 z).number now (one.2 z).session (one.2 z).command)) in
-        subst (λ (k : ℕ). IsTold site (length (seen_in a)) n k a b text) (sym same) told
+        let sent = sent-one n now a b one.0 text asked met one.1 all (is ∙ (λ z. sent_text (one.2 z).number now (one.2 z).session (one.2 z).command)) in
+        subst (λ (k : ℕ). IsSent site (length (seen_in a)) n k a b text) (sym same) sent
 
     -- the lines of entries were written in part
-    pub breaks-told : (n m : ℕ) (a b : Seen M) (text : List ℕ) (e : EngineFault) (w v : Option (List ℕ)) (part : ℕ) → IsTold site (length (seen_in a)) n m a b text → e ≡ engine.Write → Appends w v (take part text)
-        → Breaks (IsToldOn site n a b) (IsToldOn site n a b) e w v
-    breaks-told n m a b text e w v part told is some = subst (λ (x : EngineFault). Breaks (IsToldOn site n a b) (IsToldOn site n a b) x w v) (sym is) (text, (m, told), (part, some))
+    pub breaks-sent : (n m : ℕ) (a b : Seen M) (text : List ℕ) (e : EngineFault) (w v : Option (List ℕ)) (part : ℕ)
+        → IsSent site (length (seen_in a)) n m a b text → e ≡ engine.Write → Appends w v (take part text)
+        → Breaks (IsSentOn site n a b) (IsSentOn site n a b) e w v
+    breaks-sent n m a b text e w v part sent is some =
+        subst (λ (x : EngineFault). Breaks (IsSentOn site n a b) (IsSentOn site n a b) x w v) (sym is) (text, (m, sent), (part, some))
 
     -- memory was wanting for the first line
-    pub lacks-told : (n : ℕ) (a b : Seen M) (w : Option (List ℕ)) → HasAsked site a b → IsNotCalled a b → Breaks (IsToldOn site n a b) (IsToldOn site n a b) engine.NoMemory w w
-    lacks-told n a b w asked met = ([], (n, told-none (length (seen_in a)) n a b asked met), appends_none w)
+    pub lacks-sent : (n : ℕ) (a b : Seen M) (w : Option (List ℕ)) → HasAsked site a b → IsNotCalled a b
+        → Breaks (IsSentOn site n a b) (IsSentOn site n a b) engine.NoMemory w w
+    lacks-sent n a b w asked met = ([], (n, sent-none (length (seen_in a)) n a b asked met), appends_none w)
 
     -- a pass has seen no less
-    pub seen-more : (low n m : ℕ) (a b : Seen M) (text : List ℕ) (k : ℕ) → IsTold site low n m a b text → k ≤ length (seen_in a) → k ≤ length (seen_in b)
-    seen-more low n m a b text k told within = omega (arith, within, grown a b told.not_called)
+    pub seen-more : (low n m : ℕ) (a b : Seen M) (text : List ℕ) (k : ℕ) → IsSent site low n m a b text → k ≤ length (seen_in a) → k ≤ length (seen_in b)
+    seen-more low n m a b text k sent within = omega (arith, within, grown a b sent.not_called)
 
     -- some entries, and then others
-    pub told-then : (low n m k : ℕ) (a b c : Seen M) (text more : List ℕ) → low ≤ length (seen_in b) → IsTold site low n m a b text → IsTold site (length (seen_in b)) m k b c more → IsTold site low n k a c (text ++ more)
-    told-then low n m k a b c text more below ab bc =
-        let ts = ab.tellings in
-        let us = bc.tellings in
-        let more-are : AreTold low m us (seen_in c) = told-lower (length (seen_in b)) low m us (seen_in c) below bc.are in
-        let us-are : AreTold low (n + length ts) us (seen_in c) = subst (λ (i : ℕ). AreTold low i us (seen_in c)) ab.number more-are in
-        let ts-are = told-in-longer low n ts (seen_in b) bc.not_called.others.others (seen_in c) bc.not_called.others.seen ab.are in
+    pub sent-then : (low n m k : ℕ) (a b c : Seen M) (text more : List ℕ) → low ≤ length (seen_in b) → IsSent site low n m a b text
+        → IsSent site (length (seen_in b)) m k b c more → IsSent site low n k a c (text ++ more)
+    sent-then low n m k a b c text more below ab bc =
+        let ts = ab.sendings in
+        let us = bc.sendings in
+        let more-are : AreSent low m us (seen_in c) = sent-lower (length (seen_in b)) low m us (seen_in c) below bc.are in
+        let us-are : AreSent low (n + length ts) us (seen_in c) = subst (λ (i : ℕ). AreSent low i us (seen_in c)) ab.number more-are in
+        let ts-are = sent-in-longer low n ts (seen_in b) bc.not_called.others.others (seen_in c) bc.not_called.others.seen ab.are in
         record {
           asked = asked-on a b c ab.asked bc.asked;
           not_called = others-on a b c ab.asked.goes_on.session ab.not_called bc.not_called;
-          tellings = ts ++ us;
-          are = told-append low n ts us (seen_in c) ts-are us-are;
+          sendings = ts ++ us;
+          are = sent-append low n ts us (seen_in c) ts-are us-are;
           number = omega (arith, ab.number, bc.number, length-append ts us);
-          told = ap (λ (t : List ℕ). t ++ more) ab.told
-              ∙ (ap (λ (t : List ℕ). told_lines n ts ++ t) (bc.told ∙ ap (λ (i : ℕ). told_lines i us) ab.number)
+          sent = ap (λ (t : List ℕ). t ++ more) ab.sent
+              ∙ (ap (λ (t : List ℕ). sent_lines n ts ++ t) (bc.sent ∙ ap (λ (i : ℕ). sent_lines i us) ab.number)
               ∙ sym (lines-append n ts us));
         }
 
-    module _ (n m : ℕ) (a b c : Seen M) (w v x : Option (List ℕ)) (so_far : Writes (IsTold site (length (seen_in a)) n m a b) w v) where
+    module _ (n m : ℕ) (a b c : Seen M) (w v x : Option (List ℕ)) (so_far : Writes (IsSent site (length (seen_in a)) n m a b) w v) where
       -- the pass has seen no less meanwhile
       below : length (seen_in a) ≤ length (seen_in b)
       below = grown a b so_far.1.not_called
 
       -- what was written so far, and then more
-      pub writes-then : (k : ℕ) → Writes (IsTold site (length (seen_in b)) m k b c) v x → Writes (IsTold site (length (seen_in a)) n k a c) w x
-      writes-then k more = (so_far.0 ++ more.0, told-then (length (seen_in a)) n m k a b c so_far.0 more.0 below so_far.1 more.1, appends_then w v x so_far.0 more.0 so_far.2 more.2)
+      pub writes-then : (k : ℕ) → Writes (IsSent site (length (seen_in b)) m k b c) v x → Writes (IsSent site (length (seen_in a)) n k a c) w x
+      writes-then k more = (
+        so_far.0
+            ++ more.0,
+        sent-then (length (seen_in a)) n m k a b c so_far.0 more.0 below so_far.1 more.1,
+        appends_then w v x so_far.0 more.0
+            so_far.2 more.2,
+      )
 
       -- ... and then a part of more, or what came before memory was wanting
-      pub breaks-then : (e : EngineFault) → Breaks (IsToldOn site m b c) (IsToldOn site m b c) e v x → Breaks (IsToldOn site n a c) (IsToldOn site n a c) e w x
+      pub breaks-then : (e : EngineFault) → Breaks (IsSentOn site m b c) (IsSentOn site m b c) e v x → Breaks (IsSentOn site n a c) (IsSentOn site n a c) e w x
       breaks-then engine.Write more =
           let t = so_far.0 in
           let u = more.0 in
           let part = more.2.0 in (
             t ++ u,
-            (more.1.0, told-then (length (seen_in a)) n m more.1.0 a b c t u below so_far.1 more.1.1),
+            (more.1.0, sent-then (length (seen_in a)) n m more.1.0 a b c t u below so_far.1 more.1.1),
             (length t + part, part-then w v x t u part so_far.2 more.2.1),
           )
-      breaks-then engine.NoMemory more =
-          (so_far.0 ++ more.0, (more.1.0, told-then (length (seen_in a)) n m more.1.0 a b c so_far.0 more.0 below so_far.1 more.1.1), appends_then w v x so_far.0 more.0 so_far.2 more.2)
+      breaks-then engine.NoMemory more = (
+        so_far.0 ++ more.0,
+        (more.1.0, sent-then (length (seen_in a)) n m more.1.0 a b c so_far.0 more.0 below so_far.1 more.1.1),
+        appends_then w v x so_far.0 more.0 so_far.2 more.2,
+      )
       breaks-then engine.Read more = absurd more
       breaks-then engine.TooManyTurns more = absurd more
 
     -- ---- an answer to `follow`
 
-    module _ (k : Option ℕ) (start : ℕ) (a b : Seen M) (asked : HasAsked site a b) (met : IsNotCalled a b) (looked : LoadsOnce a.viewer b.viewer) (all : start ≡ length (seen_in b)) where
+    module _ (k : Option ℕ) (start : ℕ) (a b : Seen M) (asked : HasAsked site a b) (met : IsNotCalled a b)
+        (looked : LoadsOnce a.viewer b.viewer) (all : start ≡ length (seen_in b)) where
       abbrev first : ℕ
-      first = first_told k start
+      first = first_sent k start
 
       own-met : HasSeenItsCalls b
       own-met = omega (arith, asked.own, not-called-own a b asked.goes_on.session met, ap (λ h. h.count) met.half)
@@ -201,30 +227,33 @@ module _ {M : Type 0} where
           let once : b.viewer.loads ≡ a.viewer.loads ++ start ∷ [] = looked.1 ∙ ap (λ (n : ℕ). a.viewer.loads ++ n ∷ []) number-is in
           (later, on.loads.1 ∙ (ap (λ (l : List ℕ). l ++ later) once ∙ append_assoc a.viewer.loads (start ∷ []) later))
 
-      follows : (m : ℕ) (c : Seen M) (lines : List ℕ) → IsTold site (length (seen_in b)) first m b c lines → Follows site k start m a c (following_text first ++ lines)
-      follows m c lines told =
-          let whole = told-then start first first m a b c [] lines (omega (arith, all)) (told-none start first a b asked met) told in
+      follows : (m : ℕ) (c : Seen M) (lines : List ℕ) → IsSent site (length (seen_in b)) first m b c lines
+          → Follows site k start m a c (following_text first ++ lines)
+      follows m c lines sent =
+          let whole = sent-then start first first m a b c [] lines (omega (arith, all)) (sent-none start first a b asked met) sent in
           record {
             since = omega (arith, all, grown a b met);
-            within = omega (arith, all, grown b c told.not_called);
-            looked = looks c told.asked.goes_on;
+            within = omega (arith, all, grown b c sent.not_called);
+            looked = looks c sent.asked.goes_on;
             lines = lines;
-            tells = whole;
-            told = refl;
+            sends = whole;
+            sent = refl;
           }
 
       -- the whole answer: what begins it, the lines of entries, and its end
-      pub whole-follow : (m : ℕ) (c : Seen M) (w v x y : Option (List ℕ)) → Appends w v (following_text first) → Writes (IsTold site (length (seen_in b)) first m b c) v x → start ≤ m
+      pub whole-follow : (m : ℕ) (c : Seen M) (w v x y : Option (List ℕ)) → Appends w v (following_text first)
+          → Writes (IsSent site (length (seen_in b)) first m b c) v x → start ≤ m
           → Appends x y (followed_text m) → Writes (IsFollowed site k a c) w y
       whole-follow m c w v x y begins lines enough ends =
           let t = following_text first ++ lines.0 in (
             t ++ followed_text m,
-            record { start = start; number = m; first = t; follows = follows m c lines.0 lines.1; all = enough; told = refl },
+            record { start = start; number = m; first = t; follows = follows m c lines.0 lines.1; all = enough; sent = refl },
             appends_then w x y t (followed_text m) (appends_then w v x (following_text first) lines.0 begins lines.2) ends,
           )
 
-      following : (m : ℕ) (c : Seen M) (lines : List ℕ) → IsTold site (length (seen_in b)) first m b c lines → IsFollowing site k a c (following_text first ++ lines)
-      following m c lines told = record { start = start; number = m; follows = follows m c lines told }
+      following : (m : ℕ) (c : Seen M) (lines : List ℕ) → IsSent site (length (seen_in b)) first m b c lines
+          → IsFollowing site k a c (following_text first ++ lines)
+      following m c lines sent = record { start = start; number = m; follows = follows m c lines sent }
 
       -- a pass that has met has met again
       again : HasAsked site b b
@@ -234,14 +263,17 @@ module _ {M : Type 0} where
       none = record { others = record { others = []; seen = sym (append-nil (seen_in b)); none_own = refl }; half = refl }
 
       -- its first line was written in part
-      pub breaks-begin : (e : EngineFault) (w v : Option (List ℕ)) (part : ℕ) → e ≡ engine.Write → Appends w v (take part (following_text first)) → Breaks (IsFollowingOn site k a b) (IsFollowing site k a b) e w v
+      pub breaks-begin : (e : EngineFault) (w v : Option (List ℕ)) (part : ℕ) → e ≡ engine.Write
+          → Appends w v (take part (following_text first)) → Breaks (IsFollowingOn site k a b) (IsFollowing site k a b) e w v
       breaks-begin e w v part fault is =
-          let told = told-none (length (seen_in b)) first b b again none in
+          let sent = sent-none (length (seen_in b)) first b b again none in
           let t = following_text first in
-          subst (λ (x : EngineFault). Breaks (IsFollowingOn site k a b) (IsFollowing site k a b) x w v) (sym fault) (t ++ [], inl (following first b [] told), part-on w v t [] part is)
+          subst (λ (x : EngineFault). Breaks (IsFollowingOn site k a b) (IsFollowing site k a b) x w v) (sym fault)
+          (t ++ [], inl (following first b [] sent), part-on w v t [] part is)
 
       -- the lines of entries were written in part
-      pub breaks-lines : (c : Seen M) (e : EngineFault) (w v x : Option (List ℕ)) → Appends w v (following_text first) → Breaks (IsToldOn site first b c) (IsToldOn site first b c) e v x → Breaks (IsFollowingOn site k a c) (IsFollowing site k a c) e w x
+      pub breaks-lines : (c : Seen M) (e : EngineFault) (w v x : Option (List ℕ)) → Appends w v (following_text first)
+          → Breaks (IsSentOn site first b c) (IsSentOn site first b c) e v x → Breaks (IsFollowingOn site k a c) (IsFollowing site k a c) e w x
       breaks-lines c engine.Write w v x begins breaks =
           let t = following_text first in
           let lines = breaks.0 in
@@ -254,22 +286,30 @@ module _ {M : Type 0} where
       breaks-lines c engine.TooManyTurns w v x begins breaks = absurd breaks
 
       -- its last line was written in part
-      pub breaks-end : (m : ℕ) (c : Seen M) (w v x y : Option (List ℕ)) (part : ℕ) → Appends w v (following_text first) → Writes (IsTold site (length (seen_in b)) first m b c) v x → start ≤ m
+      pub breaks-end : (m : ℕ) (c : Seen M) (w v x y : Option (List ℕ)) (part : ℕ) → Appends w v (following_text first)
+          → Writes (IsSent site (length (seen_in b)) first m b c) v x → start ≤ m
           → Appends x y (take part (followed_text m)) → Breaks (IsFollowingOn site k a c) (IsFollowing site k a c) engine.Write w y
       breaks-end m c w v x y part begins lines enough ends =
           let t = following_text first ++ lines.0 in
-          let whole : IsFollowed site k a c (t ++ followed_text m) = record { start = start; number = m; first = t; follows = follows m c lines.0 lines.1; all = enough; told = refl } in
-          (t ++ followed_text m, inr whole, (length t + part, part-then w x y t (followed_text m) part (appends_then w v x (following_text first) lines.0 begins lines.2) ends))
+          let whole : IsFollowed site k a c (t ++ followed_text m) =
+          record { start = start; number = m; first = t; follows = follows m c lines.0 lines.1; all = enough; sent = refl } in (
+            t ++ followed_text m,
+            inr whole,
+            (length t + part, part-then w x y t (followed_text m) part (appends_then w v x (following_text first) lines.0 begins lines.2) ends),
+          )
 
       -- the answer, whether its last line was written whole or not
-      pub ends-whole : {X : Type 0} (r : Result X EngineFault) (m : ℕ) (c : Seen M) (w v x y : Option (List ℕ)) → Appends w v (following_text first) → Writes (IsTold site (length (seen_in b)) first m b c) v x → start ≤ m
+      pub ends-whole : {X : Type 0} (r : Result X EngineFault) (m : ℕ) (c : Seen M) (w v x y : Option (List ℕ))
+          → Appends w v (following_text first) → Writes (IsSent site (length (seen_in b)) first m b c) v x → start ≤ m
           → OnOk r (Appends x y (followed_text m)) → IfOk r (λ _. Writes (IsFollowed site k a c) w y)
       ends-whole (Ok z) m c w v x y begins lines enough ends = whole-follow m c w v x y begins lines enough ends
       ends-whole (Err e) m c w v x y begins lines enough ends = tt
 
-      pub ends-broken : {X : Type 0} (r : Result X EngineFault) (m : ℕ) (c : Seen M) (w v x y : Option (List ℕ)) → Appends w v (following_text first) → Writes (IsTold site (length (seen_in b)) first m b c) v x → start ≤ m
+      pub ends-broken : {X : Type 0} (r : Result X EngineFault) (m : ℕ) (c : Seen M) (w v x y : Option (List ℕ))
+          → Appends w v (following_text first) → Writes (IsSent site (length (seen_in b)) first m b c) v x → start ≤ m
           → IfErr r (λ e. e ≡ engine.Write) → OnErr r ((part : ℕ) × (part ≤ length (followed_text m)) × Appends x y (take part (followed_text m)))
           → IfErr r (λ e. Breaks (IsFollowingOn site k a c) (IsFollowing site k a c) e w y)
       ends-broken (Ok z) m c w v x y begins lines enough fault part = tt
       ends-broken (Err e) m c w v x y begins lines enough fault part =
-          subst (λ (f : EngineFault). Breaks (IsFollowingOn site k a c) (IsFollowing site k a c) f w y) (sym fault) (breaks-end m c w v x y part.0 begins lines enough part.2)
+          subst (λ (f : EngineFault). Breaks (IsFollowingOn site k a c) (IsFollowing site k a c) f w y) (sym fault)
+          (breaks-end m c w v x y part.0 begins lines enough part.2)

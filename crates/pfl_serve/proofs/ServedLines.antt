@@ -17,7 +17,8 @@ use Rattle.pfl_script.specs.reader.declared.fault.ReadFault.{ReadFault}
 use Rattle.pfl_script.specs.reader.declared.fault.ReadFault.TheVariants as read
 use Rattle.pfl_script.specs.Readers.{of_read}
 use Rattle.pfl_script.proofs.ForCallers.{appends_none, appends_then, taken-none, taken-line, taken-first, taken-all, taken-drained}
-use Rattle.pfl_serve.specs.Sessions.{said, is_fault, bad_lines, IsAnswer, IsBegun, Lacks, Serves, Site, ServesWhole, ServesFirst, ServesPart, ServesUnanswered, ServesUntil}
+use Rattle.pfl_serve.specs.Sessions.{said, is_fault, bad_lines, IsAnswer, IsBegun, Lacks, Serves, Site, ServesWhole, ServesFirst, ServesPart}
+use Rattle.pfl_serve.specs.Sessions.{ServesUnanswered, ServesUntil}
 use Rattle.pfl_serve.specs.inner.Answers.{kept_said, Writes, Breaks}
 
 -- what is kept of a line says to a session what the line says
@@ -79,7 +80,8 @@ module _ {M : Type 0} where
       faulty = refl;
     }
 
-    module _ (left mid rest : Option (List ℕ)) (old p q : Seen M) (w v x : Option (List ℕ)) (count bad : ℕ) (k : Kept) (so_far : Served left mid old p w v count bad) (reads : ReadsLine k mid rest) where
+    module _ (left mid rest : Option (List ℕ)) (old p q : Seen M) (w v x : Option (List ℕ)) (count bad : ℕ) (k : Kept)
+        (so_far : Served left mid old p w v count bad) (reads : ReadsLine k mid rest) where
       -- the answer to what is kept of the line is the answer to the line
       answered : (text : List ℕ) → IsAnswer site (kept_said k) p q text → IsAnswer site (said reads.body) p q text
       answered text a = subst (λ (s : Option (Result SessionLine LineFault)). IsAnswer site s p q text) (said-kept k reads.body reads.keeps) a
@@ -129,7 +131,8 @@ module _ {M : Type 0} where
       }
 
       -- the last line's answer failed, for this reason
-      pub until-answer : (e : EngineFault) → Breaks (IsBegun site (kept_said k) p q) (Lacks site (kept_said k) p q) e v x → ServesUntil site e left rest old q w x
+      pub until-answer : (e : EngineFault) → Breaks (IsBegun site (kept_said k) p q) (Lacks site (kept_said k) p q) e v x
+          → ServesUntil site e left rest old q w x
       until-answer engine.Write breaks = served-part breaks.0 breaks.2.0 breaks.1 breaks.2.1
       until-answer engine.NoMemory breaks = served-unanswered breaks.0 breaks.1 breaks.2
       until-answer engine.Read breaks = absurd breaks

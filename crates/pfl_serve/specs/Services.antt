@@ -22,7 +22,8 @@ module _ {A I W : Type 0} where
   ended_seat s = record { reader = s.seat.reader; writer = s.seat.writer; result = s.result }
 
 module _ {K A I W : Type 0} (j : Which.Ghosts K) (o : Output.Ghosts W) where
-  -- the seats were served, and this is left of each; then the lab was closed: the journal is one of its sessions, and its replay gives the timeline; and the pass of each seat has seen a beginning of the journal, in which every entry of its session stands
+  -- the seats were served, and this is left of each; then the lab was closed: the journal is one of its sessions, and its replay gives
+  -- the timeline; and the pass of each seat has seen a beginning of the journal, in which every entry of its session stands
   pub record IsService (seats : List (Seat A I W)) (timeline : Timeline) (js : List (Entry A)) (ended : List (EndedSeat I W)) : Type 0 where
     pub served : List (Served A I W)
     pub all : AreServed j o seats served

@@ -1,12 +1,13 @@
 -- What serving a session does, line by line (this project's profile).
-use Rattle.std.specs.Prelude.{◌≡◌, ◌≤◌, ◌<◌, ℕ, ◌+◌, Bool, true, false, is_err, List, [], ◌∷◌, ◌++◌, length, take, slice_get, slice_index, if◌then◌else◌, Option, Some, None, Result, Ok, Err, ⊤, ◌⊎◌}
+use Rattle.std.specs.Prelude.{◌≡◌, ◌≤◌, ◌<◌, ℕ, ◌+◌, Bool, true, false, is_err, List, [], ◌∷◌, ◌++◌, length, take, slice_get, slice_index}
+use Rattle.std.specs.Prelude.{if◌then◌else◌, Option, Some, None, Result, Ok, Err, ⊤, ◌⊎◌}
 use Rattle.std.specs.Io.KnownBytes.{Appends}
 use Rattle.pfl_language.specs.declared.command.Command.{Command}
 use Rattle.pfl_session.specs.publish.Seats.{IsRead, IsOvertaken, OvertakenBefore, MakesTries}
 use Rattle.pfl_script.specs.timeline.Replies.{Reply}
 use Rattle.pfl_script.specs.timeline.Timelines.{Timeline}
 use Rattle.pfl_session.specs.declared.entry.Entry.{Entry}
-use Rattle.pfl_session.specs.Desks.{one_more_counted}
+use Rattle.pfl_session.specs.Ledgers.{one_more_counted}
 use Rattle.pfl_session.specs.Passes.{Seen, seen_in, GoesOn, HasSeenItsCalls, HasSeenJournal, AddsOthers, AddsCall}
 use Rattle.pfl_script.specs.lines.declared.fault.LineFault.{LineFault}
 use Rattle.pfl_script.specs.lines.declared.session.SessionLine.{SessionLine}
@@ -18,7 +19,7 @@ use Rattle.pfl_script.specs.reader.Scans.{head_of, has_word, TakesLines}
 use Rattle.pfl_script.specs.Texts.{bad_text}
 use Rattle.pfl_script.specs.declared.fault.EngineFault.{EngineFault}
 use Rattle.pfl_script.specs.declared.fault.EngineFault.TheVariants as engine
-use Rattle.pfl_serve.specs.Texts.{first_told, following_text, followed_text, full_text, overtaken_text, told_text, view_text}
+use Rattle.pfl_serve.specs.Texts.{first_sent, following_text, followed_text, full_text, overtaken_text, sent_text, view_text}
 
 -- what sessions are served over: the opening of their lab, how many there are, the most entries of its journal, and the lines that set the pair up
 pub record Site : Type 0 where
@@ -42,23 +43,23 @@ bad_lines [] = 0
 bad_lines (line ∷ lines) = one_if (is_fault (said line)) + bad_lines lines
 
 -- an entry that a session is shown, and how many entries there were then
-pub record Telling (M : Type 0) : Type 0 where
+pub record Sending (M : Type 0) : Type 0 where
   pub entry : Entry M
   pub now : ℕ
 
 -- the lines of entries, which count on from this number
-abbrev pub told_lines : {M : Type 0} → ℕ → List (Telling M) → List ℕ
-told_lines n [] = []
-told_lines n (t ∷ ts) = told_text (n + 1) t.now t.entry.session t.entry.command ++ told_lines (n + 1) ts
+abbrev pub sent_lines : {M : Type 0} → ℕ → List (Sending M) → List ℕ
+sent_lines n [] = []
+sent_lines n (t ∷ ts) = sent_text (n + 1) t.now t.entry.session t.entry.command ++ sent_lines (n + 1) ts
 
 -- they are the entries of the journal after its first n, one after another; when each was shown there were `now` entries, it among them, and `low` at least
-abbrev pub AreTold : {M : Type 0} → ℕ → ℕ → List (Telling M) → List (Entry M) → Type 0
-AreTold low n [] js = ⊤
-AreTold low n (t ∷ ts) js = (slice_get js n ≡ Some t.entry) × (n < t.now) × (low ≤ t.now) × (t.now ≤ length js) × AreTold low (n + 1) ts js
+abbrev pub AreSent : {M : Type 0} → ℕ → ℕ → List (Sending M) → List (Entry M) → Type 0
+AreSent low n [] js = ⊤
+AreSent low n (t ∷ ts) js = (slice_get js n ≡ Some t.entry) × (n < t.now) × (low ≤ t.now) × (t.now ≤ length js) × AreSent low (n + 1) ts js
 
 module _ {M : Type 0} where
   -- a revision was read, in at most three tries, and the text shows its words
-  pub record TellsRevision (old new : Seen M) (text : List ℕ) : Type 0 where
+  pub record SendsRevision (old new : Seen M) (text : List ℕ) : Type 0 where
     pub number : ℕ
     pub words : List ℕ
     pub read : IsRead old.viewer new.viewer words number
@@ -66,22 +67,22 @@ module _ {M : Type 0} where
     pub now : ℕ
     pub tries : MakesTries old.viewer new.viewer lost (slice_index words 0) now
     pub few : lost ≤ 2
-    pub told : text ≡ view_text words
+    pub sent : text ≡ view_text words
 
   -- three tries were overtaken, and the text says where the last one began, six revisions past the old floor at least, and where it ended
-  pub record TellsOvertaken (old new : Seen M) (text : List ℕ) : Type 0 where
+  pub record SendsOvertaken (old new : Seen M) (text : List ℕ) : Type 0 where
     pub at : ℕ
     pub now : ℕ
     pub overtaken : IsOvertaken old.viewer new.viewer at now
     pub before : OvertakenBefore 3 old.viewer at
     pub tries : MakesTries old.viewer new.viewer 2 at now
-    pub told : text ≡ overtaken_text at now
+    pub sent : text ≡ overtaken_text at now
 
   -- the answer to `view`: a revision that is not older than what the pass had seen, if one was read
   pub record IsViewed (old new : Seen M) (text : List ℕ) : Type 0 where
     pub goes_on : GoesOn old new
     pub half : new.half ≡ old.half
-    pub told : TellsRevision old new text ⊎ TellsOvertaken old new text
+    pub sent : SendsRevision old new text ⊎ SendsOvertaken old new text
 
   -- the pass has called once more, and has seen its call
   pub record IsCalled (old new : Seen M) (command : Command) (reply : Reply) : Type 0 where
@@ -93,28 +94,29 @@ module _ {M : Type 0} where
     pub others : AddsOthers old new
     pub half : new.half ≡ old.half
 
-  -- the pass has asked, called or not: it goes on, what it has seen is a journal that keeps to its limit, and what it had seen has as many entries of its session as it had called
+  -- the pass has asked, called or not: it goes on, what it has seen is a journal that keeps to its limit, and what it had seen has as
+  -- many entries of its session as it had called
   pub record HasAsked (site : Site) (old new : Seen M) : Type 0 where
     pub goes_on : GoesOn old new
     pub journal : HasSeenJournal site.opening site.sessions site.limit new
     pub own : HasSeenItsCalls old
 
   -- the call's reply
-  pub record TellsReply (old new : Seen M) (command : Command) (text : List ℕ) : Type 0 where
+  pub record SendsReply (old new : Seen M) (command : Command) (text : List ℕ) : Type 0 where
     pub reply : Reply
     pub called : IsCalled old new command reply
-    pub told : text ≡ reply_text reply
+    pub sent : text ≡ reply_text reply
 
   -- no call: the pass has seen a full journal
-  pub record TellsFull (site : Site) (old new : Seen M) (text : List ℕ) : Type 0 where
+  pub record SendsFull (site : Site) (old new : Seen M) (text : List ℕ) : Type 0 where
     pub not_called : IsNotCalled old new
     pub full : length (seen_in new) ≡ site.limit
-    pub told : text ≡ full_text
+    pub sent : text ≡ full_text
 
   -- the answer to a command
   pub record IsReplied (site : Site) (old new : Seen M) (command : Command) (text : List ℕ) : Type 0 where
     pub asked : HasAsked site old new
-    pub told : TellsReply old new command text ⊎ TellsFull site old new text
+    pub sent : SendsReply old new command text ⊎ SendsFull site old new text
 
   -- no answer to a command, for want of memory: it was called and its reply takes memory, or the journal has room
   pub record IsUnanswered (site : Site) (old new : Seen M) (command : Command) : Type 0 where
@@ -122,22 +124,23 @@ module _ {M : Type 0} where
     pub done : ((reply : Reply) × IsCalled old new command reply × (takes_memory reply ≡ true)) ⊎ (IsNotCalled old new × (length (seen_in new) < site.limit))
 
   -- the entries after the first n were shown, up to the one of number m, and meanwhile the pass saw calls of other sessions alone
-  pub record IsTold (site : Site) (low n m : ℕ) (old new : Seen M) (text : List ℕ) : Type 0 where
+  pub record IsSent (site : Site) (low n m : ℕ) (old new : Seen M) (text : List ℕ) : Type 0 where
     pub asked : HasAsked site old new
     pub not_called : IsNotCalled old new
-    pub tellings : List (Telling M)
-    pub are : AreTold low n tellings (seen_in new)
-    pub number : m ≡ n + length tellings
-    pub told : text ≡ told_lines n tellings
+    pub sendings : List (Sending M)
+    pub are : AreSent low n sendings (seen_in new)
+    pub number : m ≡ n + length sendings
+    pub sent : text ≡ sent_lines n sendings
 
-  -- the session follows the journal, from the entry that it asked for on, where there is one, and else from the end: it has been shown the entries up to number m; the pass looked once it was asked, and there were `start` of them
+  -- the session follows the journal, from the entry that it asked for on, where there is one, and else from the end: it has been shown
+  -- the entries up to number m; the pass looked once it was asked, and there were `start` of them
   pub record Follows (site : Site) (k : Option ℕ) (start m : ℕ) (old new : Seen M) (text : List ℕ) : Type 0 where
     pub since : length (seen_in old) ≤ start
     pub within : start ≤ length (seen_in new)
     pub looked : (later : List ℕ) × (new.viewer.loads ≡ old.viewer.loads ++ start ∷ later)
     pub lines : List ℕ
-    pub tells : IsTold site start (first_told k start) m old new lines
-    pub told : text ≡ following_text (first_told k start) ++ lines
+    pub sends : IsSent site start (first_sent k start) m old new lines
+    pub sent : text ≡ following_text (first_sent k start) ++ lines
 
   -- the answer to `follow`: all entries that there were when the pass looked first were shown at least
   pub record IsFollowed (site : Site) (k : Option ℕ) (old new : Seen M) (text : List ℕ) : Type 0 where
@@ -146,7 +149,7 @@ module _ {M : Type 0} where
     pub first : List ℕ
     pub follows : Follows site k start number old new first
     pub all : start ≤ number
-    pub told : text ≡ first ++ followed_text number
+    pub sent : text ≡ first ++ followed_text number
 
   -- an answer to `follow` without its last line
   pub record IsFollowing (site : Site) (k : Option ℕ) (old new : Seen M) (text : List ℕ) : Type 0 where

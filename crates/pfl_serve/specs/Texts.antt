@@ -22,9 +22,9 @@ abbrev pub full_text : List ℕ
 full_text = codes "full\n"
 
 -- after how many entries a session begins to be shown them: those that it names, where there are as many, or all of them
-abbrev pub first_told : Option ℕ → ℕ → ℕ
-first_told None entries = entries
-first_told (Some k) entries = min k entries
+abbrev pub first_sent : Option ℕ → ℕ → ℕ
+first_sent None entries = entries
+first_sent (Some k) entries = min k entries
 
 -- a session follows the journal after its first n entries
 abbrev pub following_text : ℕ → List ℕ
@@ -42,5 +42,5 @@ abbrev pub behind_text : ℕ → ℕ → List ℕ
 behind_text at now = if is_behind at now then codes "behind " ++ decimal at ++ codes " " ++ decimal now ++ codes "\n" else []
 
 -- the lines of an entry: its number, its session and its command, and what is shown after it
-abbrev pub told_text : ℕ → ℕ → ℕ → Command → List ℕ
-told_text at now session command = entry_text at session command ++ behind_text at now
+abbrev pub sent_text : ℕ → ℕ → ℕ → Command → List ℕ
+sent_text at now session command = entry_text at session command ++ behind_text at now

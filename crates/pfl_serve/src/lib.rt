@@ -16,7 +16,7 @@ mod threads;
 
 pub use closing::{Closing, EndedSeat};
 pub use gate::{Gate, Open};
-pub use laws::sessions_are_told_their_calls;
-pub use pfl_session::{Closed, Entry, Lab, LabFault, Opened, Pass, Which};
+pub use laws::sessions_see_their_calls;
+pub use pfl_session::{Closed, Entry, Lab, LabFault, MOST_ENTRIES, Opened, Pass, Which};
 pub use seat::{Seat, ServeFault, Served};
 pub use service::Service;

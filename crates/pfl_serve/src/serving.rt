@@ -134,7 +134,8 @@ impl<J: Which, A: Allocator + Copy, B: Allocator + Copy, G: Gate, R: Wait> Servi
         ensures lab { IsPassOf J.publisher J.tallies seat.new.pass }
         ensures goes_on { GoesOn seat.old.pass seat.new.pass }
         ensures reader { seat.new.reader ≡ seat.old.reader }
-        ensures whole { IfOk result (λ _. Writes (IsReplied (site_of J.Which) seat.old.pass seat.new.pass command) (O.written seat.old.writer) (O.written seat.new.writer)) }
+        ensures whole { IfOk result (λ _. Writes (IsReplied (site_of J.Which) seat.old.pass seat.new.pass command)
+            (O.written seat.old.writer) (O.written seat.new.writer)) }
         ensures breaks { IfErr result (λ e. Breaks (IsReplied (site_of J.Which) seat.old.pass seat.new.pass command)
             (Unanswered (site_of J.Which) command seat.old.pass seat.new.pass) e (O.written seat.old.writer) (O.written seat.new.writer)) }
         ensures stays { OnOk result (O.has_failed seat.new.writer ≡ O.has_failed seat.old.writer) }
@@ -159,7 +160,8 @@ impl<J: Which, A: Allocator + Copy, B: Allocator + Copy, G: Gate, R: Wait> Servi
         ensures lab { IsPassOf J.publisher J.tallies seat.new.pass }
         ensures goes_on { GoesOn seat.old.pass seat.new.pass }
         ensures reader { seat.new.reader ≡ seat.old.reader }
-        ensures whole { IfOk result (λ _. Writes (IsAnswer (site_of J.Which) said.now seat.old.pass seat.new.pass) (O.written seat.old.writer) (O.written seat.new.writer)) }
+        ensures whole { IfOk result (λ _. Writes (IsAnswer (site_of J.Which) said.now seat.old.pass seat.new.pass)
+            (O.written seat.old.writer) (O.written seat.new.writer)) }
         ensures breaks { IfErr result (λ e. Breaks (IsBegun (site_of J.Which) said.now seat.old.pass seat.new.pass)
             (Lacks (site_of J.Which) said.now seat.old.pass seat.new.pass) e (O.written seat.old.writer) (O.written seat.new.writer)) }
         ensures stays { OnOk result (O.has_failed seat.new.writer ≡ O.has_failed seat.old.writer) }

@@ -4,7 +4,7 @@ ghost use Rattle.std.specs.Prelude.{◌≡◌, ◌+◌, ◌*◌, ◌≤◌, ◌+
 ghost use Rattle.std.specs.Fmt.{decimal};
 ghost use Rattle.arrayvec.specs.ArrayString.{array_string_len};
 ghost use Rattle.std.specs.List.{flat_map};
-ghost use Rattle.pfl_serve.specs.Texts.{behind_text, first_told, followed_text, following_text, is_behind, numbered, overtaken_text, told_text, view_text};
+ghost use Rattle.pfl_serve.specs.Texts.{behind_text, first_sent, followed_text, following_text, is_behind, numbered, overtaken_text, sent_text, view_text};
 
 use pfl_edits::NoMemory;
 use pfl_script::{ShortLine, entry_line, plain_line, push_number};
@@ -58,8 +58,8 @@ pub(crate) fn overtaken_line(overtaken: Overtaken) -> ShortLine
 }
 
 /// After how many entries a session begins to be shown them, where it asks for those after the first `from` and there are `entries`.
-pub(crate) fn first_told(from: Option<u32>, entries: u64) -> u64
-    ensures { result ≡ first_told from entries }
+pub(crate) fn first_sent(from: Option<u32>, entries: u64) -> u64
+    ensures { result ≡ first_sent from entries }
 {
     match from {
         Some(from) => u64::from(from).min(entries),
@@ -115,12 +115,12 @@ fn behind_line(at: u64, entries: u64) -> ShortLine
 }
 
 /// The lines of an entry, where the journal has `entries`.
-pub(crate) fn told_text<B: Allocator>(
+pub(crate) fn sent_text<B: Allocator>(
     alloc: B,
     made: &Made,
     entries: u64,
 ) -> Result<Vec<u8, B>, NoMemory>
-    ensures { IfOk result (λ text. text.items ≡ told_text made.now.number entries made.now.session made.now.command) }
+    ensures { IfOk result (λ text. text.items ≡ sent_text made.now.number entries made.now.session made.now.command) }
 {
     let Made {
         number,

@@ -15,14 +15,17 @@ use Rattle.pfl_session.specs.Totals.{HasFewEvents}
 use Rattle.pfl_session.specs.Journals.{after_entry, replay, IsRight, IsJournal, revisions_of, calls_in, count_of, counts_of}
 use Rattle.pfl_session.specs.Passes.{Seen, seen_in, GoesOn, HasSeenItsCalls, HasSeenJournal, AddsOthers, AddsCall}
 use Rattle.pfl_session.specs.Labs.{HasSeenOwn}
-use Rattle.pfl_session.specs.Desks.{one_more_counted, HasMet, IsEntered}
-use Rattle.pfl_session.proofs.Replays.{some_same, replay-snoc, legal-snoc, calls-history, count-own, counts-get, counts-set, all-seen, seen-is, seen-journal, others-since, call-since}
+use Rattle.pfl_session.specs.Ledgers.{one_more_counted, HasMet, IsEntered}
+use Rattle.pfl_session.proofs.Replays.{some_same, replay-snoc, legal-snoc, calls-history, count-own, counts-get, counts-set, all-seen, seen-is}
+use Rattle.pfl_session.proofs.Replays.{seen-journal, others-since, call-since}
 use Rattle.pfl_session.proofs.Growth.{all_behind, grown}
 
 module _ {M : Type 0} where
   -- a pass that was compared, and has then met
-  pub has-met : (opening : Timeline) (n limit : ℕ) (js js' js'' : List (Entry M)) (old compared met : Seen M) → js' ≡ js → js'' ≡ js' → compared ≡ old → old.half.count ≤ count_of old.session (seen_in old) → old.half.count ≡ count_of old.session js
-      → GoesOn compared met → met.half ≡ compared.half → IsJournal opening n limit js' → met.viewer.seen ≡ revisions_of opening js' → HasMet opening n limit js'' old met
+  pub has-met : (opening : Timeline) (n limit : ℕ) (js js' js'' : List (Entry M)) (old compared met : Seen M) → js' ≡ js → js'' ≡ js'
+      → compared ≡ old → old.half.count ≤ count_of old.session (seen_in old) → old.half.count ≡ count_of old.session js
+      → GoesOn compared met → met.half ≡ compared.half → IsJournal opening n limit js' → met.viewer.seen ≡ revisions_of opening js'
+      → HasMet opening n limit js'' old met
   has-met opening n limit js js' js'' old compared met same same' is below all on half journal seen = record {
     goes_on = subst (λ (p : Seen M). GoesOn p met) is on;
     half = half ∙ ap (λ (p : Seen M). p.half) is;
@@ -60,12 +63,16 @@ module _ {M : Type 0} where
     pub met-called : (js' : List (Entry M)) (new : Seen M) (c : Command) (r : Reply) → IsEntered opening n limit js js' met new c r → AddsCall old new c r
     met-called js' new c r entered = call-since opening n limit js js' old met new c r met-others is.seen is.goes_on.session entered
 
-  pub entered-journal : (opening : Timeline) (n limit : ℕ) (js js' : List (Entry M)) (old new : Seen M) (c : Command) (r : Reply) → IsEntered opening n limit js js' old new c r → HasSeenJournal opening n limit new
+  pub entered-journal : (opening : Timeline) (n limit : ℕ) (js js' : List (Entry M)) (old new : Seen M) (c : Command) (r : Reply)
+      → IsEntered opening n limit js js' old new c r → HasSeenJournal opening n limit new
   entered-journal opening n limit js js' old new c r entered = seen-journal opening n limit js' new entered.seen entered.journal
 
   -- the session's half, where its lab's counts are those of the journal
-  half-is : (ts : List TableId) (hs : List Count) (js : List (Entry M)) (t : TableId) (mine : Count) (s : ℕ) → 1 ≤ s → slice_get ts (s - 1) ≡ Some t → hs ≡ counts_of 1 ts js → slice_get hs (s - 1) ≡ Some mine → mine ≡ record { table = t; count = count_of (1 + (s - 1)) js }
-  half-is ts hs js t mine s first there are same = some_same _ _ (sym same ∙ (ap (λ (l : List Count). slice_get l (s - 1)) are ∙ counts-get 1 (s - 1) ts js t there))
+  half-is : (ts : List TableId) (hs : List Count) (js : List (Entry M)) (t : TableId) (mine : Count) (s : ℕ) → 1 ≤ s
+      → slice_get ts (s - 1) ≡ Some t → hs ≡ counts_of 1 ts js → slice_get hs (s - 1) ≡ Some mine
+      → mine ≡ record { table = t; count = count_of (1 + (s - 1)) js }
+  half-is ts hs js t mine s first there are same =
+      some_same _ _ (sym same ∙ (ap (λ (l : List Count). slice_get l (s - 1)) are ∙ counts-get 1 (s - 1) ts js t there))
 
 -- the entry keeps what session s asked of the timeline t, which it made u, and what it replied
 pub record IsKept {M : Type 0} (t u : Timeline) (e : Entry M) (c : Command) (r : Reply) (s : ℕ) : Type 0 where
@@ -73,7 +80,8 @@ pub record IsKept {M : Type 0} (t u : Timeline) (e : Entry M) (c : Command) (r :
   pub entry : (e.session ≡ s) × (e.command ≡ c) × (reply_of e.reply ≡ r)
 
 -- ---- an entry more
-module _ {M : Type 0} (opening t u : Timeline) (js : List (Entry M)) (e : Entry M) (c : Command) (r : Reply) (s : ℕ) (was : t ≡ replay opening js) (is : IsKept t u e c r s) where
+module _ {M : Type 0} (opening t u : Timeline) (js : List (Entry M)) (e : Entry M) (c : Command) (r : Reply) (s : ℕ)
+    (was : t ≡ replay opening js) (is : IsKept t u e c r s) where
   pub kept-after : u ≡ after_entry (replay opening js) e
   kept-after = sym (ap (λ (d : Replied). d.timeline) is.step) ∙ (λ z. (command_step (was z) (sym is.entry.1 z)).timeline)
 
@@ -87,7 +95,8 @@ module _ {M : Type 0} (opening t u : Timeline) (js : List (Entry M)) (e : Entry 
     pub kept-many : length items ≡ length js + 1
     kept-many = omega (arith, ap (λ (l : List (Entry M)). length l) more, length-append js (e ∷ []))
 
-    pub kept-journal : (ts : List TableId) (limit : ℕ) (tally : TableId) → 1 ≤ s → slice_get ts (s - 1) ≡ Some tally → length js < limit → IsJournal opening (length ts) limit js → IsJournal opening (length ts) limit items
+    pub kept-journal : (ts : List TableId) (limit : ℕ) (tally : TableId) → 1 ≤ s → slice_get ts (s - 1) ≡ Some tally → length js < limit
+        → IsJournal opening (length ts) limit js → IsJournal opening (length ts) limit items
     kept-journal ts limit tally first there room journal =
         let own = is.entry.0 in
         let within : s - 1 < length ts = slice_get_within ts (s - 1) tally there in
@@ -100,14 +109,19 @@ module _ {M : Type 0} (opening t u : Timeline) (js : List (Entry M)) (e : Entry 
     pub kept-replay : u ≡ replay opening items
     kept-replay = kept-after ∙ (sym (replay-snoc opening js e) ∙ ap (replay opening) (sym more))
 
-    pub kept-counts : (ts : List TableId) (hs hs' : List Count) (tally : TableId) (mine : Count) → 1 ≤ s → slice_get ts (s - 1) ≡ Some tally → hs ≡ counts_of 1 ts js → slice_get hs (s - 1) ≡ Some mine → hs' ≡ slice_set hs (s - 1) (one_more_counted mine)
+    pub kept-counts : (ts : List TableId) (hs hs' : List Count) (tally : TableId) (mine : Count) → 1 ≤ s
+        → slice_get ts (s - 1) ≡ Some tally → hs ≡ counts_of 1 ts js → slice_get hs (s - 1) ≡ Some mine
+        → hs' ≡ slice_set hs (s - 1) (one_more_counted mine)
         → hs' ≡ counts_of 1 ts items
     kept-counts ts hs hs' tally mine first there are same kept =
         let mine_is = half-is ts hs js tally mine s first there are same in
         let own = is.entry.0 in
-        kept ∙ ((λ z. set (are z) (s - 1) (one_more_counted (mine_is z))) ∙ (counts-set 1 (s - 1) ts js e tally there (omega (arith, own, first)) ∙ ap (counts_of 1 ts) (sym more)))
+        kept ∙ ((λ z. set (are z) (s - 1) (one_more_counted (mine_is z)))
+        ∙ (counts-set 1 (s - 1) ts js e tally there (omega (arith, own, first)) ∙ ap (counts_of 1 ts) (sym more)))
 
-    pub kept-below : (ts : List TableId) (hs : List Count) (tally : TableId) (mine result : Count) (seen : Log (Mark M)) → 1 ≤ s → slice_get ts (s - 1) ≡ Some tally → hs ≡ counts_of 1 ts js → slice_get hs (s - 1) ≡ Some mine → result ≡ one_more_counted mine → seen ≡ revisions_of opening items
+    pub kept-below : (ts : List TableId) (hs : List Count) (tally : TableId) (mine result : Count) (seen : Log (Mark M)) → 1 ≤ s
+        → slice_get ts (s - 1) ≡ Some tally → hs ≡ counts_of 1 ts js → slice_get hs (s - 1) ≡ Some mine → result ≡ one_more_counted mine
+        → seen ≡ revisions_of opening items
         → result.count ≤ count_of s (calls_in seen)
     kept-below ts hs tally mine result seen first there are same one shown =
         let mine_is = ap (λ (h : Count). h.count) (half-is ts hs js tally mine s first there are same) in

@@ -12,7 +12,8 @@ use Rattle.pfl_timeline.specs.Timelines.{Branch}
 sifted-length : (s : Sieved) (ps : List Placed) → length (fold sift s ps).kept + length (fold sift s ps).fallen ≡ length s.kept + length s.fallen + length ps
 sifted-length s [] = omega arith
 sifted-length s (p ∷ ps) =
-    elim (step s.world p.event) as (λ r. length (fold sift (sifted s p r) ps).kept + length (fold sift (sifted s p r) ps).fallen ≡ length s.kept + length s.fallen + length (p ∷ ps)) [
+    elim (step s.world p.event) as (λ r. length (fold sift (sifted s p r) ps).kept + length (fold sift (sifted s p r) ps).fallen
+    ≡ length s.kept + length s.fallen + length (p ∷ ps)) [
       | Ok new ↦ (let rest = sifted-length (sifted s p (Ok new)) ps in omega (arith, rest, length-append s.kept (p ∷ [])))
       | Err why ↦ (let rest = sifted-length (sifted s p (Err why)) ps in omega (arith, rest, length-append s.fallen (p ∷ [])))
     ]

@@ -1,5 +1,6 @@
 -- A command makes each branch longer by one event at most, or as long as it was before an excision.
-use Rattle.std.specs.Prelude.{◌≡◌, ◌≤◌, ℕ, zero, suc, ◌+◌, ◌-◌, Bool, true, false, not, nat_lt, nat_le, List, [], ◌∷◌, ◌++◌, length, map, filter, find, take, Option, Some, None, IfSome, Ok, Err, refl, if◌then◌else◌}
+use Rattle.std.specs.Prelude.{◌≡◌, ◌≤◌, ℕ, zero, suc, ◌+◌, ◌-◌, Bool, true, false, not, nat_lt, nat_le, List, [], ◌∷◌, ◌++◌, length, map, filter}
+use Rattle.std.specs.Prelude.{find, take, Option, Some, None, IfSome, Ok, Err, refl, if◌then◌else◌}
 use Rattle.std.specs.List.{AllByRecursion}
 use Rattle.std.specs.Option.{option_map_or}
 use Rattle.std.proofs.Common.{cond, ap, subst, arith, length-append}
@@ -13,7 +14,11 @@ use Rattle.pfl_timeline.specs.desk.Nodes.{refused_by}
 use Rattle.pfl_timeline.specs.world.Events.{step}
 use Rattle.pfl_timeline.specs.world.Runs.{run}
 use Rattle.pfl_timeline.specs.world.Worlds.{World}
-use Rattle.pfl_timeline.specs.Commands.{replied, reply_unless, with_branch, with_changed, extended, undone, at_cursor, step_answered, step_reply, back_reply, forward_reply, first_events, fork_refusal, fork_reply, drop_reply, show_reply, past_reply, why_reply, explanation, why_step_reply, frame_reply, excise_reply, restore_reply, step_command, back_command, forward_command, fork_command, drop_command, show_command, past_command, why_command, why_step_command, frame_command, excise_command, restore_command, log_reply, log_command, names_command, command_step}
+use Rattle.pfl_timeline.specs.Commands.{replied, reply_unless, with_branch, with_changed, extended, undone, at_cursor, step_answered, step_reply}
+use Rattle.pfl_timeline.specs.Commands.{back_reply, forward_reply, first_events, fork_refusal, fork_reply, drop_reply, show_reply, past_reply}
+use Rattle.pfl_timeline.specs.Commands.{why_reply, explanation, why_step_reply, frame_reply, excise_reply, restore_reply, step_command, back_command}
+use Rattle.pfl_timeline.specs.Commands.{forward_command, fork_command, drop_command, show_command, past_command, why_command, why_step_command}
+use Rattle.pfl_timeline.specs.Commands.{frame_command, excise_command, restore_command, log_reply, log_command, names_command, command_step}
 use Rattle.pfl_timeline.specs.Excisions.{has_event, excised, fallen_places, restored}
 use Rattle.pfl_timeline.specs.Replies.{Reply, Replied, Forked, Removed, Shown, Excised, Restored, Refused as Refusing}
 use Rattle.pfl_timeline.specs.Timelines.{Branch, Former, Timeline, branch_of, world_of}
@@ -42,7 +47,8 @@ found_is P p (c ∷ cs) b all is =
       | false ↦ λ later. found_is P p cs b all.1 later
     ] is
 
-all_put : (P : Branch → Type 0) (b : Branch) (bs : List Branch) → P b → AllByRecursion P bs → AllByRecursion P (map (λ c. if same_name c.name b.name then b else c) bs)
+all_put : (P : Branch → Type 0) (b : Branch) (bs : List Branch) → P b → AllByRecursion P bs
+    → AllByRecursion P (map (λ c. if same_name c.name b.name then b else c) bs)
 all_put P b [] is all = tt
 all_put P b (c ∷ cs) is all =
     let here : P (if same_name c.name b.name then b else c) = elim (same_name c.name b.name) as (λ t. P (if t then b else c)) [ true ↦ is | false ↦ all.0 ] in
@@ -107,7 +113,8 @@ module _ (t : Timeline) (n : ℕ) (few : HasFewEvents n t) where
 
   show_grown : (b : Branch) → Grown (show_reply t b)
   show_grown b =
-      elim (world_of t b) as (λ o. Grown (option_map_or (λ w. replied t (Shown b.name (length b.events) b.cursor w)) o (replied t (Refusing refused.NoBranch)))) [
+      elim (world_of t b) as (λ o. Grown
+      (option_map_or (λ w. replied t (Shown b.name (length b.events) b.cursor w)) o (replied t (Refusing refused.NoBranch)))) [
         | None ↦ roomy
         | Some w ↦ roomy
       ]
@@ -133,25 +140,40 @@ module _ (t : Timeline) (n : ℕ) (few : HasFewEvents n t) where
 
   excise_grown : (k : ℕ) (b : Branch) → HasFew n b → Grown (excise_reply t k b)
   excise_grown k b is =
-      answered_grown (refused_by ((not (has_event k b), refused.NoEvent) ∷ [])) (replied (with_changed t (excised t.opening k b)) (Excised (fallen_places t.opening k b)))
+      answered_grown (refused_by ((not (has_event k b), refused.NoEvent) ∷ []))
+      (replied (with_changed t (excised t.opening k b)) (Excised (fallen_places t.opening k b)))
       (changed (excised t.opening k b) (omega (arith, is.0, left-few t.opening k b), omega (arith, is.0)))
 
   restore_grown : (b : Branch) → HasFew n b → Grown (restore_reply t b)
   restore_grown b is =
-      elim b.former as (λ o. FewBack n o → Grown (option_map_or (λ f. replied (with_changed t (restored b f)) (Restored f.cursor)) o (replied t (Refusing refused.NothingExcised)))) [
+      elim b.former as (λ o. FewBack n o
+      → Grown (option_map_or (λ f. replied (with_changed t (restored b f)) (Restored f.cursor)) o
+      (replied t (Refusing refused.NothingExcised)))) [
         | None ↦ λ _. roomy
         | Some f ↦ λ few. changed (restored b f) (omega (arith, few), tt)
       ] is.1
 
   pub command-grows : (c : Command) → HasFewEvents (n + 1) (command_step t c).timeline
-  unfolding command_step step_command back_command forward_command fork_command drop_command show_command past_command why_command why_step_command frame_command excise_command restore_command names_command log_command
+  unfolding command_step step_command back_command forward_command fork_command drop_command show_command past_command why_command
+      why_step_command frame_command excise_command restore_command names_command log_command
   command-grows (command.Step name e) = named_grown name (step_reply t e) (step_grown e)
-  command-grows (command.Back name k) = named_grown name (back_reply t k) (λ b is. answered_grown (refused_by ((nat_lt b.cursor k, refused.TooFarBack) ∷ [])) (at_cursor t b (b.cursor - k)) (moved_grown b (b.cursor - k) is))
-  command-grows (command.Forward name k) = named_grown name (forward_reply t k) (λ b is. answered_grown (refused_by ((nat_lt (undone b) k, refused.NothingForward) ∷ [])) (at_cursor t b (b.cursor + k)) (moved_grown b (b.cursor + k) is))
+  command-grows (command.Back name k) =
+      named_grown name (back_reply t k)
+      (λ b is. answered_grown (refused_by ((nat_lt b.cursor k, refused.TooFarBack) ∷ [])) (at_cursor t b (b.cursor - k))
+      (moved_grown b (b.cursor - k) is))
+  command-grows (command.Forward name k) =
+      named_grown name (forward_reply t k)
+      (λ b is. answered_grown (refused_by ((nat_lt (undone b) k, refused.NothingForward) ∷ [])) (at_cursor t b (b.cursor + k))
+      (moved_grown b (b.cursor + k) is))
   command-grows (command.Fork from k name) =
       named_grown from (fork_reply t k name)
-      (λ b is. answered_grown (fork_refusal t k name b) (replied (record t { branches = t.branches ++ first_events k name b ∷ [] }) Forked) (all_behind (HasFew (n + 1)) t.branches (first_events k name b) roomy (omega (arith, is.0, length-front k b.events), tt)))
-  command-grows (command.Drop name) = named_grown name (drop_reply t) (λ b _. answered_grown (refused_by ((nat_le (length t.branches) 1, refused.LastBranch) ∷ [])) (replied (record t { branches = filter (λ c. not (same_name c.name b.name)) t.branches }) Removed) (all_kept (HasFew (n + 1)) (λ c. not (same_name c.name b.name)) t.branches roomy))
+      (λ b is. answered_grown (fork_refusal t k name b) (replied (record t { branches = t.branches ++ first_events k name b ∷ [] }) Forked)
+      (all_behind (HasFew (n + 1)) t.branches (first_events k name b) roomy (omega (arith, is.0, length-front k b.events), tt)))
+  command-grows (command.Drop name) =
+      named_grown name (drop_reply t)
+      (λ b _. answered_grown (refused_by ((nat_le (length t.branches) 1, refused.LastBranch) ∷ []))
+      (replied (record t { branches = filter (λ c. not (same_name c.name b.name)) t.branches }) Removed)
+      (all_kept (HasFew (n + 1)) (λ c. not (same_name c.name b.name)) t.branches roomy))
   command-grows (command.Show name) = named_grown name (show_reply t) (λ b _. show_grown b)
   command-grows (command.Past name k) = named_grown name (past_reply t k) (λ b _. past_grown k b)
   command-grows (command.Why name k) = named_grown name (why_reply t k) (λ b _. roomy)

@@ -1,6 +1,7 @@
 -- A command whose reply shows a branch, lists its events, explains an event, shows what became of a frame, or names the branches, changes
 -- nothing.
-use Rattle.std.specs.Prelude.{◌≡◌, ℕ, ◌-◌, ◌+◌, false, List, [], ◌∷◌, ◌++◌, filter, not, length, take, nat_lt, nat_le, Option, Some, None, Ok, Err, IsTrue, refl}
+use Rattle.std.specs.Prelude.{◌≡◌, ℕ, ◌-◌, ◌+◌, false, List, [], ◌∷◌, ◌++◌, filter, not, length, take, nat_lt, nat_le, Option, Some, None, Ok, Err}
+use Rattle.std.specs.Prelude.{IsTrue, refl}
 use Rattle.std.specs.Option.{option_map_or}
 use Rattle.std.proofs.Common.{sym, ◌∙◌, ap, subst}
 use Rattle.std.proofs.lemmas.Bool.{both_ways}
@@ -14,7 +15,11 @@ use Rattle.pfl_timeline.specs.desk.Nodes.{refused_by}
 use Rattle.pfl_timeline.specs.world.Events.{step}
 use Rattle.pfl_timeline.specs.world.Runs.{run}
 use Rattle.pfl_timeline.specs.world.Worlds.{World}
-use Rattle.pfl_timeline.specs.Commands.{replied, reply_unless, with_branch, with_changed, undone, at_cursor, step_answered, step_reply, back_reply, forward_reply, first_events, fork_refusal, fork_reply, drop_reply, show_reply, past_reply, why_reply, explanation, why_step_reply, frame_reply, excise_reply, restore_reply, step_command, back_command, forward_command, fork_command, drop_command, show_command, past_command, why_command, why_step_command, frame_command, excise_command, restore_command, log_reply, log_command, names_command, command_step}
+use Rattle.pfl_timeline.specs.Commands.{replied, reply_unless, with_branch, with_changed, undone, at_cursor, step_answered, step_reply, back_reply}
+use Rattle.pfl_timeline.specs.Commands.{forward_reply, first_events, fork_refusal, fork_reply, drop_reply, show_reply, past_reply, why_reply}
+use Rattle.pfl_timeline.specs.Commands.{explanation, why_step_reply, frame_reply, excise_reply, restore_reply, step_command, back_command}
+use Rattle.pfl_timeline.specs.Commands.{forward_command, fork_command, drop_command, show_command, past_command, why_command, why_step_command}
+use Rattle.pfl_timeline.specs.Commands.{frame_command, excise_command, restore_command, log_reply, log_command, names_command, command_step}
 use Rattle.pfl_timeline.specs.Excisions.{has_event, excised, fallen_places, restored}
 use Rattle.pfl_timeline.specs.Replies.{Reply, Replied, Forked, Removed, Shown, Excised, Restored, Refused as Refusing}
 use Rattle.pfl_timeline.specs.Timelines.{Branch, Timeline, branch_of, world_of}
@@ -49,7 +54,8 @@ step_keeps t e b =
 
 show_keeps : (t : Timeline) (b : Branch) → Keeps t (show_reply t b)
 show_keeps t b =
-    elim (world_of t b) as (λ o. Keeps t (option_map_or (λ w. replied t (Shown b.name (length b.events) b.cursor w)) o (replied t (Refusing refused.NoBranch)))) [
+    elim (world_of t b) as (λ o. Keeps t
+    (option_map_or (λ w. replied t (Shown b.name (length b.events) b.cursor w)) o (replied t (Refusing refused.NoBranch)))) [
       | None ↦ λ _. refl
       | Some w ↦ λ _. refl
     ]
@@ -72,25 +78,42 @@ why_step_keeps t e b =
 
 restore_keeps : (t : Timeline) (b : Branch) → Keeps t (restore_reply t b)
 restore_keeps t b =
-    elim b.former as (λ o. Keeps t (option_map_or (λ f. replied (with_changed t (restored b f)) (Restored f.cursor)) o (replied t (Refusing refused.NothingExcised)))) [
+    elim b.former as (λ o. Keeps t
+    (option_map_or (λ f. replied (with_changed t (restored b f)) (Restored f.cursor)) o (replied t (Refusing refused.NothingExcised)))) [
       | None ↦ λ _. refl
       | Some f ↦ λ is. absurd (both_ways false refl is)
     ]
 
 keeps : (t : Timeline) (c : Command) → Keeps t (command_step t c)
-unfolding command_step step_command back_command forward_command fork_command drop_command show_command past_command why_command why_step_command frame_command excise_command restore_command names_command log_command
+unfolding command_step step_command back_command forward_command fork_command drop_command show_command past_command why_command
+    why_step_command frame_command excise_command restore_command names_command log_command
 keeps t (command.Step name e) = named_keeps t name (step_reply t e) (step_keeps t e)
-keeps t (command.Back name n) = named_keeps t name (back_reply t n) (λ b. answered_keeps t (refused_by ((nat_lt b.cursor n, refused.TooFarBack) ∷ [])) (at_cursor t b (b.cursor - n)) (λ is. absurd (both_ways false refl is)))
-keeps t (command.Forward name n) = named_keeps t name (forward_reply t n) (λ b. answered_keeps t (refused_by ((nat_lt (undone b) n, refused.NothingForward) ∷ [])) (at_cursor t b (b.cursor + n)) (λ is. absurd (both_ways false refl is)))
-keeps t (command.Fork from k name) = named_keeps t from (fork_reply t k name) (λ b. answered_keeps t (fork_refusal t k name b) (replied (record t { branches = t.branches ++ first_events k name b ∷ [] }) Forked) (λ is. absurd (both_ways false refl is)))
-keeps t (command.Drop name) = named_keeps t name (drop_reply t) (λ b. answered_keeps t (refused_by ((nat_le (length t.branches) 1, refused.LastBranch) ∷ [])) (replied (record t { branches = filter (λ c. not (same_name c.name b.name)) t.branches }) Removed) (λ is. absurd (both_ways false refl is)))
+keeps t (command.Back name n) =
+    named_keeps t name (back_reply t n)
+    (λ b. answered_keeps t (refused_by ((nat_lt b.cursor n, refused.TooFarBack) ∷ [])) (at_cursor t b (b.cursor - n))
+    (λ is. absurd (both_ways false refl is)))
+keeps t (command.Forward name n) =
+    named_keeps t name (forward_reply t n)
+    (λ b. answered_keeps t (refused_by ((nat_lt (undone b) n, refused.NothingForward) ∷ [])) (at_cursor t b (b.cursor + n))
+    (λ is. absurd (both_ways false refl is)))
+keeps t (command.Fork from k name) =
+    named_keeps t from (fork_reply t k name)
+    (λ b. answered_keeps t (fork_refusal t k name b) (replied (record t { branches = t.branches ++ first_events k name b ∷ [] }) Forked)
+    (λ is. absurd (both_ways false refl is)))
+keeps t (command.Drop name) =
+    named_keeps t name (drop_reply t)
+    (λ b. answered_keeps t (refused_by ((nat_le (length t.branches) 1, refused.LastBranch) ∷ []))
+    (replied (record t { branches = filter (λ c. not (same_name c.name b.name)) t.branches }) Removed) (λ is. absurd (both_ways false refl is)))
 keeps t (command.Show name) = named_keeps t name (show_reply t) (show_keeps t)
 keeps t (command.Past name k) = named_keeps t name (past_reply t k) (past_keeps t k)
 keeps t (command.Why name k) = named_keeps t name (why_reply t k) (λ b _. refl)
 keeps t (command.WhyStep name e) = named_keeps t name (why_step_reply t e) (why_step_keeps t e)
 keeps t (command.Frame name ticket) = named_keeps t name (frame_reply t ticket) (λ b _. refl)
 keeps t command.Names = λ _. refl
-keeps t (command.Excise name k) = named_keeps t name (excise_reply t k) (λ b. answered_keeps t (refused_by ((not (has_event k b), refused.NoEvent) ∷ [])) (replied (with_changed t (excised t.opening k b)) (Excised (fallen_places t.opening k b))) (λ is. absurd (both_ways false refl is)))
+keeps t (command.Excise name k) =
+    named_keeps t name (excise_reply t k)
+    (λ b. answered_keeps t (refused_by ((not (has_event k b), refused.NoEvent) ∷ []))
+    (replied (with_changed t (excised t.opening k b)) (Excised (fallen_places t.opening k b))) (λ is. absurd (both_ways false refl is)))
 keeps t (command.Restore name) = named_keeps t name (restore_reply t) (restore_keeps t)
 keeps t (command.Log name) = named_keeps t name (log_reply t) (λ b _. refl)
 

@@ -1,5 +1,6 @@
 -- A command that has a long word changes nothing: no branch has it as its name, and none is made under it.
-use Rattle.std.specs.Prelude.{◌≡◌, ◌≤◌, ℕ, Bool, true, false, not, ◌&&◌, ◌||◌, nat_lt, nat_le, List, [], ◌∷◌, ◌++◌, length, find, Option, Some, None, is_some, IsTrue, refl}
+use Rattle.std.specs.Prelude.{◌≡◌, ◌≤◌, ℕ, Bool, true, false, not, ◌&&◌, ◌||◌, nat_lt, nat_le, List, [], ◌∷◌, ◌++◌, length, find, Option, Some, None}
+use Rattle.std.specs.Prelude.{is_some, IsTrue, refl}
 use Rattle.std.specs.List.{AllByRecursion, list_all}
 use Rattle.std.specs.Option.{option_map_or}
 use Rattle.std.proofs.Common.{cond, ◌∙◌, ap, arith}
@@ -11,7 +12,11 @@ use Rattle.pfl_language.specs.declared.command.Command.TheVariants as command
 use Rattle.pfl_language.specs.declared.refused.Refused.TheVariants as refused
 use Rattle.pfl_timeline.specs.desk.Nodes.{refused_by}
 use Rattle.pfl_timeline.specs.world.Worlds.{World}
-use Rattle.pfl_timeline.specs.Commands.{replied, reply_unless, with_branch, first_events, fork_reply, step_reply, back_reply, forward_reply, drop_reply, show_reply, past_reply, why_reply, why_step_reply, frame_reply, excise_reply, restore_reply, log_reply, step_command, back_command, forward_command, fork_command, drop_command, show_command, past_command, why_command, why_step_command, frame_command, excise_command, restore_command, log_command, names_command, command_step}
+use Rattle.pfl_timeline.specs.Commands.{replied, reply_unless, with_branch, first_events, fork_reply, step_reply, back_reply, forward_reply}
+use Rattle.pfl_timeline.specs.Commands.{drop_reply, show_reply, past_reply, why_reply, why_step_reply, frame_reply, excise_reply, restore_reply}
+use Rattle.pfl_timeline.specs.Commands.{log_reply, step_command, back_command, forward_command, fork_command, drop_command, show_command}
+use Rattle.pfl_timeline.specs.Commands.{past_command, why_command, why_step_command, frame_command, excise_command, restore_command, log_command}
+use Rattle.pfl_timeline.specs.Commands.{names_command, command_step}
 use Rattle.pfl_timeline.specs.Replies.{Replied, Forked, Refused as Refusing}
 use Rattle.pfl_timeline.specs.Timelines.{Branch, Timeline, IsBranch, IsTimeline, branch_of}
 use Rattle.pfl_session.specs.inner.Fitting.{is_long, has_long_word}
@@ -38,7 +43,8 @@ not-named name b short long =
       | false ↦ λ _. refl
     ] refl
 
-none-named : (opening : World) (name : List ℕ) (bs : List Branch) → IsTrue (is_long name) → AllByRecursion (IsBranch opening) bs → find (λ b. same_name b.name name) bs ≡ None
+none-named : (opening : World) (name : List ℕ) (bs : List Branch) → IsTrue (is_long name) → AllByRecursion (IsBranch opening) bs
+    → find (λ b. same_name b.name name) bs ≡ None
 none-named opening name [] long all = refl
 none-named opening name (b ∷ bs) long all =
     ap (λ t. cond t (Some b) (find (λ c. same_name c.name name) bs)) (not-named name b all.0.name long) ∙ none-named opening name bs long all.1
@@ -51,14 +57,17 @@ unnamed-keeps t name done is long =
 -- none is made under it
 bad-name-keeps : (t : Timeline) (k : ℕ) (name : List ℕ) (b : Branch) → IsTrue (is_long name) → (fork_reply t k name b).timeline ≡ t
 bad-name-keeps t k name b long =
-    let done = λ (taken named : Bool). (reply_unless t (refused_by ((taken, refused.NameTaken) ∷ (not named, refused.BadName) ∷ (nat_lt (length b.events) k, refused.NothingForward) ∷ (nat_le 16 (length t.branches), refused.BranchesFull) ∷ []))
+    let done = λ (taken named : Bool).
+    (reply_unless t (refused_by ((taken, refused.NameTaken) ∷ (not named, refused.BadName)
+    ∷ (nat_lt (length b.events) k, refused.NothingForward) ∷ (nat_le 16 (length t.branches), refused.BranchesFull) ∷ []))
     (replied (record t { branches = t.branches ++ first_events k name b ∷ [] }) Forked)).timeline in
     elim (is_some (branch_of t name)) as (λ taken. done taken (is_branch_name name) ≡ t) [
       | true ↦ refl
       | false ↦ ap (λ (named : Bool). done false named) (no-name name long)
     ]
 
-fork-keeps : (t : Timeline) (from : List ℕ) (k : ℕ) (name : List ℕ) → IsTimeline t → IsTrue (is_long from || is_long name) → (with_branch t from (fork_reply t k name)).timeline ≡ t
+fork-keeps : (t : Timeline) (from : List ℕ) (k : ℕ) (name : List ℕ) → IsTimeline t → IsTrue (is_long from || is_long name)
+    → (with_branch t from (fork_reply t k name)).timeline ≡ t
 fork-keeps t from k name is long =
     elim (is_long from) as (λ far. is_long from ≡ far → IsTrue (far || is_long name) → (with_branch t from (fork_reply t k name)).timeline ≡ t) [
       | true ↦ λ here _. unnamed-keeps t from (fork_reply t k name) is here
@@ -70,7 +79,8 @@ fork-keeps t from k name is long =
     ] refl long
 
 pub long-word-keeps : (t : Timeline) (c : Command) → IsTimeline t → IsTrue (has_long_word c) → (command_step t c).timeline ≡ t
-unfolding command_step step_command back_command forward_command fork_command drop_command show_command past_command why_command why_step_command frame_command excise_command restore_command names_command log_command
+unfolding command_step step_command back_command forward_command fork_command drop_command show_command past_command why_command
+    why_step_command frame_command excise_command restore_command names_command log_command
 long-word-keeps t (command.Step name e) is long = unnamed-keeps t name (step_reply t e) is long
 long-word-keeps t (command.Back name n) is long = unnamed-keeps t name (back_reply t n) is long
 long-word-keeps t (command.Forward name n) is long = unnamed-keeps t name (forward_reply t n) is long

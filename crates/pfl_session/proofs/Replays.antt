@@ -1,5 +1,6 @@
 -- A journal that is one entry longer, and what a pass has seen of it.
-use Rattle.std.proofs.Common.{◌≡◌, ℕ, zero, suc, ◌+◌, ◌-◌, ◌<◌, ◌≤◌, List, [], ◌∷◌, ◌++◌, length, take, drop, set, Some, Bool, true, false, cond, refl, sym, ap, subst, ◌∙◌, eq-eqb, ne_eqb, arith}
+use Rattle.std.proofs.Common.{◌≡◌, ℕ, zero, suc, ◌+◌, ◌-◌, ◌<◌, ◌≤◌, List, [], ◌∷◌, ◌++◌, length, take, drop, set, Some, Bool, true, false, cond}
+use Rattle.std.proofs.Common.{refl, sym, ap, subst, ◌∙◌, eq-eqb, ne_eqb, arith}
 use Rattle.std.specs.Prelude.{nat_eq, slice_get, slice_index}
 use Rattle.std.proofs.lemmas.List.{append_assoc, take-append-drop}
 use Rattle.atomic_table.specs.Seated.{TableId}
@@ -14,7 +15,7 @@ use Rattle.pfl_timeline.specs.Timelines.{Timeline}
 use Rattle.pfl_session.specs.declared.entry.Entry.{Entry}
 use Rattle.pfl_session.specs.declared.mark.Mark.{Mark}
 use Rattle.pfl_session.specs.declared.mark.Mark.TheVariants.{Start, Call}
-use Rattle.pfl_session.specs.Desks.{IsEntered}
+use Rattle.pfl_session.specs.Ledgers.{IsEntered}
 use Rattle.pfl_session.specs.Passes.{Seen, seen_in, IsPassOf, GoesOn, HasSeenJournal, AddsOthers, AddsCall}
 use Rattle.pfl_session.specs.Journals.{after_entry, replay, IsRight, IsLegal, IsJournal, following, revisions_of, call_of, calls_in, count_of, counts_of}
 
@@ -48,7 +49,8 @@ module _ {M : Type 0} where
   pub length-history : (t : Timeline) (js : List (Entry M)) → length (revisions_of t js) ≡ length js + 1
   length-history t js = omega (arith, length-following t 0 js)
 
-  following-snoc : (t : Timeline) (n : ℕ) (js : List (Entry M)) (e : Entry M) → following t n (js ++ e ∷ []) ≡ following t n js ++ published (summary (after_entry (replay t js) e) (n + length js + 1)) (Call e) ∷ []
+  following-snoc : (t : Timeline) (n : ℕ) (js : List (Entry M)) (e : Entry M)
+      → following t n (js ++ e ∷ []) ≡ following t n js ++ published (summary (after_entry (replay t js) e) (n + length js + 1)) (Call e) ∷ []
   following-snoc t n [] e = let a : n + 1 ≡ n + 0 + 1 = omega arith in λ z. published (summary (after_entry t e) (a z)) (Call e) ∷ []
   following-snoc t n (x ∷ js) e =
       let h = following-snoc (after_entry t x) (n + 1) js e in
@@ -58,7 +60,8 @@ module _ {M : Type 0} where
 
   -- the revision of one entry more, after the others
   pub extends : (t u : Timeline) (js items : List (Entry M)) (e : Entry M) (words : List ℕ) (number : ℕ) (list list' : Log (Mark M))
-      → list ≡ revisions_of t js → u ≡ after_entry (replay t js) e → words ≡ summary u number → number ≡ length js + 1 → list' ≡ list ++ published words (Call e) ∷ [] → items ≡ js ++ e ∷ [] → list' ≡ revisions_of t items
+      → list ≡ revisions_of t js → u ≡ after_entry (replay t js) e → words ≡ summary u number → number ≡ length js + 1
+      → list' ≡ list ++ published words (Call e) ∷ [] → items ≡ js ++ e ∷ [] → list' ≡ revisions_of t items
   extends t u js items e words number list list' is then shows count longer more =
       let n : number ≡ 0 + length js + 1 = omega (arith, count) in
       let row : words ≡ summary (after_entry (replay t js) e) (0 + length js + 1) = shows ∙ (λ z. summary (then z) (n z)) in
@@ -70,7 +73,8 @@ module _ {M : Type 0} where
 
   pub calls-append : (xs ys : Log (Mark M)) → calls_in (xs ++ ys) ≡ calls_in xs ++ calls_in ys
   calls-append [] ys = refl
-  calls-append (x ∷ xs) ys = ap (λ (l : List (Entry M)). call_of x.named ++ l) (calls-append xs ys) ∙ sym (append_assoc (call_of x.named) (calls_in xs) (calls_in ys))
+  calls-append (x ∷ xs) ys = ap (λ (l : List (Entry M)). call_of x.named ++ l) (calls-append xs ys)
+      ∙ sym (append_assoc (call_of x.named) (calls_in xs) (calls_in ys))
 
   calls-following : (t : Timeline) (n : ℕ) (js : List (Entry M)) → calls_in (following t n js) ≡ js
   calls-following t n [] = refl
@@ -87,7 +91,8 @@ module _ {M : Type 0} where
   count-snoc s js e = let h = count-append s js (e ∷ []) in omega arith
 
   pub count-own : (s : ℕ) (js : List (Entry M)) (e : Entry M) → e.session ≡ s → count_of s (js ++ e ∷ []) ≡ count_of s js + 1
-  count-own s js e is = let hit : nat_eq e.session s ≡ true = eq-eqb e.session s is in omega (arith, count-snoc s js e, ap {B = ℕ} (λ (b : Bool). cond b 1 0) hit)
+  count-own s js e is = let hit : nat_eq e.session s ≡ true = eq-eqb e.session s is
+      in omega (arith, count-snoc s js e, ap {B = ℕ} (λ (b : Bool). cond b 1 0) hit)
 
   -- what was seen, and what came since
   pub calls-since : (list seen : Log (Mark M)) → StartsWith list seen → calls_in list ≡ calls_in seen ++ calls_in (drop (length seen) list)
@@ -95,7 +100,8 @@ module _ {M : Type 0} where
       ap calls_in (sym (take-append-drop (length seen) list))
       ∙ (calls-append (take (length seen) list) (drop (length seen) list) ∙ ap (λ (l : Log (Mark M)). calls_in l ++ calls_in (drop (length seen) list)) begun)
 
-  pub count-since : (s : ℕ) (list seen : Log (Mark M)) → StartsWith list seen → count_of s (calls_in seen) + count_of s (calls_in (drop (length seen) list)) ≡ count_of s (calls_in list)
+  pub count-since : (s : ℕ) (list seen : Log (Mark M)) → StartsWith list seen
+      → count_of s (calls_in seen) + count_of s (calls_in (drop (length seen) list)) ≡ count_of s (calls_in list)
   count-since s list seen begun = sym (ap (count_of s) (calls-since list seen begun) ∙ count-append s (calls_in seen) (calls_in (drop (length seen) list)))
 
   -- a beginning has no more calls of a session
@@ -103,13 +109,15 @@ module _ {M : Type 0} where
   count-begun s n list seen begun below = omega (arith, count-since s list seen begun, below)
 
   -- all of a session's entries were seen, so what came since is of others
-  pub none-since : (s n : ℕ) (t : Timeline) (js : List (Entry M)) (list seen : Log (Mark M)) → list ≡ revisions_of t js → StartsWith list seen → n ≤ count_of s (calls_in seen) → n ≡ count_of s js
+  pub none-since : (s n : ℕ) (t : Timeline) (js : List (Entry M)) (list seen : Log (Mark M)) → list ≡ revisions_of t js
+      → StartsWith list seen → n ≤ count_of s (calls_in seen) → n ≡ count_of s js
       → count_of s (calls_in (drop (length seen) list)) ≡ 0
   none-since s n t js list seen is begun below all =
       omega (arith, count-since s list seen begun, below, all, ap (λ (l : Log (Mark M)). count_of s (calls_in l)) is, ap (count_of s) (calls-history t js))
 
   -- ... and all of them were seen
-  pub all-seen : (s n : ℕ) (t : Timeline) (js : List (Entry M)) (seen : Log (Mark M)) → StartsWith (revisions_of t js) seen → n ≤ count_of s (calls_in seen) → n ≡ count_of s js → count_of s (calls_in seen) ≡ count_of s js
+  pub all-seen : (s n : ℕ) (t : Timeline) (js : List (Entry M)) (seen : Log (Mark M)) → StartsWith (revisions_of t js) seen
+      → n ≤ count_of s (calls_in seen) → n ≡ count_of s js → count_of s (calls_in seen) ≡ count_of s js
   all-seen s n t js seen begun below all = omega (arith, count-since s (revisions_of t js) seen begun, below, all, ap (count_of s) (calls-history t js))
 
   -- ---- the counts of all sessions
@@ -122,10 +130,12 @@ module _ {M : Type 0} where
       let same : count_of k js ≡ count_of k (js ++ e ∷ []) = omega (arith, count-snoc k js e, ap {B = ℕ} (λ (b : Bool). cond b 1 0) other) in
       λ z. record { table = t; count = same z } ∷ counts-same (suc k) ts js e (omega arith) z
 
-  pub counts-get : (k i : ℕ) (ts : List TableId) (js : List (Entry M)) (t : TableId) → slice_get ts i ≡ Some t → slice_get (counts_of k ts js) i ≡ Some (record { table = t; count = count_of (k + i) js })
+  pub counts-get : (k i : ℕ) (ts : List TableId) (js : List (Entry M)) (t : TableId) → slice_get ts i ≡ Some t
+      → slice_get (counts_of k ts js) i ≡ Some (record { table = t; count = count_of (k + i) js })
   counts-get k i [] js t h = absurd (cc)
   counts-get k zero (s ∷ ts) js t h = let e : s ≡ t = cc in let n : k ≡ k + 0 = omega arith in λ z. Some (record { table = e z; count = count_of (n z) js })
-  counts-get k (suc i) (s ∷ ts) js t h = let n : suc k + i ≡ k + suc i = omega arith in counts-get (suc k) i ts js t h ∙ (λ z. Some (record { table = t; count = count_of (n z) js }))
+  counts-get k (suc i) (s ∷ ts) js t h = let n : suc k + i ≡ k + suc i = omega arith in counts-get (suc k) i ts js t h
+      ∙ (λ z. Some (record { table = t; count = count_of (n z) js }))
 
   pub counts-set : (k i : ℕ) (ts : List TableId) (js : List (Entry M)) (e : Entry M) (t : TableId) → slice_get ts i ≡ Some t → e.session ≡ k + i
       → set (counts_of k ts js) i (record { table = t; count = count_of (k + i) js + 1 }) ≡ counts_of k ts (js ++ e ∷ [])
@@ -134,7 +144,8 @@ module _ {M : Type 0} where
       let here : s ≡ t = cc in
       let hit : nat_eq e.session k ≡ true = eq-eqb e.session k (omega arith) in
       let n : k + 0 ≡ k = omega arith in
-      let more : count_of (k + 0) js + 1 ≡ count_of k (js ++ e ∷ []) = ap (λ (m : ℕ). count_of m js + 1) n ∙ omega (arith, count-snoc k js e, ap {B = ℕ} (λ (b : Bool). cond b 1 0) hit) in
+      let more : count_of (k + 0) js + 1 ≡ count_of k (js ++ e ∷ []) = ap (λ (m : ℕ). count_of m js + 1) n
+      ∙ omega (arith, count-snoc k js e, ap {B = ℕ} (λ (b : Bool). cond b 1 0) hit) in
       λ z. record { table = sym here z; count = more z } ∷ counts-same (suc k) ts js e (omega arith) z
   counts-set k (suc i) (s ∷ ts) js e t h is =
       let other : nat_eq e.session k ≡ false = ne_eqb e.session k (λ e'. omega arith) in
@@ -146,18 +157,26 @@ module _ {M : Type 0} where
   -- ---- passes
 
   -- who sees on has seen as many calls
-  pub seen-on : (s n : ℕ) (v w : Viewer (Mark M)) (list : Log (Mark M)) → Some v ≡ Some w → StartsWith list v.seen → n ≤ count_of s (calls_in w.seen) → n ≤ count_of s (calls_in list)
+  pub seen-on : (s n : ℕ) (v w : Viewer (Mark M)) (list : Log (Mark M)) → Some v ≡ Some w → StartsWith list v.seen
+      → n ≤ count_of s (calls_in w.seen) → n ≤ count_of s (calls_in list)
   seen-on s n v w list same begun below = count-begun s n list w.seen (subst (λ (x : Viewer (Mark M)). StartsWith list x.seen) (some_same v w same) begun) below
 
   -- a pass that has seen all revisions of a journal
   pub seen-is : (t : Timeline) (js : List (Entry M)) (p : Seen M) → p.viewer.seen ≡ revisions_of t js → seen_in p ≡ js
   seen-is t js p is = ap calls_in is ∙ calls-history t js
 
-  pub seen-journal : (t : Timeline) (n limit : ℕ) (js : List (Entry M)) (p : Seen M) → p.viewer.seen ≡ revisions_of t js → IsJournal t n limit js → HasSeenJournal t n limit p
-  seen-journal t n limit js p is journal = record { journal = subst (IsJournal t n limit) (sym (seen-is t js p is)) journal; revisions = is ∙ ap (revisions_of t) (sym (seen-is t js p is)) }
+  pub seen-journal : (t : Timeline) (n limit : ℕ) (js : List (Entry M)) (p : Seen M) → p.viewer.seen ≡ revisions_of t js
+      → IsJournal t n limit js → HasSeenJournal t n limit p
+  seen-journal t n limit js p is journal =
+      record {
+        journal = subst (IsJournal t n limit) (sym (seen-is t js p is)) journal;
+        revisions = is
+            ∙ ap (revisions_of t) (sym (seen-is t js p is));
+      }
 
   -- what came since is of others
-  pub others-since : (t : Timeline) (js : List (Entry M)) (old new : Seen M) → new.viewer.seen ≡ revisions_of t js → StartsWith new.viewer.seen old.viewer.seen → old.half.count ≤ count_of old.session (seen_in old) → old.half.count ≡ count_of old.session js
+  pub others-since : (t : Timeline) (js : List (Entry M)) (old new : Seen M) → new.viewer.seen ≡ revisions_of t js
+      → StartsWith new.viewer.seen old.viewer.seen → old.half.count ≤ count_of old.session (seen_in old) → old.half.count ≡ count_of old.session js
       → AddsOthers old new
   others-since t js old new is begun below all = record {
     others = calls_in (drop (length old.viewer.seen) new.viewer.seen);
@@ -166,7 +185,9 @@ module _ {M : Type 0} where
   }
 
   -- ... and then the call
-  pub call-since : (t : Timeline) (n limit : ℕ) (js js' : List (Entry M)) (old met new : Seen M) (c : Command) (r : Reply) → AddsOthers old met → met.viewer.seen ≡ revisions_of t js → met.session ≡ old.session → IsEntered t n limit js js' met new c r → AddsCall old new c r
+  pub call-since : (t : Timeline) (n limit : ℕ) (js js' : List (Entry M)) (old met new : Seen M) (c : Command) (r : Reply)
+      → AddsOthers old met → met.viewer.seen ≡ revisions_of t js → met.session ≡ old.session → IsEntered t n limit js js' met new c r
+      → AddsCall old new c r
   call-since t n limit js js' old met new c r adds is same entered = record {
     others = adds.others;
     entry = entered.entry;

@@ -29,14 +29,16 @@ none-right (x ∷ xs) ys is = absurd cc
 
 module _ {M : Type 0} where
   -- the words of the revision that stands this many after revision k
-  words-following : (t : Timeline) (k n : ℕ) (js : List (Entry M)) → n < length js → words_at n (following t k js) ≡ summary (replay t (take (suc n) js)) (k + suc n)
+  words-following : (t : Timeline) (k n : ℕ) (js : List (Entry M)) → n < length js
+      → words_at n (following t k js) ≡ summary (replay t (take (suc n) js)) (k + suc n)
   words-following t k n [] lt = absurd (omega (arith, lt))
   words-following t k zero (e ∷ js) lt = refl
   words-following t k (suc n) (e ∷ js) lt =
       let next : (k + 1) + suc n ≡ k + suc (suc n) = omega arith in
       words-following (after_entry t e) (k + 1) n js (omega (arith, lt)) ∙ ap (summary (replay (after_entry t e) (take (suc n) js))) next
 
-  words-history : (t : Timeline) (n : ℕ) (js : List (Entry M)) → n < length (revisions_of t js) → words_at n (revisions_of t js) ≡ summary (replay t (take n js)) n
+  words-history : (t : Timeline) (n : ℕ) (js : List (Entry M)) → n < length (revisions_of t js)
+      → words_at n (revisions_of t js) ≡ summary (replay t (take n js)) n
   words-history t zero js lt = refl
   words-history t (suc n) js lt =
       let number : 0 + suc n ≡ suc n = omega arith in
@@ -46,15 +48,18 @@ module _ {M : Type 0} where
   words-seen : (list seen : Log (Mark M)) (n : ℕ) → StartsWith list seen → n < length seen → words_at n list ≡ words_at n seen
   words-seen list seen n begun lt =
       ap (words_at n) (sym (take-append-drop (length seen) list))
-      ∙ (words_at-append n (take (length seen) list) (drop (length seen) list) (omega (arith, lt, ap (λ (l : Log (Mark M)). length l) begun)) ∙ ap (words_at n) begun)
+      ∙ (words_at-append n (take (length seen) list) (drop (length seen) list)
+      (omega (arith, lt, ap (λ (l : Log (Mark M)). length l) begun)) ∙ ap (words_at n) begun)
 
   pub revisions-show : RevisionsShowTimelines M
   revisions-show opening js seen n begun lt =
-      sym (words-seen (revisions_of opening js) seen n begun lt) ∙ words-history opening n js (omega (arith, lt, begun_length (revisions_of opening js) seen begun))
+      sym (words-seen (revisions_of opening js) seen n begun lt)
+      ∙ words-history opening n js (omega (arith, lt, begun_length (revisions_of opening js) seen begun))
 
   pub seen-are-first : SeenEntriesAreFirst M
   seen-are-first opening js seen begun =
-      ap (take (length (calls_in seen))) (sym (calls-history opening js) ∙ calls-since (revisions_of opening js) seen begun) ∙ front (calls_in seen) (calls_in (drop (length seen) (revisions_of opening js)))
+      ap (take (length (calls_in seen))) (sym (calls-history opening js) ∙ calls-since (revisions_of opening js) seen begun)
+      ∙ front (calls_in seen) (calls_in (drop (length seen) (revisions_of opening js)))
 
   -- what follows the entries that hold all of a session's, where the last entry is of that session
   none-behind : (s : ℕ) (js : List (Entry M)) (e : Entry M) (xs ys : List (Entry M)) → e.session ≡ s → js ++ e ∷ [] ≡ xs ++ ys → count_of s ys ≡ 0 → ys ≡ []
@@ -67,7 +72,14 @@ module _ {M : Type 0} where
       let list = revisions_of opening (js ++ e ∷ []) in
       let later = calls_in (drop (length p.viewer.seen) list) in
       let parts : js ++ e ∷ [] ≡ seen_in p ++ later = sym (calls-history opening (js ++ e ∷ [])) ∙ calls-since list p.viewer.seen is.begun in
-      let none : count_of p.session later ≡ 0 = omega (arith, count-since p.session list p.viewer.seen is.begun, ap (count_of p.session) (calls-history opening (js ++ e ∷ [])), is.all_own) in
+      let none : count_of p.session later ≡ 0 =
+      omega (
+        arith,
+        count-since p.session list p.viewer.seen is.begun,
+        ap (count_of p.session)
+            (calls-history opening (js ++ e ∷ [])),
+        is.all_own,
+      ) in
       let all = none-behind p.session js e (seen_in p) later own parts none in
       sym (parts ∙ (ap (λ (l : List (Entry M)). seen_in p ++ l) all ∙ append-nil (seen_in p)))
 
@@ -78,4 +90,5 @@ module _ {M : Type 0} where
 
   pub branches-show : BranchesShowTheirRunsInJournals M
   branches-show opening js is =
-      subst (λ (t : Timeline). AllByRecursion (ShowsItsRun opening t) t.branches) (sym (journals-are (new_timeline opening) js)) (branches-show-runs opening (map (λ e. e.command) js) is)
+      subst (λ (t : Timeline). AllByRecursion (ShowsItsRun opening t) t.branches) (sym (journals-are (new_timeline opening) js))
+      (branches-show-runs opening (map (λ e. e.command) js) is)

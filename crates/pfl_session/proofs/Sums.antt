@@ -58,10 +58,12 @@ pending-of c [] = refl
 pending-of c (r ∷ rs) = pending-of (add c r) rs
 
 -- over branches that begin from one opening
-over-branches : (opening : World) (g : Rooted → ℕ) (h : Branch → ℕ) → ((r : Rooted) → r.opening ≡ opening → g r ≡ h r.branch) → (a : ℕ) (rs : List Rooted) → AllByRecursion (λ r. r.opening ≡ opening) rs
+over-branches : (opening : World) (g : Rooted → ℕ) (h : Branch → ℕ) → ((r : Rooted) → r.opening ≡ opening → g r ≡ h r.branch)
+    → (a : ℕ) (rs : List Rooted) → AllByRecursion (λ r. r.opening ≡ opening) rs
     → fold (λ n r. n + g r) a rs ≡ fold (λ n b. n + h b) a (map (λ r. r.branch) rs)
 over-branches opening g h same a [] all = refl
-over-branches opening g h same a (r ∷ rs) all = ap (λ (m : ℕ). fold (λ n x. n + g x) (a + m) rs) (same r all.0) ∙ over-branches opening g h same (a + h r.branch) rs all.1
+over-branches opening g h same a (r ∷ rs) all = ap (λ (m : ℕ). fold (λ n x. n + g x) (a + m) rs) (same r all.0)
+    ∙ over-branches opening g h same (a + h r.branch) rs all.1
 
 -- the world that it shows in its timeline
 in-world : (t : Timeline) (count : World → ℕ) (r : Rooted) → r.opening ≡ t.opening → in_world count r ≡ option_map_or count (world_of t r.branch) 0
@@ -73,15 +75,21 @@ module _ (t : Timeline) (rs : List Rooted) (is : map (λ r. r.branch) rs ≡ t.b
   over h = ap (λ (bs : List Branch). fold (λ n b. n + h b) 0 bs) is
 
   shown-over : (count : World → ℕ) → fold (λ n r. n + in_world count r) 0 rs ≡ over_worlds count t
-  shown-over count = over-branches t.opening (in_world count) (λ b. option_map_or count (world_of t b) 0) (in-world t count) 0 rs openings ∙ over (λ b. option_map_or count (world_of t b) 0)
+  shown-over count = over-branches t.opening (in_world count) (λ b. option_map_or count (world_of t b) 0) (in-world t count) 0 rs openings
+      ∙ over (λ b. option_map_or count (world_of t b) 0)
 
   -- the words are those of the summary
-  pub summary-is : (n : ℕ) → n ∷ length rs ∷ (counts_of_branches rs).events ∷ (counts_of_branches rs).cursors ∷ (counts_of_branches rs).states_a ∷ (counts_of_branches rs).states_b ∷ (counts_of_branches rs).frames ∷ (counts_of_branches rs).pending ∷ [] ≡ summary t n
+  pub summary-is : (n : ℕ) → n ∷ length rs ∷ (counts_of_branches rs).events ∷ (counts_of_branches rs).cursors
+      ∷ (counts_of_branches rs).states_a ∷ (counts_of_branches rs).states_b ∷ (counts_of_branches rs).frames
+      ∷ (counts_of_branches rs).pending ∷ [] ≡ summary t n
   unfolding summary
   summary-is n =
       let many : length rs ≡ length t.branches = sym (length-map rs (λ r. r.branch)) ∙ ap (λ (bs : List Branch). length bs) is in
-      let events = events-of no_counts rs ∙ (over-branches t.opening (λ r. length r.branch.events) (λ b. length b.events) (λ _ _. refl) 0 rs openings ∙ over (λ b. length b.events)) in
-      let cursors = cursors-of no_counts rs ∙ (over-branches t.opening (λ r. r.branch.cursor) (λ b. b.cursor) (λ _ _. refl) 0 rs openings ∙ over (λ b. b.cursor)) in
+      let events = events-of no_counts rs
+      ∙ (over-branches t.opening (λ r. length r.branch.events) (λ b. length b.events) (λ _ _. refl) 0 rs openings
+      ∙ over (λ b. length b.events)) in
+      let cursors = cursors-of no_counts rs
+      ∙ (over-branches t.opening (λ r. r.branch.cursor) (λ b. b.cursor) (λ _ _. refl) 0 rs openings ∙ over (λ b. b.cursor)) in
       let states_a = states_a-of no_counts rs ∙ shown-over (λ w. maps.len w.a.states) in
       let states_b = states_b-of no_counts rs ∙ shown-over (λ w. maps.len w.b.states) in
       let frames = frames-of no_counts rs ∙ shown-over (λ w. maps.len w.link.frames) in
@@ -89,9 +97,11 @@ module _ (t : Timeline) (rs : List Rooted) (is : map (λ r. r.branch) rs ≡ t.b
       λ z. n ∷ many z ∷ events z ∷ cursors z ∷ states_a z ∷ states_b z ∷ frames z ∷ pendings z ∷ []
 
 -- one branch more is counted
-pub counts-more : (rs : List Rooted) (i : ℕ) (r : Rooted) (c d now : Counts) → r ≡ get_or rs i r → i < length rs → now ≡ added c d → c ≡ counts_of_branches (take i rs) → d ≡ counts_of_branch r → now ≡ counts_of_branches (take (i + 1) rs)
+pub counts-more : (rs : List Rooted) (i : ℕ) (r : Rooted) (c d now : Counts) → r ≡ get_or rs i r → i < length rs → now ≡ added c d
+    → c ≡ counts_of_branches (take i rs) → d ≡ counts_of_branch r → now ≡ counts_of_branches (take (i + 1) rs)
 counts-more rs i r c d now here within sum before new =
-    sum ∙ ((λ z. added (before z) (new z)) ∙ (ap (λ (x : Rooted). added (counts_of_branches (take i rs)) (counts_of_branch x)) here ∙ sym (fold_more add no_counts rs i r within)))
+    sum ∙ ((λ z. added (before z) (new z))
+    ∙ (ap (λ (x : Rooted). added (counts_of_branches (take i rs)) (counts_of_branch x)) here ∙ sym (fold_more add no_counts rs i r within)))
 
 pub more-at-most : (n m k : ℕ) (c d now : Counts) → now ≡ added c d → k ≡ n + m → AreAtMost n c → AreAtMost m d → AreAtMost k now
 more-at-most n m k c d now sum all a b =

@@ -28,7 +28,8 @@ SeenEntriesAreFirst M =
 -- a pass whose session made the last entry has seen all of them
 abbrev pub LastCallersHaveSeenAll : Type 0 → Type 0
 LastCallersHaveSeenAll M =
-    (opening : Timeline) (js : List (Entry M)) (e : Entry M) (p : Seen M) → HasSeenOwn opening (js ++ e ∷ []) p → e.session ≡ p.session → seen_in p ≡ js ++ e ∷ []
+    (opening : Timeline) (js : List (Entry M)) (e : Entry M) (p : Seen M) → HasSeenOwn opening (js ++ e ∷ []) p → e.session ≡ p.session
+    → seen_in p ≡ js ++ e ∷ []
 
 -- a journal's timeline is that of its commands, one after another, whoever asked them
 abbrev pub JournalsAreCommands : Type 0 → Type 0

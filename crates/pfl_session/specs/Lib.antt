@@ -3,7 +3,7 @@ pub mod Journals
 pub mod Listings
 pub mod Passes
 pub mod Made
-pub mod Desks
+pub mod Ledgers
 pub mod Labs
 pub mod Laws
 pub mod inner

@@ -56,7 +56,8 @@ pub record GoesOn {M : Type 0} (old new : Seen M) : Type 0 where
 abbrev pub HasSeenItsCalls : {M : Type 0} → Seen M → Type 0
 HasSeenItsCalls p = p.half.count ≡ count_of p.session (seen_in p)
 
--- what it has seen is a journal of n sessions that keeps to its limit, whose replies are those that its commands give from the opening; each revision is the summary of what the entries up to it give
+-- what it has seen is a journal of n sessions that keeps to its limit, whose replies are those that its commands give from the opening;
+-- each revision is the summary of what the entries up to it give
 pub record HasSeenJournal {M : Type 0} (opening : Timeline) (n limit : ℕ) (p : Seen M) : Type 0 where
   pub journal : IsJournal opening n limit (seen_in p)
   pub revisions : p.viewer.seen ≡ revisions_of opening (seen_in p)

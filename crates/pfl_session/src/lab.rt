@@ -1,4 +1,4 @@
-//! The lab: the publisher, the counts, and the desk under its lock.
+//! The lab: the publisher, the counts, and the ledger under its lock.
 
 ghost use Rattle.std.specs.Prelude.{◌≡◌, ◌-◌, ◌<◌, ◌≤◌, ◌↔◌, ℕ, length, slice_get, slice_index, Some, IfOk, IfErr, OnOk, OnErr, IsTrue};
 ghost use Rattle.std.specs.List.{AllByRecursion};
@@ -6,13 +6,13 @@ ghost use Rattle.pfl_publish.specs.Seats.{LoadsOnce, IsRead, IsOvertaken, Overta
 ghost use Rattle.pfl_timeline.specs.Replies.{reply_of};
 ghost use Rattle.pfl_session.specs.Passes.{IsPassOf, GoesOn, HasSeenJournal, AddsOthers, AddsCall, IsAskFault, seen_in};
 ghost use Rattle.pfl_session.specs.Journals.{count_of};
-ghost use Rattle.pfl_session.specs.Desks.{one_more_counted};
+ghost use Rattle.pfl_session.specs.Ledgers.{one_more_counted};
 ghost use Rattle.pfl_session.specs.Made.{made_after};
 ghost use Rattle.pfl_session.specs.Labs.{table_prop, tables_prop, text_prop, HasSeenOwn, IsClosed};
 
-use crate::desk::Desk;
 use crate::entry::Closed;
 use crate::fault::AskFault;
+use crate::ledger::Ledger;
 use crate::made::Next;
 use crate::mark::Mark;
 use crate::pass::Pass;
@@ -28,7 +28,7 @@ pub struct Lab<J: Which, A: Allocator> {
     pub(crate) publisher: Publisher<Mark<A>, A>,
     pub(crate) tallies: Vec<Tally<A>, A>,
     pub(crate) setup: Vec<u8, A>,
-    pub(crate) desk: Mutex<Desk<J, A>>,
+    pub(crate) ledger: Mutex<Ledger<J, A>>,
     ghost publishes: { publisher ≡ J.publisher } by { table_prop publisher J.publisher },
     ghost counts: { tallies.items ≡ J.tallies } by { tables_prop tallies.items J.tallies },
     ghost shows: { setup.items ≡ J.setup } by { text_prop setup.items J.setup },
@@ -41,7 +41,7 @@ impl<J: Which, A: Allocator> Drop for Lab<J, A> {
             publisher: _,
             tallies: _,
             setup: _,
-            desk: _,
+            ledger: _,
         } = self;
     }
 }
@@ -76,7 +76,7 @@ impl<J: Which, A: Allocator + Copy> Lab<J, A> {
         ensures no_more { OnErr result (pass.new.half ≡ pass.old.half) }
     {
         let tally = tally_of(&self.tallies, pass);
-        self.desk
+        self.ledger
             .lock(rt)
             .ask(&self.publisher, tally, pass, command)
     }
@@ -100,7 +100,8 @@ impl<J: Which, A: Allocator> Lab<J, A> {
         ensures ok { IfOk result (λ r. (n : ℕ) × IsRead pass.old.viewer pass.new.viewer r.words n) }
         ensures err { IfErr result (λ o. IsOvertaken pass.old.viewer pass.new.viewer o.at o.now) }
         ensures tries { IfErr result (λ o. OvertakenBefore tries pass.old.viewer o.at) }
-        ensures loaded { IfOk result (λ r. (now : ℕ) × (count : ℕ) × MakesTries pass.old.viewer pass.new.viewer count (slice_index r.words 0) now × (count ≤ tries - 1)) }
+        ensures loaded { IfOk result (λ r. (now : ℕ) × (count : ℕ)
+            × MakesTries pass.old.viewer pass.new.viewer count (slice_index r.words 0) now × (count ≤ tries - 1)) }
         ensures overtaken { IfErr result (λ o. MakesTries pass.old.viewer pass.new.viewer (tries - 1) o.at o.now) }
     {
         let Some(mut viewer) = pass.viewer.take() else {
@@ -143,7 +144,7 @@ impl<J: Which, A: Allocator> Lab<J, A> {
         ensures number { result ≡ length (seen_in pass.new) }
     {
         let tally = tally_of(&self.tallies, pass);
-        self.desk.lock(rt).catch_up(&self.publisher, tally, pass)
+        self.ledger.lock(rt).catch_up(&self.publisher, tally, pass)
     }
 
     /// The entry after the first `from` ones, if there is one, and how many entries the journal has, in the pass's turn. The pass has
@@ -162,7 +163,7 @@ impl<J: Which, A: Allocator> Lab<J, A> {
         ensures entries { result.entries ≡ length (seen_in pass.new) }
     {
         let tally = tally_of(&self.tallies, pass);
-        self.desk
+        self.ledger
             .lock(rt)
             .entry_after(&self.publisher, tally, pass, from)
     }
@@ -178,28 +179,28 @@ impl<J: Which, A: Allocator> Lab<J, A> {
             publisher,
             tallies,
             setup: _,
-            desk,
+            ledger,
         } = self;
-        let mut desk = desk.into_inner();
-        settle_all(&mut desk, &publisher, &tallies, passes);
-        desk.closed()
+        let mut ledger = ledger.into_inner();
+        settle_all(&mut ledger, &publisher, &tallies, passes);
+        ledger.closed()
     }
 }
 
 /// Takes all passes back.
 fn settle_all<J: Which, A: Allocator>(
-    desk: &mut Desk<J, A>,
+    ledger: &mut Ledger<J, A>,
     publisher: &Publisher<Mark<A>, A>,
     tallies: &[Tally<A>],
     mut passes: Vec<Pass<A>, A>,
 )
     requires publisher { (publisher.now ≡ J.publisher) × (tallies.now ≡ J.tallies) }
     requires lab { AllByRecursion (IsPassOf J.publisher J.tallies) passes.items }
-    ensures journal { desk.new ≡ desk.old }
-    ensures seen { AllByRecursion (HasSeenOwn J.opening desk.old) passes.items }
+    ensures journal { ledger.new ≡ ledger.old }
+    ensures seen { AllByRecursion (HasSeenOwn J.opening ledger.old) passes.items }
 {
     while let Some(pass) = passes.pop() {
         let tally = tally_of(tallies, &pass);
-        desk.settle(publisher, tally, pass);
+        ledger.settle(publisher, tally, pass);
     }
 }

@@ -1,6 +1,7 @@
 //! Laws of journals. They have no code: each is a theorem over the definitions, which a function's contract names.
 
-ghost use Rattle.pfl_session.specs.Laws.{RevisionsShowTimelines, SeenEntriesAreFirst, LastCallersHaveSeenAll, JournalsAreCommands, BranchesShowTheirRunsInJournals};
+ghost use Rattle.pfl_session.specs.Laws.{RevisionsShowTimelines, SeenEntriesAreFirst, LastCallersHaveSeenAll, JournalsAreCommands};
+ghost use Rattle.pfl_session.specs.Laws.{BranchesShowTheirRunsInJournals};
 
 use std::alloc::Allocator;
 

@@ -10,13 +10,13 @@
 #![tactic(auto)]
 
 mod counts;
-mod desk;
 mod entry;
 mod execution;
 mod fault;
 mod kept;
 mod lab;
 mod laws;
+mod ledger;
 mod made;
 mod mark;
 mod opened;
@@ -32,7 +32,7 @@ pub use lab::Lab;
 pub use laws::{journals_are_commands, last_callers_have_seen_all, revisions_show_timelines};
 pub use made::{Made, Next};
 pub use mark::Mark;
-pub use opened::Opened;
+pub use opened::{MOST_ENTRIES, Opened};
 pub use pass::Pass;
 pub use pfl_publish::{Overtaken, Revision};
 pub use pfl_timeline::{

@@ -15,11 +15,11 @@ pub enum Mark<A: Allocator> {
 
 /// Names revision 0 by the opening.
 #[derive(Drop)]
-pub(crate) struct Opening<'a, A: Allocator> {
+pub(crate) struct AtOpening<'a, A: Allocator> {
     pub(crate) timeline: &'a Timeline<A>,
 }
 
-impl<A: Allocator> Naming<Mark<A>> for Opening<'_, A> {
+impl<A: Allocator> Naming<Mark<A>> for AtOpening<'_, A> {
     ghost use Rattle.pfl_session.specs.declared.mark.Mark.TheVariants.{Start};
 
     ghost named = { λ o. Start o.timeline.now };

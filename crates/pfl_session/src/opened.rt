@@ -8,11 +8,11 @@ ghost use Rattle.pfl_session.specs.Journals.{revisions_of};
 ghost use Rattle.pfl_session.specs.Passes.{IsPassOf};
 ghost use Rattle.pfl_session.specs.Labs.{lab_fault, IsLabFault, AreNewPasses};
 
-use crate::desk::Desk;
 use crate::fault::LabFault;
 use crate::kept::KeptEntry;
 use crate::lab::Lab;
-use crate::mark::{Mark, Opening};
+use crate::ledger::Ledger;
+use crate::mark::{AtOpening, Mark};
 use crate::pass::Pass;
 use crate::revision::revision_of;
 use crate::which::Which;
@@ -25,8 +25,8 @@ use std::sync::Mutex;
 /// The most sessions of a lab.
 const MOST_SESSIONS: u32 = 8;
 
-/// The most entries of a journal.
-const MOST_ENTRIES: usize = 1_000_000;
+/// The most entries that a journal can be opened with.
+pub const MOST_ENTRIES: usize = 1_000_000;
 
 /// Why there is no lab of this many sessions, whose journal has at most this many entries.
 fn fault_of(sessions: u32, journal: usize) -> Option<LabFault>
@@ -90,7 +90,12 @@ impl<A: Allocator> Model for Opened<A> {
 
     ghost view = { λ o. record { publisher = o.publisher; tallies = o.tallies.items; opening = o.timeline; setup = o.setup.items; limit = o.limit } };
 
-    ghost invariant = { λ o. ((v : Viewer (Mark A)) × (o.viewer ≡ Some v) × (v.table ≡ o.publisher) × (v.seen ≡ revisions_of o.timeline o.journal.items) × (v.trying ≡ false)) × (o.journal.items ≡ []) × (o.writer.table ≡ o.publisher) × (o.writer.list ≡ revisions_of o.timeline o.journal.items) × (o.halves.items ≡ counts_of 1 o.tallies.items o.journal.items) × AreNewPasses o.publisher (revisions_of o.timeline o.journal.items) 1 o.tallies.items o.passes.items × HasFewEvents 4294967295 o.timeline × (o.limit ≤ 1000000) };
+    ghost invariant = { λ o. ((v : Viewer (Mark A)) × (o.viewer ≡ Some v) × (v.table ≡ o.publisher)
+        × (v.seen ≡ revisions_of o.timeline o.journal.items) × (v.trying ≡ false)) × (o.journal.items ≡ [])
+        × (o.writer.table ≡ o.publisher) × (o.writer.list ≡ revisions_of o.timeline o.journal.items)
+        × (o.halves.items ≡ counts_of 1 o.tallies.items o.journal.items)
+        × AreNewPasses o.publisher (revisions_of o.timeline o.journal.items) 1 o.tallies.items o.passes.items
+        × HasFewEvents 4294967295 o.timeline × (o.limit ≤ 1000000) };
 }
 
 impl<A: Allocator + Copy> Opened<A> {
@@ -132,7 +137,7 @@ impl<A: Allocator + Copy> Opened<A> {
         let (publisher, writer, viewer) = Publisher::new(
             alloc,
             first,
-            &Opening {
+            &AtOpening {
                 timeline: &timeline,
             },
         )?;
@@ -205,7 +210,7 @@ impl<A: Allocator> Opened<A> {
             writer,
             viewer: _,
         } = self;
-        let desk = Desk {
+        let ledger = Ledger {
             timeline,
             journal,
             limit,
@@ -217,7 +222,7 @@ impl<A: Allocator> Opened<A> {
             publisher,
             tallies,
             setup,
-            desk: Mutex::new(desk),
+            ledger: Mutex::new(ledger),
         };
         (lab, passes)
     }

@@ -40,7 +40,8 @@ impl<A: Allocator> Model for Pass<A> {
 
     ghost view = { λ p. seen_of p.session p.half p.viewer };
 
-    ghost invariant = { λ p. (v : Viewer (Mark A)) × (h : Count) × (p.viewer ≡ Some v) × (p.half ≡ Some h) × (v.trying ≡ false) × (h.count ≤ count_of p.session (calls_in v.seen)) × (1 ≤ p.session) };
+    ghost invariant = { λ p. (v : Viewer (Mark A)) × (h : Count) × (p.viewer ≡ Some v) × (p.half ≡ Some h) × (v.trying ≡ false)
+        × (h.count ≤ count_of p.session (calls_in v.seen)) × (1 ≤ p.session) };
 }
 
 impl<A: Allocator> Pass<A> {

@@ -68,8 +68,10 @@ pub OwnsKeys-unused : (m : States) (s : State) → key_in_use m s.wire s.stack �
 OwnsKeys-unused m s free =
     let parts = either_false (is_some (by_wire m s.wire)) (is_some (by_stack m s.stack)) free in
     record {
-      wire = λ o u at same. true_is_false (sym (ap (λ k. is_key k s.wire) (sym same) ∙ is_key-itself s.wire) ∙ no_value_passes names_total names_exact (λ t. is_key t.wire s.wire) m (is_none _ parts.0) o u at);
-      stack = λ o u at same. true_is_false (sym (ap (λ k. is_key k s.stack) (sym same) ∙ is_key-itself s.stack) ∙ no_value_passes names_total names_exact (λ t. is_key t.stack s.stack) m (is_none _ parts.1) o u at);
+      wire = λ o u at same. true_is_false (sym (ap (λ k. is_key k s.wire) (sym same) ∙ is_key-itself s.wire)
+          ∙ no_value_passes names_total names_exact (λ t. is_key t.wire s.wire) m (is_none _ parts.0) o u at);
+      stack = λ o u at same. true_is_false (sym (ap (λ k. is_key k s.stack) (sym same) ∙ is_key-itself s.stack)
+          ∙ no_value_passes names_total names_exact (λ t. is_key t.stack s.stack) m (is_none _ parts.1) o u at);
     }
 
 -- the keys of a state of the table are its own
@@ -121,7 +123,8 @@ AreStates-with m s are owns = record {
   ];
 }
   where
-    cases : (n : StateName) (t : State) → maps.get (maps.insert m s.name s) n ≡ Some t → ((n ≡ s.name) × (Some s ≡ Some t)) ⊎ ((n ≢ s.name) × (maps.get m n ≡ Some t))
+    cases : (n : StateName) (t : State) → maps.get (maps.insert m s.name s) n ≡ Some t → ((n ≡ s.name) × (Some s ≡ Some t))
+        ⊎ ((n ≢ s.name) × (maps.get m n ≡ Some t))
     cases n t is = get-set_at_cases names_total names_exact m s.name (Some s) n t is
 
 -- ---- what is found

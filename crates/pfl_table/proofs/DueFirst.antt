@@ -22,10 +22,12 @@ IsTimed a states (Some d) = d.at ≡ due_at a states d.head.key
 
 module _ (a : Adaptive) (states : ℕ) where
   -- heads are compared as their entries are
-  before-entries : (d e : DueHead) → d.at ≡ due_at a states d.head.key → e.at ≡ due_at a states e.head.key → is_before d e ≡ due_before a states d.head.key e.head.key
+  before-entries : (d e : DueHead) → d.at ≡ due_at a states d.head.key → e.at ≡ due_at a states e.head.key
+      → is_before d e ≡ due_before a states d.head.key e.head.key
   before-entries d e here there =
       ap (λ n. nat_lt n e.at || ((n == e.at) && is_lt (name_cmp (name_in d.head.key) (name_in e.head.key)))) here
-      ∙ ap (λ n. nat_lt (due_at a states d.head.key) n || ((due_at a states d.head.key == n) && is_lt (name_cmp (name_in d.head.key) (name_in e.head.key)))) there
+      ∙ ap (λ n. nat_lt (due_at a states d.head.key) n
+      || ((due_at a states d.head.key == n) && is_lt (name_cmp (name_in d.head.key) (name_in e.head.key)))) there
 
   -- the earlier one is that of their entries
   pub earlier-entry : (first : Option DueHead) (d : DueHead) → IsTimed a states first → d.at ≡ due_at a states d.head.key
@@ -39,7 +41,8 @@ module _ (a : Adaptive) (states : ℕ) where
       ∙ ap (λ b. cond b (entry_due f) (entry_due d)) (before-entries f d first here)
 
   -- and it is due when its timeout has passed
-  pub earlier-timed : (first : Option DueHead) (d : DueHead) → IsTimed a states first → d.at ≡ due_at a states d.head.key → IsTimed a states (Some (earlier first d))
+  pub earlier-timed : (first : Option DueHead) (d : DueHead) → IsTimed a states first → d.at ≡ due_at a states d.head.key
+      → IsTimed a states (Some (earlier first d))
   earlier-timed None d first here = here
   earlier-timed (Some f) d first here = elim (is_before f d) as (λ b. (cond b f d).at ≡ due_at a states (cond b f d).head.key) [
     | true ↦ first

@@ -118,7 +118,8 @@ module _ (a : Adaptive) (states : ℕ) where
   sooner-joined (Some f) r = elim (row_before a states f r) as (λ b. Some (cond b f r) ≡ Some (cond b f r)) [ true ↦ refl | false ↦ refl ]
 
   -- one more row is looked at
-  pub looked-next : (first : Option Row) (r : Row) (left all : List Row) → joined (row_before a states) first (foremost (row_before a states) (r ∷ left)) ≡ foremost (row_before a states) all
+  pub looked-next : (first : Option Row) (r : Row) (left all : List Row)
+      → joined (row_before a states) first (foremost (row_before a states) (r ∷ left)) ≡ foremost (row_before a states) all
       → joined (row_before a states) (Some (sooner a states first r)) (foremost (row_before a states) left) ≡ foremost (row_before a states) all
   looked-next first r left all is =
       ap (λ o. joined (row_before a states) o (foremost (row_before a states) left)) (sooner-joined first r)
@@ -129,7 +130,8 @@ module _ (a : Adaptive) (states : ℕ) where
   earlier-joined (Some f) h = elim (entry_before f h) as (λ b. Some (cond b f h) ≡ Some (cond b f h)) [ true ↦ refl | false ↦ refl ]
 
   -- one more entry is looked at
-  pub entry-next : (first : Option (Expiry × ℕ)) (h : Expiry × ℕ) (left all : List (Expiry × ℕ)) → joined entry_before first (foremost entry_before (h ∷ left)) ≡ foremost entry_before all
+  pub entry-next : (first : Option (Expiry × ℕ)) (h : Expiry × ℕ) (left all : List (Expiry × ℕ))
+      → joined entry_before first (foremost entry_before (h ∷ left)) ≡ foremost entry_before all
       → joined entry_before (Some (earlier a states first h)) (foremost entry_before left) ≡ foremost entry_before all
   entry-next first h left all is =
       ap (λ o. joined entry_before o (foremost entry_before left)) (sym (earlier-joined first h))

@@ -36,10 +36,12 @@ state_before due s u = nat_lt (due s) (due u) || ((due s == due u) && is_lt (nam
 module _ {X Y : Type 0} (f : X → Y) (before : Y → Y → Bool) where
   put_before-map : (x : X) (xs : List X) → put_before before (f x) (map f xs) ≡ map f (put_before (λ a b. before (f a) (f b)) x xs)
   put_before-map x [] = refl
-  put_before-map x (y ∷ ys) = elim (before (f x) (f y)) as (λ b. cond b (f x ∷ f y ∷ map f ys) (f y ∷ put_before before (f x) (map f ys)) ≡ map f (cond b (x ∷ y ∷ ys) (y ∷ put_before (λ a b. before (f a) (f b)) x ys))) [
-    | true ↦ refl
-    | false ↦ ap (λ (zs : List Y). f y ∷ zs) (put_before-map x ys)
-  ]
+  put_before-map x (y ∷ ys) =
+      elim (before (f x) (f y)) as (λ b. cond b (f x ∷ f y ∷ map f ys) (f y ∷ put_before before (f x) (map f ys))
+      ≡ map f (cond b (x ∷ y ∷ ys) (y ∷ put_before (λ a b. before (f a) (f b)) x ys))) [
+        | true ↦ refl
+        | false ↦ ap (λ (zs : List Y). f y ∷ zs) (put_before-map x ys)
+      ]
 
   -- images in order
   pub in_order-map : (xs : List X) → in_order before (map f xs) ≡ map f (in_order (λ a b. before (f a) (f b)) xs)
@@ -61,11 +63,14 @@ module _ (timeout : State → ℕ) (t : Table) (by : TimedBy timeout t) where
 
   -- so its rows are those of its states
   rows_of_states : t.rows ≡ map_values (row_of timeout) (states_of t)
-  rows_of_states = same_map names_total names_exact t.rows (map_values (row_of timeout) (states_of t)) (λ name. get-row_of name ∙ sym (get-map_values name_cmp (row_of timeout) (states_of t) name))
+  rows_of_states = same_map names_total names_exact t.rows (map_values (row_of timeout) (states_of t))
+      (λ name. get-row_of name ∙ sym (get-map_values name_cmp (row_of timeout) (states_of t) name))
 
   -- the first row to expire is that of the first state
   pub first_expiring-states : (a : Adaptive) (states : ℕ)
-      → first_expiring a states t ≡ option_map (row_of timeout) (slice_get (in_order (state_before (λ s. expiry s (scaled (timeout s) a states))) (maps.values (states_of t))) 0)
+      → first_expiring a states t
+      ≡ option_map (row_of timeout)
+      (slice_get (in_order (state_before (λ s. expiry s (scaled (timeout s) a states))) (maps.values (states_of t))) 0)
   first_expiring-states a states =
       ap (λ m. slice_get (in_order (row_before a states) (maps.values m)) 0) rows_of_states
       ∙ (ap (λ rows. slice_get (in_order (row_before a states) rows) 0) (values-map_values name_cmp (row_of timeout) (states_of t))

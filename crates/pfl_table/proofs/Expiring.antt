@@ -102,22 +102,26 @@ module _ {X : Type 0} (before : X → X → Bool)
   module _ (p : X → Bool) where
     put_passing : (x : X) (ys : List X) → p x ≡ true → IsInOrder before ys → filter p (put_before before x ys) ≡ put_before before x (filter p ys)
     put_passing x [] passes o = ap (λ b. cond b (x ∷ []) []) passes
-    put_passing x (y ∷ ys) passes o = elim (before x y) as (λ b. before x y ≡ b → filter p (cond b (x ∷ y ∷ ys) (y ∷ put_before before x ys)) ≡ put_before before x (filter p (y ∷ ys))) [
-      | true ↦ λ e. ap (λ b. cond b (x ∷ filter p (y ∷ ys)) (filter p (y ∷ ys))) passes
-          ∙ sym (put_first before x (filter p (y ∷ ys)) (before-filter before p x (y ∷ ys) (e, all_through x y ys e o.0)))
-      | false ↦ λ e. elim (p y) as (λ c. cond c (y ∷ filter p (put_before before x ys)) (filter p (put_before before x ys)) ≡ put_before before x (cond c (y ∷ filter p ys) (filter p ys))) [
-        | true ↦ ap (λ (zs : List X). y ∷ zs) (put_passing x ys passes o.1) ∙ sym (ap (λ b. cond b (x ∷ y ∷ filter p ys) (y ∷ put_before before x (filter p ys))) e)
-        | false ↦ put_passing x ys passes o.1
-      ]
-    ] refl
+    put_passing x (y ∷ ys) passes o = elim (before x y) as (λ b. before x y ≡ b
+        → filter p (cond b (x ∷ y ∷ ys) (y ∷ put_before before x ys)) ≡ put_before before x (filter p (y ∷ ys))) [
+          | true ↦ λ e. ap (λ b. cond b (x ∷ filter p (y ∷ ys)) (filter p (y ∷ ys))) passes
+              ∙ sym (put_first before x (filter p (y ∷ ys)) (before-filter before p x (y ∷ ys) (e, all_through x y ys e o.0)))
+          | false ↦ λ e. elim (p y) as (λ c. cond c (y ∷ filter p (put_before before x ys)) (filter p (put_before before x ys))
+              ≡ put_before before x (cond c (y ∷ filter p ys) (filter p ys))) [
+                | true ↦ ap (λ (zs : List X). y ∷ zs) (put_passing x ys passes o.1)
+                    ∙ sym (ap (λ b. cond b (x ∷ y ∷ filter p ys) (y ∷ put_before before x (filter p ys))) e)
+                | false ↦ put_passing x ys passes o.1
+              ]
+        ] refl
 
     -- those that pass, in order, are those of the whole in order that pass
     pub in_order-filter : (xs : List X) → in_order before (filter p xs) ≡ filter p (in_order before xs)
     in_order-filter [] = refl
-    in_order-filter (x ∷ xs) = elim (p x) as (λ b. p x ≡ b → in_order before (cond b (x ∷ filter p xs) (filter p xs)) ≡ filter p (put_before before x (in_order before xs))) [
-      | true ↦ λ e. ap (put_before before x) (in_order-filter xs) ∙ sym (put_passing x (in_order before xs) e (IsInOrder-in_order xs))
-      | false ↦ λ e. in_order-filter xs ∙ sym (put_failing before p x (in_order before xs) e)
-    ] refl
+    in_order-filter (x ∷ xs) = elim (p x) as (λ b. p x ≡ b
+        → in_order before (cond b (x ∷ filter p xs) (filter p xs)) ≡ filter p (put_before before x (in_order before xs))) [
+          | true ↦ λ e. ap (put_before before x) (in_order-filter xs) ∙ sym (put_passing x (in_order before xs) e (IsInOrder-in_order xs))
+          | false ↦ λ e. in_order-filter xs ∙ sym (put_failing before p x (in_order before xs) e)
+        ] refl
 
     none_passes : (x : X) (ys : List X) → NoneBefore before x ys → ((y : X) → p y ≡ true → before y x ≡ true) → filter p ys ≡ []
     none_passes x [] none early = refl
@@ -133,7 +137,8 @@ module _ {X : Type 0} (before : X → X → Bool)
       in_order-filter other xs ∙ (ap (filter other) is ∙ (ap (λ b. cond b (x ∷ filter other rest) (filter other rest)) out ∙ left))
 
   -- where the first passes, it is the first of those that pass, and after it stand those that pass of what is left without it
-  pub first_due : (p other : X → Bool) (xs : List X) (x : X) (rest : List X) → in_order before xs ≡ x ∷ rest → p x ≡ true → other x ≡ false → filter other rest ≡ rest
+  pub first_due : (p other : X → Bool) (xs : List X) (x : X) (rest : List X) → in_order before xs ≡ x ∷ rest → p x ≡ true → other x ≡ false
+      → filter other rest ≡ rest
       → in_order before (filter p xs) ≡ x ∷ in_order before (filter p (filter other xs))
   first_due p other xs x rest is passes out left =
       in_order-filter p xs ∙ (ap (filter p) is ∙ (ap (λ b. cond b (x ∷ filter p rest) (filter p rest)) passes

@@ -21,7 +21,8 @@ use Rattle.pfl_table.specs.inner.Filed.{name_of, row_of_link}
 use Rattle.pfl_table.specs.inner.Ordering.{due_at, due_before, expiry_at, expiry_of, expiry_cmp, expiry_total, expiry_exact}
 use Rattle.pfl_table.specs.Tables.{row_before}
 use Rattle.pfl_table.proofs.Dues.{its_slot, made-has}
-use Rattle.pfl_table.proofs.Earliest.{both, entry_before, entry_before-asymmetric, entry_before-passed_on, is_true, level_name, row_before-asymmetric, row_before-passed_on}
+use Rattle.pfl_table.proofs.Earliest.{both, entry_before, entry_before-asymmetric, entry_before-passed_on, is_true, level_name, row_before-asymmetric}
+use Rattle.pfl_table.proofs.Earliest.{row_before-passed_on}
 use Rattle.pfl_table.proofs.Expiring.{NoneBefore, both_answers, less-asymmetric}
 use Rattle.pfl_table.proofs.Foremost.{Has, first_is, foremost, foremost-has, foremost-none, foremost-none_before, none-has, same_inside}
 
@@ -30,8 +31,10 @@ use Rattle.pfl_table.proofs.Foremost.{Has, first_is, foremost, foremost-has, for
 found-has : (q : Expiry) (s : ℕ) (es : List (Expiry × ℕ)) → ordered.find expiry_cmp q es ≡ Some s → Has (q, s) es
 found-has q s [] is = absurd (some_is_none s (sym is))
 found-has q s (d ∷ es) is =
-    elim (eq_by_cmp expiry_cmp q d.0) as (λ b. eq_by_cmp expiry_cmp q d.0 ≡ b → cond b (Some d.1) (ordered.find expiry_cmp q es) ≡ Some s → (d ≡ (q, s)) ⊎ Has (q, s) es) [
-      | true ↦ λ same f. inl (ap (λ (x : Expiry). (x, d.1)) (sym (same_key expiry_total expiry_exact (λ x. x) q d.0 same)) ∙ ap (λ (n : ℕ). (q, n)) (same_inside d.1 s f))
+    elim (eq_by_cmp expiry_cmp q d.0) as (λ b. eq_by_cmp expiry_cmp q d.0 ≡ b → cond b (Some d.1) (ordered.find expiry_cmp q es) ≡ Some s
+    → (d ≡ (q, s)) ⊎ Has (q, s) es) [
+      | true ↦ λ same f. inl (ap (λ (x : Expiry). (x, d.1)) (sym (same_key expiry_total expiry_exact (λ x. x) q d.0 same))
+          ∙ ap (λ (n : ℕ). (q, n)) (same_inside d.1 s f))
       | false ↦ λ apart f. inr (found-has q s es f)
     ] refl is
 
@@ -49,7 +52,8 @@ has-found e [] sorted has = absurd has
 has-found e (d ∷ es) sorted has =
     let parts = both (below_all expiry_cmp d.0 es) (is_sorted expiry_cmp es) sorted in
     elim has [
-      | inl same ↦ subst (λ (x : Expiry × ℕ). ordered.find expiry_cmp x.0 (d ∷ es) ≡ Some x.1) same (ap (λ b. cond b (Some d.1) (ordered.find expiry_cmp d.0 es)) (own_key expiry_total expiry_exact (λ x. x) d.0))
+      | inl same ↦ subst (λ (x : Expiry × ℕ). ordered.find expiry_cmp x.0 (d ∷ es) ≡ Some x.1) same
+          (ap (λ b. cond b (Some d.1) (ordered.find expiry_cmp d.0 es)) (own_key expiry_total expiry_exact (λ x. x) d.0))
       | inr more ↦ ap (λ b. cond b (Some d.1) (ordered.find expiry_cmp e.0 es)) (other (below-has d.0 es e parts.0 more)) ∙ has-found e es parts.1 more
     ]
   where
@@ -94,14 +98,17 @@ no_links [] e = refl
 no_links (l ∷ ls) e = absurd (omega arith)
 
 -- a row that a key finds, whatever the keys are, stands at its slot
-stands-by : (key : Link Row → Expiry) (links : List (Link Row)) (q : Expiry) (l : Link Row) → row_at expiry_cmp key links q ≡ Some l → Stands l.slot links l.value
+stands-by : (key : Link Row → Expiry) (links : List (Link Row)) (q : Expiry) (l : Link Row) → row_at expiry_cmp key links q ≡ Some l
+    → Stands l.slot links l.value
 stands-by key [] q l is = absurd (some_is_none l (sym is))
-stands-by key (x ∷ links) q l is = elim (eq_by_cmp expiry_cmp q (key x)) as (λ b. cond b (Some x) (row_at expiry_cmp key links q) ≡ Some l → Stands l.slot (x ∷ links) l.value) [
-  | true ↦ λ e. record { front = []; back = links; split = ap (λ (y : Link Row). y ∷ links) (same_inside x l e) }
-  | false ↦ λ e. let s = stands-by key links q l e in record { front = x ∷ s.front; back = s.back; split = ap (λ (ls : List (Link Row)). x ∷ ls) s.split }
-] is
+stands-by key (x ∷ links) q l is = elim (eq_by_cmp expiry_cmp q (key x)) as (λ b. cond b (Some x) (row_at expiry_cmp key links q) ≡ Some l
+    → Stands l.slot (x ∷ links) l.value) [
+      | true ↦ λ e. record { front = []; back = links; split = ap (λ (y : Link Row). y ∷ links) (same_inside x l e) }
+      | false ↦ λ e. let s = stands-by key links q l e in record { front = x ∷ s.front; back = s.back; split = ap (λ (ls : List (Link Row)). x ∷ ls) s.split }
+    ] is
 
-pub used-at : (times : List ℕ) (front : List (Link Row)) (l : Link Row) (back : List (Link Row)) → NoneLater times (front ++ l ∷ back) → get_or times l.slot 0 ≤ l.value.state.last
+pub used-at : (times : List ℕ) (front : List (Link Row)) (l : Link Row) (back : List (Link Row)) → NoneLater times (front ++ l ∷ back)
+    → get_or times l.slot 0 ≤ l.value.state.last
 used-at times [] l back none = none.0
 used-at times (x ∷ front) l back none = used-at times front l back none.1
 
@@ -124,9 +131,11 @@ not_sooner m n d b less h = known (nat_lt m d) (m == d) (nat_lt n d) (n == d) re
         absurd (omega (arith, level, below, less))
 
 -- what is not due before another would not be due before it later either
-later-not_before : (a : Adaptive) (states : ℕ) (r q : Row) (time : ℕ) → time ≤ r.state.last → due_before a states (expiry_at r time) (expiry_of q) ≡ false → due_before a states (expiry_of r) (expiry_of q) ≡ false
+later-not_before : (a : Adaptive) (states : ℕ) (r q : Row) (time : ℕ) → time ≤ r.state.last
+    → due_before a states (expiry_at r time) (expiry_of q) ≡ false → due_before a states (expiry_of r) (expiry_of q) ≡ false
 later-not_before a states r q time used out =
-    not_sooner (due_at a states (expiry_at r time)) (due_at a states (expiry_of r)) (due_at a states (expiry_of q)) (is_lt (name_cmp (name_of r) (name_of q))) (omega (arith, used)) out
+    not_sooner (due_at a states (expiry_at r time)) (due_at a states (expiry_of r)) (due_at a states (expiry_of q))
+    (is_lt (name_cmp (name_of r) (name_of q))) (omega (arith, used)) out
 
 -- ---- the first row
 
@@ -144,14 +153,16 @@ its-place rows one slot r s = record {
 }
 
 -- and is what stands there
-pub its-row : (rows : Lists Row) → length rows.lists ≡ 1 → (slot : ℕ) (r : Row) → Stands slot (links_of rows 0) r → (q : Row) → ((at : Place rows slot) → q ≡ at.value) → q ≡ r
+pub its-row : (rows : Lists Row) → length rows.lists ≡ 1 → (slot : ℕ) (r : Row) → Stands slot (links_of rows 0) r → (q : Row)
+    → ((at : Place rows slot) → q ≡ at.value) → q ≡ r
 its-row rows one slot r s q is = let place = its-place rows one slot r s in is place.at ∙ place.value
 
 -- The row at a slot is due first as the rows were filed.
 pub record FirstFiled (a : Adaptive) (states : ℕ) (times : List ℕ) (links : List (Link Row)) (slot : ℕ) : Type 0 where
   pub row : Row
   pub stands : Stands slot links row
-  pub first : (front : List (Link Row)) (l : Link Row) (back : List (Link Row)) → links ≡ front ++ l ∷ back → due_before a states (expiry_filed times l) (expiry_at row (get_or times slot 0)) ≡ false
+  pub first : (front : List (Link Row)) (l : Link Row) (back : List (Link Row)) → links ≡ front ++ l ∷ back
+      → due_before a states (expiry_filed times l) (expiry_at row (get_or times slot 0)) ≡ false
 
 module _ (a : Adaptive) (states : ℕ) (times : List ℕ) (links : List (Link Row)) (list : List (Expiry × ℕ)) (sorted : T (is_sorted expiry_cmp list))
     (i : IsIndexOf expiry_cmp (expiry_filed times) its_slot links (maps.from_sorted list)) where
@@ -163,51 +174,60 @@ module _ (a : Adaptive) (states : ℕ) (times : List ℕ) (links : List (Link Ro
 
   row_of_entry : (e : Expiry × ℕ) → Has e list → RowOf e
   row_of_entry e has =
-      elim (row_at expiry_cmp (expiry_filed times) links e.0) as (λ at. row_at expiry_cmp (expiry_filed times) links e.0 ≡ at → option_map its_slot at ≡ Some e.1 → RowOf e) [
+      elim (row_at expiry_cmp (expiry_filed times) links e.0) as (λ at. row_at expiry_cmp (expiry_filed times) links e.0 ≡ at
+      → option_map its_slot at ≡ Some e.1 → RowOf e) [
         | None ↦ λ at is. absurd (some_is_none e.1 (sym is))
         | Some l ↦ λ at is. record { link = l; at = at; slot = same_inside l.slot e.1 is }
-      ] refl (sym (sym (get-map_of expiry_cmp list e.0 sorted) ∙ made-get expiry_total expiry_exact (expiry_filed times) its_slot links (maps.from_sorted list) e.0 i) ∙ has-found e list sorted has)
+      ] refl (sym (sym (get-map_of expiry_cmp list e.0 sorted)
+      ∙ made-get expiry_total expiry_exact (expiry_filed times) its_slot links (maps.from_sorted list) e.0 i) ∙ has-found e list sorted has)
 
   -- the entry of a row
   entry-has : (front : List (Link Row)) (l : Link Row) (back : List (Link Row)) → links ≡ front ++ l ∷ back → Has (expiry_filed times l, l.slot) list
   entry-has front l back split =
       let there = subst (λ (ls : List (Link Row)). IsIndexOf expiry_cmp (expiry_filed times) its_slot ls (maps.from_sorted list)) split i in
-      found-has (expiry_filed times l) l.slot list (sym (get-map_of expiry_cmp list (expiry_filed times l) sorted) ∙ made-has expiry_total expiry_exact (expiry_filed times) its_slot front l back (maps.from_sorted list) there)
+      found-has (expiry_filed times l) l.slot list (sym (get-map_of expiry_cmp list (expiry_filed times l) sorted)
+      ∙ made-has expiry_total expiry_exact (expiry_filed times) its_slot front l back (maps.from_sorted list) there)
 
   first_of : (e : Expiry × ℕ) → foremost (entry_before a states) list ≡ Some e → FirstFiled a states times links e.1
   first_of e is =
       let its = row_of_entry e (foremost-has (entry_before a states) list e is) in
       let key : expiry_at its.link.value (get_or times e.1 0) ≡ e.0 =
-      ap (λ n. expiry_at its.link.value (get_or times n 0)) (sym its.slot) ∙ key_of_row expiry_total expiry_exact (expiry_filed times) links e.0 its.link its.at in
+      ap (λ n. expiry_at its.link.value (get_or times n 0)) (sym its.slot)
+      ∙ key_of_row expiry_total expiry_exact (expiry_filed times) links e.0 its.link its.at in
       let none = foremost-none_before (entry_before a states) (entry_before-asymmetric a states) (entry_before-passed_on a states) list e is in
       record {
         row = its.link.value;
         stands = subst (λ n. Stands n links its.link.value) its.slot (stands-by (expiry_filed times) links e.0 its.link its.at);
         first = λ front l back split.
-            ap (due_before a states (expiry_filed times l)) key ∙ none-has (entry_before a states) e list (expiry_filed times l, l.slot) none (entry-has front l back split);
+            ap (due_before a states (expiry_filed times l)) key
+            ∙ none-has (entry_before a states) e list (expiry_filed times l, l.slot) none (entry-has front l back split);
       }
 
   -- what its slot says
   pub first-filed : (slot : ℕ) → Some slot ≡ option_map (λ e. e.1) (foremost (entry_before a states) list) → FirstFiled a states times links slot
-  first-filed slot e = elim (foremost (entry_before a states) list) as (λ o. foremost (entry_before a states) list ≡ o → Some slot ≡ option_map (λ d. d.1) o → FirstFiled a states times links slot) [
-    | None ↦ λ is s. absurd (some_is_none slot s)
-    | Some d ↦ λ is s. subst (FirstFiled a states times links) (sym (same_inside slot d.1 s)) (first_of d is)
-  ] refl e
+  first-filed slot e = elim (foremost (entry_before a states) list) as (λ o. foremost (entry_before a states) list ≡ o
+      → Some slot ≡ option_map (λ d. d.1) o → FirstFiled a states times links slot) [
+        | None ↦ λ is s. absurd (some_is_none slot s)
+        | Some d ↦ λ is s. subst (FirstFiled a states times links) (sym (same_inside slot d.1 s)) (first_of d is)
+      ] refl e
 
   -- there is none where there are no rows
   pub none-filed : None ≡ option_map (λ e. e.1) (foremost (entry_before a states) list) → foremost (row_before a states) (map row_of_link links) ≡ None
-  none-filed e = elim (foremost (entry_before a states) list) as (λ o. foremost (entry_before a states) list ≡ o → None ≡ option_map (λ d. d.1) o → foremost (row_before a states) (map row_of_link links) ≡ None) [
-    | None ↦ λ is s. subst (λ (ls : List (Link Row)). foremost (row_before a states) (map row_of_link ls) ≡ None) (sym (no_links links (short is))) refl
-    | Some d ↦ λ is s. absurd (some_is_none d.1 (sym s))
-  ] refl e
+  none-filed e = elim (foremost (entry_before a states) list) as (λ o. foremost (entry_before a states) list ≡ o
+      → None ≡ option_map (λ d. d.1) o → foremost (row_before a states) (map row_of_link links) ≡ None) [
+        | None ↦ λ is s. subst (λ (ls : List (Link Row)). foremost (row_before a states) (map row_of_link ls) ≡ None) (sym (no_links links (short is))) refl
+        | Some d ↦ λ is s. absurd (some_is_none d.1 (sym s))
+      ] refl e
     where
       short : foremost (entry_before a states) list ≡ None → length links ≡ 0
       short is =
           sym (made-len expiry_total expiry_exact (expiry_filed times) its_slot links (maps.from_sorted list) i)
-          ∙ (len-entries (maps.from_sorted list) ∙ (ap length (entries-from_sorted expiry_cmp list sorted) ∙ ap length (foremost-none (entry_before a states) list is)))
+          ∙ (len-entries (maps.from_sorted list)
+          ∙ (ap length (entries-from_sorted expiry_cmp list sorted) ∙ ap length (foremost-none (entry_before a states) list is)))
 
 -- A row that is due first as it was filed at its last use expires first: no other one was filed after its last use.
-module _ (a : Adaptive) (states : ℕ) (times : List ℕ) (links : List (Link Row)) (names : Distinct name_cmp (key_of name_of) links) (used : NoneLater times links)
+module _ (a : Adaptive) (states : ℕ) (times : List ℕ) (links : List (Link Row)) (names : Distinct name_cmp (key_of name_of) links)
+    (used : NoneLater times links)
     (slot : ℕ) (f : FirstFiled a states times links slot) (not_used : f.row.state.last ≤ get_or times slot 0) where
   fresh : get_or times slot 0 ≡ f.row.state.last
   fresh =
@@ -228,10 +248,12 @@ module _ (a : Adaptive) (states : ℕ) (times : List ℕ) (links : List (Link Ro
       let name : name_of r ≡ name_of f.row = level_name a states (expiry_of r) (expiry_of f.row) first second in
       let its = found f.stands.front (record { slot = slot; value = f.row }) f.stands.back f.stands.split in
       let again = found of.front of.at of.back of.split in
-      let same = same_inside of.at (record { slot = slot; value = f.row }) (sym again ∙ (ap (row_at name_cmp (key_of name_of) links) (ap name_of of.value ∙ name) ∙ its)) in
+      let same = same_inside of.at (record { slot = slot; value = f.row })
+      (sym again ∙ (ap (row_at name_cmp (key_of name_of) links) (ap name_of of.value ∙ name) ∙ its)) in
       sym of.value ∙ ap row_of_link same
     where
-      found : (front : List (Link Row)) (l : Link Row) (back : List (Link Row)) → links ≡ front ++ l ∷ back → row_at name_cmp (key_of name_of) links (name_of l.value) ≡ Some l
+      found : (front : List (Link Row)) (l : Link Row) (back : List (Link Row)) → links ≡ front ++ l ∷ back
+          → row_at name_cmp (key_of name_of) links (name_of l.value) ≡ Some l
       found front l back split =
           subst (λ (ls : List (Link Row)). row_at name_cmp (key_of name_of) ls (name_of l.value) ≡ Some l) (sym split)
           (stands-found names_total names_exact name_of front l back (subst (Distinct name_cmp (key_of name_of)) split names))
@@ -242,6 +264,7 @@ module _ (a : Adaptive) (states : ℕ) (times : List ℕ) (links : List (Link Ro
       (row_before-asymmetric a states)
       (row_before-passed_on a states)
       f.row (map row_of_link links)
-      (subst (λ (ls : List (Link Row)). Has f.row (map row_of_link ls)) (sym f.stands.split) (has-between f.stands.front (record { slot = slot; value = f.row }) f.stands.back))
+      (subst (λ (ls : List (Link Row)). Has f.row (map row_of_link ls)) (sym f.stands.split)
+      (has-between f.stands.front (record { slot = slot; value = f.row }) f.stands.back))
       (none_before (row_before a states) f.row (map row_of_link links) not_before)
       only

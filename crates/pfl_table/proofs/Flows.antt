@@ -65,8 +65,10 @@ numbers_key : (a b : Key) → flow_of a ≡ flow_of b → is_key a b ≡ true
 numbers_key a b e =
     both _ _
     (both _ _ (is_number _ _ (ap (λ (f : Flow). f.proto) e))
-    (both _ _ (numbers_addr a.far.addr b.far.addr (ap (λ (f : Flow). f.far) e) (ap (λ (f : Flow). f.far_version) e)) (is_number _ _ (ap (λ (f : Flow). f.far_port) e))))
-    (both _ _ (numbers_addr a.near.addr b.near.addr (ap (λ (f : Flow). f.near) e) (ap (λ (f : Flow). f.near_version) e)) (is_number _ _ (ap (λ (f : Flow). f.near_port) e)))
+    (both _ _ (numbers_addr a.far.addr b.far.addr (ap (λ (f : Flow). f.far) e) (ap (λ (f : Flow). f.far_version) e))
+    (is_number _ _ (ap (λ (f : Flow). f.far_port) e))))
+    (both _ _ (numbers_addr a.near.addr b.near.addr (ap (λ (f : Flow). f.near) e) (ap (λ (f : Flow). f.near_version) e))
+    (is_number _ _ (ap (λ (f : Flow). f.near_port) e)))
 
 pub same_test : (x y : Bool) → (x ≡ true → y ≡ true) → (y ≡ true → x ≡ true) → x ≡ y
 same_test true y f g = sym (f refl)

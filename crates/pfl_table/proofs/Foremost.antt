@@ -74,9 +74,11 @@ module _ {X : Type 0} (before : X → X → Bool) where
       | false ↦ λ e. refl
     ] refl
 
-    one_of_three : (x y z : X) → cond (before (cond (before x y) x y) z) (cond (before x y) x y) z ≡ cond (before x (cond (before y z) y z)) x (cond (before y z) y z)
+    one_of_three : (x y z : X)
+        → cond (before (cond (before x y) x y) z) (cond (before x y) x y) z ≡ cond (before x (cond (before y z) y z)) x (cond (before y z) y z)
     one_of_three x y z =
-        elim (before x y) as (λ b. before x y ≡ b → cond (before (cond b x y) z) (cond b x y) z ≡ cond (before x (cond (before y z) y z)) x (cond (before y z) y z)) [
+        elim (before x y) as (λ b. before x y ≡ b
+        → cond (before (cond b x y) z) (cond b x y) z ≡ cond (before x (cond (before y z) y z)) x (cond (before y z) y z)) [
           | true ↦ λ e. elim (before y z) as (λ c. before y z ≡ c → cond (before x z) x z ≡ cond (before x (cond c y z)) x (cond c y z)) [
             | true ↦ λ f. ap (λ b. cond b x z) (passed_on y z x f (asymmetric x y e)) ∙ sym (ap (λ b. cond b x y) e)
             | false ↦ λ f. refl
@@ -116,22 +118,26 @@ module _ {X : Type 0} (before : X → X → Bool) where
         ∙ sym (foremost-append (x ∷ ys) zs)
 
     -- the first of those that were looked at and of those that are left, when one more is looked at
-    pub joined-next : (o : Option X) (x : X) (xs all : List X) → joined before o (foremost before (x ∷ xs)) ≡ foremost before all → joined before (joined before o (Some x)) (foremost before xs) ≡ foremost before all
+    pub joined-next : (o : Option X) (x : X) (xs all : List X) → joined before o (foremost before (x ∷ xs)) ≡ foremost before all
+        → joined before (joined before o (Some x)) (foremost before xs) ≡ foremost before all
     joined-next o x xs all is = joined-twice o (Some x) (foremost before xs) ∙ (ap (joined before o) (sym (foremost-more x xs)) ∙ is)
 
     -- none of the list stands before the first
     pub foremost-none_before : (xs : List X) (m : X) → foremost before xs ≡ Some m → NoneBefore before m xs
     foremost-none_before [] m e = tt
-    foremost-none_before (x ∷ xs) m e = elim (foremost before xs) as (λ o. foremost before xs ≡ o → joined before (Some x) o ≡ Some m → NoneBefore before m (x ∷ xs)) [
-      | None ↦ λ is s. subst (λ n. NoneBefore before n (x ∷ xs)) (same_inside x m s) (apart x, subst (NoneBefore before x) (sym (foremost-none xs is)) tt)
-      | Some y ↦ λ is s. elim (before x y) as (λ b. before x y ≡ b → Some (cond b x y) ≡ Some m → NoneBefore before m (x ∷ xs)) [
-        | true ↦ λ f t. subst (λ n. NoneBefore before n (x ∷ xs)) (same_inside x m t) (apart x, none_through before asymmetric passed_on x y xs f (foremost-none_before xs y is))
-        | false ↦ λ f t. subst (λ n. NoneBefore before n (x ∷ xs)) (same_inside y m t) (f, foremost-none_before xs y is)
-      ] refl s
-    ] refl (sym (foremost-more x xs) ∙ e)
+    foremost-none_before (x ∷ xs) m e = elim (foremost before xs) as (λ o. foremost before xs ≡ o → joined before (Some x) o ≡ Some m
+        → NoneBefore before m (x ∷ xs)) [
+          | None ↦ λ is s. subst (λ n. NoneBefore before n (x ∷ xs)) (same_inside x m s) (apart x, subst (NoneBefore before x) (sym (foremost-none xs is)) tt)
+          | Some y ↦ λ is s. elim (before x y) as (λ b. before x y ≡ b → Some (cond b x y) ≡ Some m → NoneBefore before m (x ∷ xs)) [
+            | true ↦ λ f t. subst (λ n. NoneBefore before n (x ∷ xs)) (same_inside x m t)
+                (apart x, none_through before asymmetric passed_on x y xs f (foremost-none_before xs y is))
+            | false ↦ λ f t. subst (λ n. NoneBefore before n (x ∷ xs)) (same_inside y m t) (f, foremost-none_before xs y is)
+          ] refl s
+        ] refl (sym (foremost-more x xs) ∙ e)
 
     -- one of the list that none stands before is the first, if no other one is level with it
-    pub first_is : (m : X) (xs : List X) → Has m xs → NoneBefore before m xs → ((x : X) → Has x xs → before x m ≡ false → before m x ≡ false → x ≡ m) → foremost before xs ≡ Some m
+    pub first_is : (m : X) (xs : List X) → Has m xs → NoneBefore before m xs
+        → ((x : X) → Has x xs → before x m ≡ false → before m x ≡ false → x ≡ m) → foremost before xs ≡ Some m
     first_is m xs has none level = elim (foremost before xs) as (λ o. foremost before xs ≡ o → o ≡ Some m) [
       | None ↦ λ is. absurd (subst (Has m) (foremost-none xs is) has)
       | Some y ↦ λ is.

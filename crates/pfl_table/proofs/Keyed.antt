@@ -37,7 +37,8 @@ module _ {K X : Type 0} {R : K → K → Ordering} (o : IsTotalOrder R) (exact :
       ] refl
 
   -- the one that passes is found
-  pub first_value-some : (m : Map R X) (k : K) (v : X) → maps.get m k ≡ Some v → p v ≡ true → ((q : K) (u : X) → maps.get m q ≡ Some u → p u ≡ true → q ≡ k) → first_value p m ≡ Some v
+  pub first_value-some : (m : Map R X) (k : K) (v : X) → maps.get m k ≡ Some v → p v ≡ true
+      → ((q : K) (u : X) → maps.get m q ≡ Some u → p u ≡ true → q ≡ k) → first_value p m ≡ Some v
   first_value-some m k v is pv one =
       elim (first_value p m) as (λ found. first_value p m ≡ found → found ≡ Some v) [
         | None ↦ λ none. true_is_false (sym pv ∙ no_value_passes o exact p m none k v is)

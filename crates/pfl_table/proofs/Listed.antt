@@ -28,7 +28,8 @@ use Rattle.pfl_table.proofs.Scanned.{find-map}
 abbrev pub entry_of : Link Row → ByName × ℕ
 entry_of l = (by_name l.value, l.slot)
 
-below-by_name : (q : StateName) (links : List (Link Row)) → IsBelow name_cmp (key_of name_of) q links → IsBelow by_name_cmp (key_of by_name) (record { 0 = q }) links
+below-by_name : (q : StateName) (links : List (Link Row)) → IsBelow name_cmp (key_of name_of) q links
+    → IsBelow by_name_cmp (key_of by_name) (record { 0 = q }) links
 below-by_name q [] h = tt
 below-by_name q (l ∷ links) h = (h.0, below-by_name q links h.1)
 
@@ -40,7 +41,8 @@ entries-of : (links : List (Link Row)) → map (at_value slot_of_link) (map (fil
 entries-of [] = refl
 entries-of (l ∷ links) = ap (λ (es : List (ByName × ℕ)). entry_of l ∷ es) (entries-of links)
 
-listed : (list : List (ByName × ℕ)) (links : List (Link Row)) → T (is_sorted by_name_cmp list) → IsIndex by_name_cmp by_name links (maps.from_sorted list) → IsRising name_cmp (key_of name_of) links → list ≡ map entry_of links
+listed : (list : List (ByName × ℕ)) (links : List (Link Row)) → T (is_sorted by_name_cmp list)
+    → IsIndex by_name_cmp by_name links (maps.from_sorted list) → IsRising name_cmp (key_of name_of) links → list ≡ map entry_of links
 listed list links sorted i r =
     sym (entries-from_sorted by_name_cmp list sorted)
     ∙ (ap maps.entries i.is
@@ -48,7 +50,8 @@ listed list links sorted i r =
     ∙ (ap (map (at_value slot_of_link)) (entries-map_of by_name_total (key_of by_name) links (rising-by_name links r)) ∙ entries-of links)))
 
 -- the first entry above a name is that of the first row above it
-pub find-listed : (list : List (ByName × ℕ)) (links : List (Link Row)) → T (is_sorted by_name_cmp list) → IsIndex by_name_cmp by_name links (maps.from_sorted list) → IsRising name_cmp (key_of name_of) links → (name : StateName)
+pub find-listed : (list : List (ByName × ℕ)) (links : List (Link Row)) → T (is_sorted by_name_cmp list)
+    → IsIndex by_name_cmp by_name links (maps.from_sorted list) → IsRising name_cmp (key_of name_of) links → (name : StateName)
     → find (λ e. is_lt (by_name_cmp (record { 0 = name }) e.0)) list ≡ option_map entry_of (find (λ l. is_lt (name_cmp name (name_of l.value))) links)
 find-listed list links sorted i r name =
     let test = λ (e : ByName × ℕ). is_lt (by_name_cmp (record { 0 = name }) e.0) in
@@ -62,7 +65,8 @@ pub record SomeRow (at : Option (Link Row)) (e : ByName × ℕ) : Type 0 where
 
 pub some_row : (at : Option (Link Row)) (found : Option (ByName × ℕ)) (e : ByName × ℕ) → found ≡ option_map entry_of at → found ≡ Some e → SomeRow at e
 some_row None found e is some = absurd (some_is_none e (sym some ∙ is))
-some_row (Some l) found e is some = let same : entry_of l ≡ e = inner (entry_of l) e (sym is ∙ some) in record { row = l; is = refl; slot = ap (λ (d : ByName × ℕ). d.1) same }
+some_row (Some l) found e is some = let same : entry_of l ≡ e = inner (entry_of l) e (sym is ∙ some)
+    in record { row = l; is = refl; slot = ap (λ (d : ByName × ℕ). d.1) same }
   where
     inner : (d e : ByName × ℕ) → Some d ≡ Some e → d ≡ e
     inner d e s = cc
@@ -80,12 +84,17 @@ find-stands test (x ∷ links) l is = elim (test x) as (λ b. cond b (Some x) (f
 ] is
 
 -- the slot of the first row above a name, as an index found it
-abbrev pub above-found : (links : List (Link Row)) (name : StateName) (l : Link Row) (slot : ℕ) → find (λ k. is_lt (name_cmp name (name_of k.value))) links ≡ Some l → l.slot ≡ slot → FoundAt links (Some slot)
-above-found links name l slot is same = record { which = Some l; is = ap Some (sym same); stands = find-stands (λ k. is_lt (name_cmp name (name_of k.value))) links l is }
+abbrev pub above-found : (links : List (Link Row)) (name : StateName) (l : Link Row) (slot : ℕ)
+    → find (λ k. is_lt (name_cmp name (name_of k.value))) links ≡ Some l → l.slot ≡ slot → FoundAt links (Some slot)
+above-found links name l slot is same =
+    record { which = Some l; is = ap Some (sym same); stands = find-stands (λ k. is_lt (name_cmp name (name_of k.value))) links l is }
 
-module _ (rows : Lists Row) (name : StateName) (one : length rows.lists ≡ 1) (rising : IsRising name_cmp (key_of name_of) (links_of rows 0)) (none : HasNone name_cmp name_of (links_of rows 0) name) where
-  split-at : (next : Option (Link Row)) → find (λ l. is_lt (name_cmp name (name_of l.value))) (links_of rows 0) ≡ next → Parts names_total (key_of name_of) name (links_of rows 0) next
-  split-at next is = subst (Parts names_total (key_of name_of) name (links_of rows 0)) is (parts names_total (key_of name_of) name (links_of rows 0) rising none)
+module _ (rows : Lists Row) (name : StateName) (one : length rows.lists ≡ 1)
+    (rising : IsRising name_cmp (key_of name_of) (links_of rows 0)) (none : HasNone name_cmp name_of (links_of rows 0) name) where
+  split-at : (next : Option (Link Row)) → find (λ l. is_lt (name_cmp name (name_of l.value))) (links_of rows 0) ≡ next
+      → Parts names_total (key_of name_of) name (links_of rows 0) next
+  split-at next is = subst (Parts names_total (key_of name_of) name (links_of rows 0)) is
+      (parts names_total (key_of name_of) name (links_of rows 0) rising none)
 
   -- the slot of the first row above the name, and the gap before it
   pub record Next (slot : ℕ) : Type 0 where
@@ -113,7 +122,8 @@ module _ (rows : Lists Row) (name : StateName) (one : length rows.lists ≡ 1) (
       }
 
   -- no row is above it
-  pub last-gap : find (λ l. is_lt (name_cmp name (name_of l.value))) (links_of rows 0) ≡ None → (behind : Option ℕ) → behind ≡ last_slot (links_of rows 0) → NameGap rows name behind
+  pub last-gap : find (λ l. is_lt (name_cmp name (name_of l.value))) (links_of rows 0) ≡ None → (behind : Option ℕ)
+      → behind ≡ last_slot (links_of rows 0) → NameGap rows name behind
   last-gap is behind ends =
       let p = split-at None is in
       let none_behind : p.back ≡ [] = p.first in

@@ -26,7 +26,8 @@ module _ (t : Table) (name : StateName) (to : Motion) (timeout : ℕ) where
   pub moved-none : maps.get t.rows name ≡ None → t ≡ with_moved t name to timeout
   moved-none none =
       ap (λ m. record { limit = t.limit; rows = m })
-      (sym (set_at-same names_total names_exact t.rows name (option_map (row_moved to timeout) (maps.get t.rows name)) (none ∙ sym (ap (option_map (row_moved to timeout)) none))))
+      (sym (set_at-same names_total names_exact t.rows name (option_map (row_moved to timeout) (maps.get t.rows name))
+      (none ∙ sym (ap (option_map (row_moved to timeout)) none))))
 
   module _ (is : IsTable t) (r : Row) (at : Some r ≡ maps.get t.rows name) where
     abbrev moved : Row
@@ -45,7 +46,9 @@ module _ (t : Table) (name : StateName) (to : Motion) (timeout : ℕ) where
     -- it keeps the table one,
     pub moved-table : IsTable (with_row t r.state.name (Some moved))
     moved-table = subst (λ (n : StateName). IsTable (with_row t n (Some moved))) moved-name
-        (table_changed t name moved r.state moved-name is held (subst (λ (o : Option State). IfSome o (λ s. s.wire ≡ r.state.wire)) (sym there) refl) (subst (λ (o : Option State). IfSome o (λ s. s.stack ≡ r.state.stack)) (sym there) refl))
+        (table_changed t name moved r.state moved-name is held
+        (subst (λ (o : Option State). IfSome o (λ s. s.wire ≡ r.state.wire)) (sym there) refl)
+        (subst (λ (o : Option State). IfSome o (λ s. s.stack ≡ r.state.stack)) (sym there) refl))
 
     -- it comes in the place of that row,
     pub moved-known : IsSome (maps.get t.rows r.state.name)
@@ -53,7 +56,8 @@ module _ (t : Table) (name : StateName) (to : Motion) (timeout : ℕ) where
 
     -- whose keys and rule it has,
     pub moved-keys : IfSome (maps.get t.rows r.state.name) (λ was. SameKeys was moved)
-    moved-keys = subst (λ (o : Option Row). IfSome o (λ was. SameKeys was moved)) (at ∙ ap (maps.get t.rows) moved-name) (record { name = refl; wire = refl; stack = refl; rule = refl })
+    moved-keys = subst (λ (o : Option Row). IfSome o (λ was. SameKeys was moved)) (at ∙ ap (maps.get t.rows) moved-name)
+        (record { name = refl; wire = refl; stack = refl; rule = refl })
 
     -- and it is the one that was moved
     pub moved-is : with_row t r.state.name (Some moved) ≡ with_moved t name to timeout
@@ -66,6 +70,8 @@ module _ (t : Table) (name : StateName) (to : Motion) (timeout : ℕ) where
     moved-former = ap (option_map motion) held
 
 -- the state of a packet is that of the row that its flow finds
-pub link_found-state : (f : Filing) → AreFiled f → (key : Key) (direction : Dir) → option_map (λ (r : Row). r.state) (option_map row_of_link (link_found f.links (flow_of key) direction)) ≡ found (states_of (table_of f)) key direction
+pub link_found-state : (f : Filing) → AreFiled f → (key : Key) (direction : Dir)
+    → option_map (λ (r : Row). r.state) (option_map row_of_link (link_found f.links (flow_of key) direction))
+    ≡ found (states_of (table_of f)) key direction
 link_found-state f are key Inbound = mapped_twice (λ (r : Row). r.state) row_of_link _ ∙ sym (find-key f are.rising (λ (s : State). s.wire) are.wires key)
 link_found-state f are key Outbound = mapped_twice (λ (r : Row). r.state) row_of_link _ ∙ sym (find-key f are.rising (λ (s : State). s.stack) are.stacks key)

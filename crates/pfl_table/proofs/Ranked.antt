@@ -28,7 +28,8 @@ module _ {K X : Type 0} (R : K → K → Ordering) (key : X → K) where
   rising-without (y ∷ f) x b r = (below-without (key y) f x b r.0, rising-without f x b r.1)
 
   -- a row more, above those before it and below those after it
-  pub rising-with : (f : List X) (x : X) (b : List X) → IsRising R key (f ++ b) → IsAbove R key (key x) f → IsBelow R key (key x) b → IsRising R key (f ++ x ∷ b)
+  pub rising-with : (f : List X) (x : X) (b : List X) → IsRising R key (f ++ b) → IsAbove R key (key x) f → IsBelow R key (key x) b
+      → IsRising R key (f ++ x ∷ b)
   rising-with [] x b r above below = (below, r)
   rising-with (y ∷ f) x b r above below = (below-with (key y) f x b above.0 r.0, rising-with f x b r.1 above.1 below)
 

@@ -12,7 +12,8 @@ use Rattle.pfl_base.specs.Names.{name_cmp}
 use Rattle.pfl_base.proofs.ForCallers.{names_total, names_exact}
 use Rattle.pfl_edits.specs.Maps as maps
 use Rattle.pfl_edits.specs.Maps.{Map, set_at}
-use Rattle.pfl_edits.proofs.ForCallers.{get-set_at_same, get-set_at_other, set_at-set_at, row_at, Distinct, Distinct-without, map_of-between, map_of-without, some_is_none}
+use Rattle.pfl_edits.proofs.ForCallers.{get-set_at_same, get-set_at_other, set_at-set_at, row_at, Distinct, Distinct-without, map_of-between}
+use Rattle.pfl_edits.proofs.ForCallers.{map_of-without, some_is_none}
 use Rattle.pfl_edits.specs.Rows.{map_of}
 use Rattle.pfl_containers.specs.declared.by_name.ByName.{ByName}
 use Rattle.pfl_containers.specs.Lists.{Link, link}
@@ -27,7 +28,8 @@ use Rattle.pfl_table.specs.declared.row.Row.{Row}
 use Rattle.pfl_table.specs.inner.Ordering.{Flow, number_of, version_of, flow_of, flow_cmp, flow_total, flow_exact, by_name}
 use Rattle.pfl_table.specs.Tables.{Table, IsTable, AreStates, states_of, with_row}
 use Rattle.pfl_table.proofs.Tables.{get-states_of}
-use Rattle.pfl_table.specs.inner.Filed.{Filing, AreStated, HasNoKey, OthersHaveNoKey, GainsRow, LosesRow, ChangesRow, name_of, wire_flow, stack_flow, rows_of, table_of, row_of_link}
+use Rattle.pfl_table.specs.inner.Filed.{Filing, AreStated, HasNoKey, OthersHaveNoKey, GainsRow, LosesRow, ChangesRow, name_of, wire_flow, stack_flow}
+use Rattle.pfl_table.specs.inner.Filed.{rows_of, table_of, row_of_link}
 use Rattle.pfl_table.proofs.Viewed.{found-again, get-rows_of}
 
 -- ---- flows of states are keys
@@ -67,51 +69,64 @@ pub stated-without : (front : List (Link Row)) (l : Link Row) (back : List (Link
 stated-without [] l back are = are.1
 stated-without (x ∷ front) l back are = (are.0, stated-without front l back are.1)
 
-pub stated-with : (front : List (Link Row)) (l : Link Row) (back : List (Link Row)) → AreStated (front ++ back) → IsState l.value.state → AreStated (front ++ l ∷ back)
+pub stated-with : (front : List (Link Row)) (l : Link Row) (back : List (Link Row)) → AreStated (front ++ back) → IsState l.value.state
+    → AreStated (front ++ l ∷ back)
 stated-with [] l back are is = (is, are)
 stated-with (x ∷ front) l back are is = (are.0, stated-with front l back are.1 is)
 
 -- ---- the rows by their names
 
-rows-with : (front : List (Link Row)) (l : Link Row) (back : List (Link Row)) → HasNone name_cmp name_of (front ++ back) (name_of l.value) → rows_of (front ++ l ∷ back) ≡ maps.insert (rows_of (front ++ back)) (name_of l.value) l.value
+rows-with : (front : List (Link Row)) (l : Link Row) (back : List (Link Row)) → HasNone name_cmp name_of (front ++ back) (name_of l.value)
+    → rows_of (front ++ l ∷ back) ≡ maps.insert (rows_of (front ++ back)) (name_of l.value) l.value
 rows-with front l back none =
     ap (map_values row_of_link) (map_of-between names_total names_exact (key_of name_of) front l back none)
     ∙ map_values-set_at names_total names_exact row_of_link (map_of name_cmp (key_of name_of) (front ++ back)) (name_of l.value) (Some l)
 
-rows-without : (front : List (Link Row)) (l : Link Row) (back : List (Link Row)) → Distinct name_cmp (key_of name_of) (front ++ l ∷ back) → rows_of (front ++ back) ≡ maps.remove (rows_of (front ++ l ∷ back)) (name_of l.value)
+rows-without : (front : List (Link Row)) (l : Link Row) (back : List (Link Row)) → Distinct name_cmp (key_of name_of) (front ++ l ∷ back)
+    → rows_of (front ++ back) ≡ maps.remove (rows_of (front ++ l ∷ back)) (name_of l.value)
 rows-without front l back d =
-    ap (map_values row_of_link) (map_of-without names_total names_exact (key_of name_of) front l back (Distinct-without names_total names_exact (key_of name_of) front l back d).0)
+    ap (map_values row_of_link)
+    (map_of-without names_total names_exact (key_of name_of) front l back
+    (Distinct-without names_total names_exact (key_of name_of) front l back d).0)
     ∙ map_values-set_at names_total names_exact row_of_link (map_of name_cmp (key_of name_of) (front ++ l ∷ back)) (name_of l.value) None
 
-same_table : (old new : Filing) (name : StateName) (at : Option Row) → new.limit ≡ old.limit → rows_of new.links ≡ set_at (rows_of old.links) name at → table_of new ≡ with_row (table_of old) name at
+same_table : (old new : Filing) (name : StateName) (at : Option Row) → new.limit ≡ old.limit
+    → rows_of new.links ≡ set_at (rows_of old.links) name at → table_of new ≡ with_row (table_of old) name at
 same_table old new name at limit rows = λ i. record { limit = limit i; rows = rows i }
 
 -- a row more
-pub table-gains : (old new : Filing) (r : Row) → GainsRow old new r → HasNone name_cmp name_of old.links (name_of r) → table_of new ≡ with_row (table_of old) (name_of r) (Some r)
+pub table-gains : (old new : Filing) (r : Row) → GainsRow old new r → HasNone name_cmp name_of old.links (name_of r)
+    → table_of new ≡ with_row (table_of old) (name_of r) (Some r)
 table-gains old new r g none =
     same_table old new (name_of r) (Some r) g.limit
     (ap rows_of g.is ∙ (rows-with g.front (link g.slot r) g.back (subst (λ (ls : List (Link Row)). HasNone name_cmp name_of ls (name_of r)) g.was none)
     ∙ ap (λ (ls : List (Link Row)). maps.insert (rows_of ls) (name_of r) r) (sym g.was)))
 
 -- a row less
-pub table-loses : (old new : Filing) (r : Row) → LosesRow old new r → Distinct name_cmp (key_of name_of) old.links → table_of new ≡ with_row (table_of old) (name_of r) None
+pub table-loses : (old new : Filing) (r : Row) → LosesRow old new r → Distinct name_cmp (key_of name_of) old.links
+    → table_of new ≡ with_row (table_of old) (name_of r) None
 table-loses old new r g d =
     same_table old new (name_of r) None g.limit
     (ap rows_of g.is ∙ (rows-without g.front (link g.slot r) g.back (subst (Distinct name_cmp (key_of name_of)) g.was d)
     ∙ ap (λ (ls : List (Link Row)). maps.remove (rows_of ls) (name_of r)) (sym g.was)))
 
 -- rows but for one, with another one of its name
-changed_rows : (front back : List (Link Row)) (slot : ℕ) (was r : Row) → name_of r ≡ name_of was → Distinct name_cmp (key_of name_of) (front ++ link slot was ∷ back)
+changed_rows : (front back : List (Link Row)) (slot : ℕ) (was r : Row) → name_of r ≡ name_of was
+    → Distinct name_cmp (key_of name_of) (front ++ link slot was ∷ back)
     → maps.insert (rows_of (front ++ back)) (name_of r) r ≡ maps.insert (rows_of (front ++ link slot was ∷ back)) (name_of r) r
 changed_rows front back slot was r same d =
-    ap (λ (m : Map name_cmp Row). maps.insert m (name_of r) r) (rows-without front (link slot was) back d ∙ ap (maps.remove (rows_of (front ++ link slot was ∷ back))) (sym same))
+    ap (λ (m : Map name_cmp Row). maps.insert m (name_of r) r) (rows-without front (link slot was) back d
+    ∙ ap (maps.remove (rows_of (front ++ link slot was ∷ back))) (sym same))
     ∙ set_at-set_at names_total names_exact (rows_of (front ++ link slot was ∷ back)) (name_of r) None (Some r)
 
-others_no_name : (front back : List (Link Row)) (slot : ℕ) (was r : Row) → name_of r ≡ name_of was → Distinct name_cmp (key_of name_of) (front ++ link slot was ∷ back) → HasNone name_cmp name_of (front ++ back) (name_of r)
-others_no_name front back slot was r same d = ap (row_at name_cmp (key_of name_of) (front ++ back)) same ∙ (Distinct-without names_total names_exact (key_of name_of) front (link slot was) back d).0
+others_no_name : (front back : List (Link Row)) (slot : ℕ) (was r : Row) → name_of r ≡ name_of was
+    → Distinct name_cmp (key_of name_of) (front ++ link slot was ∷ back) → HasNone name_cmp name_of (front ++ back) (name_of r)
+others_no_name front back slot was r same d = ap (row_at name_cmp (key_of name_of) (front ++ back)) same
+    ∙ (Distinct-without names_total names_exact (key_of name_of) front (link slot was) back d).0
 
 -- another row of the same name
-pub table-changes : (old new : Filing) (was r : Row) → ChangesRow old new was r → name_of r ≡ name_of was → Distinct name_cmp (key_of name_of) old.links → table_of new ≡ with_row (table_of old) (name_of r) (Some r)
+pub table-changes : (old new : Filing) (was r : Row) → ChangesRow old new was r → name_of r ≡ name_of was
+    → Distinct name_cmp (key_of name_of) old.links → table_of new ≡ with_row (table_of old) (name_of r) (Some r)
 table-changes old new was r g same d =
     let apart = subst (Distinct name_cmp (key_of name_of)) g.was d in
     same_table old new (name_of r) (Some r) g.limit
@@ -144,7 +159,9 @@ module _ (limit : ℕ) (links : List (Link Row)) (r : Row) (none : HasNone name_
       let at = found-again flow_cmp names_total names_exact name_of wire_flow links (wire_flow r) l names found in
       let s = found-stands flow_cmp wire_flow links (wire_flow r) l found in
       let its = stated-at s.front l s.back (subst AreStated s.split stated) in
-      let same : l.value.state.wire ≡ r.state.wire = same_key_of_flow l.value.state.wire r.state.wire its.proto is.proto (key_of_row flow_total flow_exact (key_of wire_flow) links (wire_flow r) l found) in
+      let same : l.value.state.wire ≡ r.state.wire =
+      same_key_of_flow l.value.state.wire r.state.wire its.proto is.proto
+      (key_of_row flow_total flow_exact (key_of wire_flow) links (wire_flow r) l found) in
       other_name l at (are.one_wire (name_of l.value) (name_of r) l.value.state r.state (there l at) here same)
 
   no_stack : (l : Link Row) → row_at flow_cmp (key_of stack_flow) links (stack_flow r) ≡ Some l → ⊥
@@ -153,7 +170,8 @@ module _ (limit : ℕ) (links : List (Link Row)) (r : Row) (none : HasNone name_
       let s = found-stands flow_cmp stack_flow links (stack_flow r) l found in
       let its = stated-at s.front l s.back (subst AreStated s.split stated) in
       let same : l.value.state.stack ≡ r.state.stack =
-      same_key_of_flow l.value.state.stack r.state.stack (stack_proto l.value.state its) (stack_proto r.state is) (key_of_row flow_total flow_exact (key_of stack_flow) links (stack_flow r) l found) in
+      same_key_of_flow l.value.state.stack r.state.stack (stack_proto l.value.state its) (stack_proto r.state is)
+      (key_of_row flow_total flow_exact (key_of stack_flow) links (stack_flow r) l found) in
       other_name l at (are.one_stack (name_of l.value) (name_of r) l.value.state r.state (there l at) here same)
 
   no_name : (l : Link Row) → row_at by_name_cmp (key_of by_name) links (by_name r) ≡ Some l → ⊥
@@ -169,15 +187,18 @@ module _ (limit : ℕ) (links : List (Link Row)) (r : Row) (none : HasNone name_
   }
 
 -- what makes a table of the rows with one more leaves it keys of its own
-pub table-no_key : (f : Filing) (r : Row) → AreStated f.links → IsState r.state → Distinct name_cmp (key_of name_of) f.links → HasNone name_cmp name_of f.links (name_of r) → IsTable (with_row (table_of f) (name_of r) (Some r)) → HasNoKey f.links r
+pub table-no_key : (f : Filing) (r : Row) → AreStated f.links → IsState r.state → Distinct name_cmp (key_of name_of) f.links
+    → HasNone name_cmp name_of f.links (name_of r) → IsTable (with_row (table_of f) (name_of r) (Some r)) → HasNoKey f.links r
 table-no_key f r stated is names none table = has_no_key f.limit f.links r none stated is names table.states
 
 -- and of the rows with another one of its name
-pub table-others : (f : Filing) (r : Row) → AreStated f.links → IsState r.state → Distinct name_cmp (key_of name_of) f.links → IsTable (with_row (table_of f) (name_of r) (Some r)) → OthersHaveNoKey f.links r
+pub table-others : (f : Filing) (r : Row) → AreStated f.links → IsState r.state → Distinct name_cmp (key_of name_of) f.links
+    → IsTable (with_row (table_of f) (name_of r) (Some r)) → OthersHaveNoKey f.links r
 table-others f r stated is names table slot was front back split same =
     let d = subst (Distinct name_cmp (key_of name_of)) split names in
     let are : AreStates (states_of (record { limit = f.limit; rows = maps.insert (rows_of (front ++ back)) (name_of r) r })) =
     subst (λ (m : Map name_cmp Row). AreStates (states_of (record { limit = f.limit; rows = m })))
     (ap (λ (ls : List (Link Row)). maps.insert (rows_of ls) (name_of r) r) split ∙ sym (changed_rows front back slot was r same d)) table.states in
-    has_no_key f.limit (front ++ back) r (others_no_name front back slot was r same d) (stated-without front (link slot was) back (subst AreStated split stated)) is
+    has_no_key f.limit (front ++ back) r (others_no_name front back slot was r same d)
+    (stated-without front (link slot was) back (subst AreStated split stated)) is
     (Distinct-without names_total names_exact (key_of name_of) front (link slot was) back d).1 are

@@ -46,7 +46,8 @@ pub known_row : (t : Table) (name : StateName) → is_some (maps.get t.rows name
 known_row t name = sym (ap is_some (get-states_of t name) ∙ is_some-map (λ (r : Row). r.state) (maps.get t.rows name))
 
 -- a state more
-pub table_put : (t : Table) (name : StateName) (row : Row) → name ≡ row.state.name → IsTable t → put_fault t row.state ≡ None → IsTable (with_row t name (Some row))
+pub table_put : (t : Table) (name : StateName) (row : Row) → name ≡ row.state.name → IsTable t → put_fault t row.state ≡ None
+    → IsTable (with_row t name (Some row))
 table_put t name row named is none =
     let may = may_put t row.state none in
     subst (λ (n : StateName). IsTable (with_row t n (Some row))) (sym named) (record {
@@ -64,7 +65,8 @@ table_put t name row named is none =
 
 -- another row in place of one of the same keys
 pub table_changed : (t : Table) (name : StateName) (row : Row) (held : State) → name ≡ row.state.name → IsTable t → Some held ≡ maps.get (states_of t) name
-    → IfSome (maps.get (states_of t) row.state.name) (λ s. s.wire ≡ row.state.wire) → IfSome (maps.get (states_of t) row.state.name) (λ s. s.stack ≡ row.state.stack)
+    → IfSome (maps.get (states_of t) row.state.name) (λ s. s.wire ≡ row.state.wire)
+    → IfSome (maps.get (states_of t) row.state.name) (λ s. s.stack ≡ row.state.stack)
     → IsTable (with_row t name (Some row))
 table_changed t name row held named is at wire stack =
     let there : maps.get (states_of t) row.state.name ≡ Some held = sym (at ∙ ap (maps.get (states_of t)) named) in
@@ -97,7 +99,8 @@ state_of_row_with None timeout = refl
 state_of_row_with (Some s) timeout = refl
 
 -- what stood under the name of an edit
-pub state_before : (t : Table) (name : StateName) (at : Option Row) (e : TableEdit) → e ≡ edit_of t name at → maps.get (states_of t) name ≡ option_map (λ (r : Row). r.state) e.before
+pub state_before : (t : Table) (name : StateName) (at : Option Row) (e : TableEdit) → e ≡ edit_of t name at
+    → maps.get (states_of t) name ≡ option_map (λ (r : Row). r.state) e.before
 state_before t name at e is = get-states_of t name ∙ ap (λ (f : TableEdit). option_map (λ (r : Row). r.state) f.before) (sym is)
 
 -- to take out what does not stand there changes nothing
@@ -108,7 +111,8 @@ without_none t name none = ap (λ m. record { limit = t.limit; rows = m }) (set_
 pub own_name : (t : Table) (name : StateName) (at : Option Row) → IsTable (with_row t name at) → IfSome at (λ r. r.state.name ≡ name)
 own_name t name None is = tt
 own_name t name (Some row) is =
-    is.states.filed name row.state (get-states_of (with_row t name (Some row)) name ∙ ap (option_map (λ (r : Row). r.state)) (get-set_at_same names_total names_exact t.rows name (Some row)))
+    is.states.filed name row.state (get-states_of (with_row t name (Some row)) name
+    ∙ ap (option_map (λ (r : Row). r.state)) (get-set_at_same names_total names_exact t.rows name (Some row)))
 
 -- what was set leads back
 pub set_leads_back : (old new : Table) (e : TableEdit) (name : StateName) (at : Option Row) → IsTable old → e ≡ edit_of old name at → new ≡ with_row old name at

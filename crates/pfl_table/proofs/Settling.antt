@@ -36,7 +36,8 @@ pub if_none : {X : Type 0} (o : Option X) (P : Type 0) → P → IfNone o P
 if_none None P p = p
 if_none (Some x) P p = tt
 
-module _ (rows : Lists Row) (rising : IsRising name_cmp (key_of name_of) (links_of rows 0)) (lists : AreLists rows) (old : Dues) (dues : AreDues rows.limit (links_of rows 0) old)
+module _ (rows : Lists Row) (rising : IsRising name_cmp (key_of name_of) (links_of rows 0)) (lists : AreLists rows) (old : Dues)
+    (dues : AreDues rows.limit (links_of rows 0) old)
     (slot : ℕ) (stale : IsStale rows old slot) (r : Row) (is : r ≡ stale.at.value) where
   abbrev front : List (Link Row)
   front = stale.at.front
@@ -60,13 +61,15 @@ module _ (rows : Lists Row) (rising : IsRising name_cmp (key_of name_of) (links_
     pub settled : Moves old new slot r r → AreDues rows.limit (links_of rows 0) new
     settled moves =
         let names = subst (Distinct name_cmp (key_of name_of)) split (Distinct-rising name_cmp (key_of name_of) (links_of rows 0) rising) in
-        let lacks = lacks-others front (link slot stale.at.value) back (subst (λ (ls : List (Link Row)). Apart ls) stale.at.split (lists.distinct stale.at.list stale.at.within)) in
+        let lacks = lacks-others front (link slot stale.at.value) back
+        (subst (λ (ls : List (Link Row)). Apart ls) stale.at.split (lists.distinct stale.at.list stale.at.within)) in
         subst (λ (ls : List (Link Row)). AreDues rows.limit ls new) (sym split)
         (moves rows.limit front back parted below lacks refl (others-none names_total names_exact name_of front (link slot r) back names))
 
     pub less-stale : new.filed ≡ timed old.filed slot r.state.last → lag new.filed (links_of rows 0) < lag old.filed (links_of rows 0)
     less-stale filed =
-        let lacks = lacks-others front (link slot stale.at.value) back (subst (λ (ls : List (Link Row)). Apart ls) stale.at.split (lists.distinct stale.at.list stale.at.within)) in
+        let lacks = lacks-others front (link slot stale.at.value) back
+        (subst (λ (ls : List (Link Row)). Apart ls) stale.at.split (lists.distinct stale.at.list stale.at.within)) in
         let used = subst (λ (q : Row). get_or old.filed slot 0 < q.state.last) (sym is) stale.used in
         let less = lag-less old.filed front slot r back lacks used in
         subst (λ (ls : List (Link Row)). lag new.filed ls < lag old.filed ls) (sym split)

@@ -27,7 +27,8 @@ pub get-states_of : (t : Table) (name : StateName) → maps.get (states_of t) na
 get-states_of t name = get-map_values name_cmp (λ r. r.state) t.rows name
 
 -- a row that is set sets its state
-pub states_of-with_row : (t : Table) (name : StateName) (at : Option Row) → states_of (with_row t name at) ≡ set_at (states_of t) name (option_map (λ r. r.state) at)
+pub states_of-with_row : (t : Table) (name : StateName) (at : Option Row)
+    → states_of (with_row t name at) ≡ set_at (states_of t) name (option_map (λ r. r.state) at)
 states_of-with_row t name at = map_values-set_at names_total names_exact (λ r. r.state) t.rows name at
 
 -- as many states as rows

@@ -1,6 +1,7 @@
 -- The keys of a new state, by the ports of the pool: the packet's own key is the same at every port, and the translated key at one
 -- port says what it is at another.
-use Rattle.std.specs.Prelude.{◌≡◌, ℕ, ◌+◌, ◌-◌, Bool, true, false, ◌||◌, not, find, is_some, map, List, [], ◌∷◌, Option, Some, None, refl, unwrap_or, if◌then◌else◌}
+use Rattle.std.specs.Prelude.{◌≡◌, ℕ, ◌+◌, ◌-◌, Bool, true, false, ◌||◌, not, find, is_some, map, List, [], ◌∷◌, Option, Some, None, refl, unwrap_or}
+use Rattle.std.specs.Prelude.{if◌then◌else◌}
 use Rattle.std.specs.List.{range_with_len}
 use Rattle.std.specs.Option.{option_map}
 use Rattle.std.proofs.Common.{cond, ◌∙◌, ap, sym}
@@ -72,7 +73,8 @@ moved k pool port other Icmp = refl
 moved k pool port other (Other n) = refl
 
 -- where the protocol takes no port, it is one at all ports
-without_port : (k : Key) (pool : Pool) (port other : ℕ) (p : Proto) → takes_port p ≡ false → translated_to k (end_at pool port) p ≡ translated_to k (end_at pool other) p
+without_port : (k : Key) (pool : Pool) (port other : ℕ) (p : Proto) → takes_port p ≡ false
+    → translated_to k (end_at pool port) p ≡ translated_to k (end_at pool other) p
 without_port k pool port other Tcp none = true_is_false none
 without_port k pool port other Udp none = true_is_false none
 without_port k pool port other Icmp none = true_is_false none
@@ -80,10 +82,12 @@ without_port k pool port other (Other n) none = refl
 
 -- ---- the first of some ends is that of the first of their ports
 
-first-mapped : (passes : End → Bool) (f : ℕ → End) (ports : List ℕ) (last : ℕ) → unwrap_or (find passes (map f ports)) (f last) ≡ f (unwrap_or (find (λ port. passes (f port)) ports) last)
+first-mapped : (passes : End → Bool) (f : ℕ → End) (ports : List ℕ) (last : ℕ)
+    → unwrap_or (find passes (map f ports)) (f last) ≡ f (unwrap_or (find (λ port. passes (f port)) ports) last)
 first-mapped passes f [] last = refl
 first-mapped passes f (port ∷ ports) last =
-    elim (passes (f port)) as (λ b. unwrap_or (cond b (Some (f port)) (find passes (map f ports))) (f last) ≡ f (unwrap_or (cond b (Some port) (find (λ port. passes (f port)) ports)) last)) [
+    elim (passes (f port)) as (λ b. unwrap_or (cond b (Some (f port)) (find passes (map f ports))) (f last)
+    ≡ f (unwrap_or (cond b (Some port) (find (λ port. passes (f port)) ports)) last)) [
       | true ↦ refl
       | false ↦ first-mapped passes f ports last
     ]
@@ -111,40 +115,50 @@ module _ (m : States) (r : Rule) (k : Key) (pool : Pool) where
   -- the keys do not depend on the port where the protocol takes none
   pub at_any_port : (port : ℕ) → takes_port k.proto ≡ false → keys_at port ≡ keys_to r k (Some (free_end m r k pool))
   at_any_port port none =
-      ap (λ (other : Key). beside k other (is_some r.rdr)) (without_port k pool port (first_port free_at pool.ports) k.proto none) ∙ ap (λ (e : End). keys_to r k (Some e)) (sym free_end-at)
+      ap (λ (other : Key). beside k other (is_some r.rdr)) (without_port k pool port (first_port free_at pool.ports) k.proto none)
+      ∙ ap (λ (e : End). keys_to r k (Some e)) (sym free_end-at)
 
   -- the first port is given where both keys are free with it
   pub at_first_port : is_taken m (keys_at pool.ports.first) ≡ false → keys_at pool.ports.first ≡ keys_to r k (Some (free_end m r k pool))
-  at_first_port free = ap (λ (e : End). keys_to r k (Some e)) (ap (end_at pool) (passes_here free_at pool.ports.last pool.ports.first (ap not free)) ∙ sym free_end-at)
+  at_first_port free = ap (λ (e : End). keys_to r k (Some e))
+      (ap (end_at pool) (passes_here free_at pool.ports.last pool.ports.first (ap not free)) ∙ sym free_end-at)
 
   -- the keys at a port are taken where the packet's own key is in use, as seen at any port, or the translated key at this one
   taken_at : (port other : ℕ) → is_taken m (keys_at other) ≡ (own_in_use m r (keys_at port) || translated_in_use m r (translated_of r (keys_at other)))
   taken_at port other =
       one_of_two m (keys_at other) (is_some r.rdr)
-      ∙ ap (λ own. own || translated_in_use m r (translated_of r (keys_at other))) (one_own m k (wire_key k (Some (end_at pool other))) (wire_key k (Some (end_at pool port))) (is_some r.rdr))
+      ∙ ap (λ own. own || translated_in_use m r (translated_of r (keys_at other)))
+      (one_own m k (wire_key k (Some (end_at pool other))) (wire_key k (Some (end_at pool port))) (is_some r.rdr))
 
   -- no port helps where the own key is in use
   pub at_last_port : (port : ℕ) → own_in_use m r (keys_at port) ≡ true → end_at pool pool.ports.last ≡ free_end m r k pool
   at_last_port port used =
-      let taken : (other : ℕ) → free_at other ≡ false = λ other. ap not (taken_at port other ∙ ap (λ own. own || translated_in_use m r (translated_of r (keys_at other))) used) in
-      sym (free_end-at ∙ (ap (λ (passes : ℕ → Bool). end_at pool (first_port passes pool.ports)) (λ i other. taken other i) ∙ ap (end_at pool) (first-none pool.ports)))
+      let taken : (other : ℕ) → free_at other ≡ false =
+      λ other. ap not (taken_at port other ∙ ap (λ own. own || translated_in_use m r (translated_of r (keys_at other))) used) in
+      sym (free_end-at ∙ (ap (λ (passes : ℕ → Bool). end_at pool (first_port passes pool.ports)) (λ i other. taken other i)
+      ∙ ap (end_at pool) (first-none pool.ports)))
 
   -- the translated key at a port is what translation makes of the flow's
   translated_at : (port : ℕ) → translated_of r (keys_at port) ≡ translated_to k (end_at pool port) k.proto
   translated_at port = other-beside k (wire_key k (Some (end_at pool port))) (is_some r.rdr)
 
   -- so it is that at another port, with this one
-  translated-moved : (port other : ℕ) → translated_of r (keys_at other) ≡ with_port (translated_of r (keys_at port)) other (translated_of r (keys_at port)).proto
+  translated-moved : (port other : ℕ)
+      → translated_of r (keys_at other) ≡ with_port (translated_of r (keys_at port)) other (translated_of r (keys_at port)).proto
   translated-moved port other =
       let here = translated_of r (keys_at port) in
       let proto : k.proto ≡ here.proto = sym (ap (λ (t : Key). t.proto) (translated_at port) ∙ proto-translated k (end_at pool port) k.proto) in
-      translated_at other ∙ (moved k pool port other k.proto ∙ (ap (λ (t : Key). with_port t other k.proto) (sym (translated_at port)) ∙ ap (with_port here other) proto))
+      translated_at other ∙ (moved k pool port other k.proto
+      ∙ (ap (λ (t : Key). with_port t other k.proto) (sym (translated_at port)) ∙ ap (with_port here other) proto))
 
   -- where the own key is free, the translated one decides
-  pub at_free_port : (port : ℕ) → own_in_use m r (keys_at port) ≡ false → end_at pool (free_port m r (translated_of r (keys_at port)) pool.ports) ≡ free_end m r k pool
+  pub at_free_port : (port : ℕ) → own_in_use m r (keys_at port) ≡ false
+      → end_at pool (free_port m r (translated_of r (keys_at port)) pool.ports) ≡ free_end m r k pool
   at_free_port port unused =
       let free : (other : ℕ) → free_at other ≡ is_free m r (translated_of r (keys_at port)) other =
-      λ other. ap not (taken_at port other ∙ (ap (λ own. own || translated_in_use m r (translated_of r (keys_at other))) unused ∙ ap (translated_in_use m r) (translated-moved port other))) in
+      λ other. ap not (taken_at port other
+      ∙ (ap (λ own. own || translated_in_use m r (translated_of r (keys_at other))) unused
+      ∙ ap (translated_in_use m r) (translated-moved port other))) in
       sym (free_end-at ∙ ap (λ (passes : ℕ → Bool). end_at pool (first_port passes pool.ports)) (λ i other. free other i))
 
   -- ---- the keys of a new state

@@ -67,7 +67,8 @@ pub record Table : Type 0 where
 
 -- as a pair of a number and a map
 abbrev pub coded_table : Coded Table
-coded_table = code_by (ℕ × Map name_cmp Row) (coded× coded_ℕ (maps.code coded_state_name row.the_row.coded)) (λ t. (t.limit, t.rows)) (λ p. record { limit = p.0; rows = p.1 }) (λ _. refl)
+coded_table = code_by (ℕ × Map name_cmp Row) (coded× coded_ℕ (maps.code coded_state_name row.the_row.coded)) (λ t. (t.limit, t.rows))
+    (λ p. record { limit = p.0; rows = p.1 }) (λ _. refl)
 
 -- its states
 abbrev pub states_of : Table → States

@@ -46,7 +46,8 @@ impl<A: Allocator> Model for DueOrder<A> {
 
     ghost view = { λ d. record { list = d.order.list; limit = d.order.limit; filed = d.filed.items } };
 
-    ghost invariant = { λ d. (d.order.limit ≤ vec_capacity d.filed) × AreHeads d.order.list d.order.limit d.heads × IfSome d.found (λ f. IsFirst f.adaptive f.states d.order.list f.slot) };
+    ghost invariant = { λ d. (d.order.limit ≤ vec_capacity d.filed) × AreHeads d.order.list d.order.limit d.heads
+        × IfSome d.found (λ f. IsFirst f.adaptive f.states d.order.list f.slot) };
 }
 
 impl<A: Allocator + Copy> DueOrder<A> {

@@ -1,7 +1,8 @@
 //! What the indexes of a table go by.
 
 ghost use Rattle.std.specs.Prelude.{◌≡◌, ◌+◌, ◌*◌, ◌^◌};
-ghost use Rattle.pfl_table.specs.inner.Ordering.{flow_of, number_of as address_number, flow_tag, addresses_hash, mixed_halves, name_tag, expiry_cmp, expiry_total, expiry_exact, expiry_at, expiry_of, name_in, due_at, due_before};
+ghost use Rattle.pfl_table.specs.inner.Ordering.{flow_of, number_of as address_number, flow_tag, addresses_hash, mixed_halves, name_tag, expiry_cmp};
+ghost use Rattle.pfl_table.specs.inner.Ordering.{expiry_total, expiry_exact, expiry_at, expiry_of, name_in, due_at, due_before};
 
 use crate::row::Row;
 use pfl_base::{Addr, Key, Millis, StateName};

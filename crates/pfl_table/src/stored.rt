@@ -14,7 +14,8 @@ ghost use Rattle.pfl_edits.specs.Maps as maps;
 ghost use Rattle.pfl_edits.specs.Ordered.{IsRising};
 ghost use Rattle.pfl_edits.proofs.ForCallers.{row_at};
 ghost use Rattle.pfl_track.specs.States.{IsState};
-ghost use Rattle.pfl_table.specs.inner.Filed.{AreFiled, FoundAt, GainsRow, LosesRow, ChangesRow, HasNoKey, OthersHaveNoKey, NameGap, SameKeys, link_found, name_of, wire_flow, stack_flow, row_of_link, rows_of, slot_of_link, table_of};
+ghost use Rattle.pfl_table.specs.inner.Filed.{AreFiled, FoundAt, GainsRow, LosesRow, ChangesRow, HasNoKey, OthersHaveNoKey, NameGap, SameKeys};
+ghost use Rattle.pfl_table.specs.inner.Filed.{link_found, name_of, wire_flow, stack_flow, row_of_link, rows_of, slot_of_link, table_of};
 ghost use Rattle.pfl_table.specs.inner.Counts.{has_rule};
 ghost use Rattle.pfl_table.specs.inner.Ordering.{by_name, flow_cmp, flow_of};
 
@@ -24,14 +25,11 @@ use crate::keys::{tag_of_flow, tag_of_name};
 use crate::row::Row;
 use crate::settle::settle;
 use pfl_base::{Dir, Key, PackedKey, StateName};
-use pfl_containers::{ByName, Chains, OrderedMap};
+use pfl_containers::{ByName, Chains, MOST_SLOTS, OrderedMap};
 use pfl_edits::{InOrder, NoMemory};
 use pfl_rules::Adaptive;
 use std::alloc::Allocator;
 use std::marker::Model;
-
-/// The most rows that there can be room for.
-const MOST: usize = 1 << 30;
 
 /// Where no row stands.
 const NO_HINT: usize = usize::MAX;
@@ -60,7 +58,7 @@ impl<A: Allocator + Copy> Stored<A> {
         ensures limit { IfOk result (λ s. s.limit ≡ limit) }
         ensures empty { IfOk result (λ s. s.links ≡ []) }
     {
-        if limit > MOST {
+        if limit > MOST_SLOTS {
             return Err(NoMemory);
         }
         let rows = Chains::new(alloc, 1, limit)?;

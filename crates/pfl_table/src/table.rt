@@ -4,7 +4,8 @@ ghost use Rattle.std.specs.Prelude.{◌≡◌, ℕ, [], ◌∷◌, map, nat_le, 
 ghost use Rattle.std.specs.Option.{option_copied, option_map};
 ghost use Rattle.pfl_edits.specs.Maps as maps;
 ghost use Rattle.pfl_edits.specs.Maps.{set_at};
-ghost use Rattle.pfl_table.specs.Tables.{Table, IsTable, TableLeadsBack, states_of, by_wire, by_stack, found, count_of_rule, first_expiring, row_after, state_after, put_fault, row_with, with_moved, with_row, edit_of};
+ghost use Rattle.pfl_table.specs.Tables.{Table, IsTable, TableLeadsBack, states_of, by_wire, by_stack, found, count_of_rule, first_expiring};
+ghost use Rattle.pfl_table.specs.Tables.{row_after, state_after, put_fault, row_with, with_moved, with_row, edit_of};
 ghost use Rattle.pfl_track.specs.Motions.{motion as motion_of};
 
 use crate::edit::TableEdit;

@@ -1,5 +1,6 @@
 -- What a branch replies, and which command asks for it.
-use Rattle.std.specs.Prelude.{◌≡◌, ◌≢◌, ℕ, ◌+◌, Bool, true, false, not, nat_lt, take, List, [], ◌∷◌, length, map, Option, Some, None, Result, Ok, Err, IfOk, IfErr, IsSomeAnd, OnErr, OnOk, refl, if◌then◌else◌}
+use Rattle.std.specs.Prelude.{◌≡◌, ◌≢◌, ℕ, ◌+◌, Bool, true, false, not, nat_lt, take, List, [], ◌∷◌, length, map, Option, Some, None, Result, Ok, Err}
+use Rattle.std.specs.Prelude.{IfOk, IfErr, IsSomeAnd, OnErr, OnOk, refl, if◌then◌else◌}
 use Rattle.std.specs.Option.{option_map, option_map_or}
 use Rattle.std.proofs.Common.{sym, ◌∙◌, ap, subst}
 use Rattle.pfl_base.specs.declared.refusal.Refusal.{Refusal}
@@ -14,7 +15,11 @@ use Rattle.pfl_search.specs.world.desk.Nodes.{refused_by}
 use Rattle.pfl_search.specs.world.Events.{step, IsEventRefusal}
 use Rattle.pfl_search.specs.world.Runs.{run}
 use Rattle.pfl_search.specs.world.Worlds.{World}
-use Rattle.pfl_timeline.specs.Commands.{replied, reply_unless, with_branch, with_changed, extended, undone, at_cursor, step_answered, step_reply, back_reply, forward_reply, fork_reply, drop_reply, show_reply, past_reply, explanation, why_answer, why_reply, why_step_reply, frame_answer, frame_reply, step_command, back_command, forward_command, fork_command, drop_command, show_command, past_command, why_command, why_step_command, frame_command, names_command, excise_reply, restore_reply, excise_command, restore_command, log_reply, log_command, command_step}
+use Rattle.pfl_timeline.specs.Commands.{replied, reply_unless, with_branch, with_changed, extended, undone, at_cursor, step_answered, step_reply}
+use Rattle.pfl_timeline.specs.Commands.{back_reply, forward_reply, fork_reply, drop_reply, show_reply, past_reply, explanation, why_answer, why_reply}
+use Rattle.pfl_timeline.specs.Commands.{why_step_reply, frame_answer, frame_reply, step_command, back_command, forward_command, fork_command}
+use Rattle.pfl_timeline.specs.Commands.{drop_command, show_command, past_command, why_command, why_step_command, frame_command, names_command}
+use Rattle.pfl_timeline.specs.Commands.{excise_reply, restore_reply, excise_command, restore_command, log_reply, log_command, command_step}
 use Rattle.pfl_timeline.specs.Excisions.{has_event, excised, fallen_places, restored}
 use Rattle.pfl_timeline.specs.Replies.{Reply, Replied, Stepped as StepReply, At, Shown, Names, Excised, Restored, Logged, Refused as Refusing}
 use Rattle.pfl_timeline.specs.inner.Replies.{moved, fell_out, brought_back}
@@ -41,12 +46,14 @@ pub asked_of : (done : World → Replied) (r : Rooted) (w : World) (t : Timeline
 asked_of done r w t here stands = ap (λ (o : Option World). option_map_or done o (replied t (Refusing refused.NoBranch))) (shown_there r w t here stands)
 
 -- the same of equal ones
-pub replied_as : (asked : Timeline → Branch → Replied) (r s s' : Rooted) (reply reply' : Reply) → s' ≡ s → reply' ≡ reply → IsReplyOf asked r s reply → IsReplyOf asked r s' reply'
+pub replied_as : (asked : Timeline → Branch → Replied) (r s s' : Rooted) (reply reply' : Reply) → s' ≡ s → reply' ≡ reply
+    → IsReplyOf asked r s reply → IsReplyOf asked r s' reply'
 replied_as asked r s s' reply reply' same_new same_reply told =
     subst (λ (x : Rooted). IsReplyOf asked r x reply') (sym same_new) (subst (λ (y : Reply). IsReplyOf asked r s y) (sym same_reply) told)
 
 -- the event happened
-pub told-stepped : (r : Rooted) (e : Event) (w new : World) (out : Outcome) (cut : ℕ) → shown r ≡ Some w → step w e ≡ Ok (record { world = new; outcome = out }) → cut ≡ undone r.branch
+pub told-stepped : (r : Rooted) (e : Event) (w new : World) (out : Outcome) (cut : ℕ) → shown r ≡ Some w
+    → step w e ≡ Ok (record { world = new; outcome = out }) → cut ≡ undone r.branch
     → IsReplyOf (λ t b. step_reply t e b) r (record r { branch = extended r.branch e }) (StepReply out cut)
 told-stepped r e w new out cut here stepped is = record {
   opening = refl;
@@ -88,11 +95,13 @@ module _ (far : Branch → Bool) (to : Branch → ℕ) (why : Refused) (r : Root
     told = λ t stands. ap (λ b. reply_unless t (refused_by ((b, why) ∷ [])) (at_cursor t r.branch (to r.branch))) is;
   }
 
-  pub told-moved : (s : Rooted) (cursor : Option ℕ) → cursor ≡ (if far r.branch then None else Some (to r.branch)) → s ≡ (if far r.branch then r else with_cursor r (to r.branch))
+  pub told-moved : (s : Rooted) (cursor : Option ℕ) → cursor ≡ (if far r.branch then None else Some (to r.branch))
+      → s ≡ (if far r.branch then r else with_cursor r (to r.branch))
       → IsReplyOf asked r s (moved why cursor)
   told-moved s cursor is new =
       replied_as _ _ _ _ _ _ new (ap (moved why) is)
-      (elim (far r.branch) as (λ b. far r.branch ≡ b → IsReplyOf asked r (if b then r else with_cursor r (to r.branch)) (moved why (if b then None else Some (to r.branch)))) [
+      (elim (far r.branch) as (λ b. far r.branch ≡ b
+      → IsReplyOf asked r (if b then r else with_cursor r (to r.branch)) (moved why (if b then None else Some (to r.branch)))) [
         | true ↦ told_far
         | false ↦ told_near
       ] refl)
@@ -106,7 +115,8 @@ module _ (k : ℕ) (r : Rooted) where
   fell = fallen_places r.opening k r.branch
 
   abbrev taken_out : Timeline → Bool → Replied
-  taken_out t there = reply_unless t (refused_by ((not there, refused.NoEvent) ∷ [])) (replied (with_changed t (excised t.opening k r.branch)) (Excised (fallen_places t.opening k r.branch)))
+  taken_out t there = reply_unless t (refused_by ((not there, refused.NoEvent) ∷ []))
+      (replied (with_changed t (excised t.opening k r.branch)) (Excised (fallen_places t.opening k r.branch)))
 
   told_there : has_event k r.branch ≡ true → IsReplyOf (λ t b. excise_reply t k b) r without_it (Excised fell)
   told_there is = record {
@@ -124,11 +134,13 @@ module _ (k : ℕ) (r : Rooted) where
     told = λ t stands. ap (taken_out t) is ∙ same_branch r t (Refusing refused.NoEvent) stands;
   }
 
-  pub told-excised : (s : Rooted) (fallen : Option (List ℕ)) → fallen ≡ (if has_event k r.branch then Some fell else None) → s ≡ (if has_event k r.branch then without_it else r)
+  pub told-excised : (s : Rooted) (fallen : Option (List ℕ)) → fallen ≡ (if has_event k r.branch then Some fell else None)
+      → s ≡ (if has_event k r.branch then without_it else r)
       → IsReplyOf (λ t b. excise_reply t k b) r s (fell_out fallen)
   told-excised s fallen is new =
       replied_as _ _ _ _ _ _ new (ap fell_out is)
-      (elim (has_event k r.branch) as (λ b. has_event k r.branch ≡ b → IsReplyOf (λ t c. excise_reply t k c) r (if b then without_it else r) (fell_out (if b then Some fell else None))) [
+      (elim (has_event k r.branch) as (λ b. has_event k r.branch ≡ b
+      → IsReplyOf (λ t c. excise_reply t k c) r (if b then without_it else r) (fell_out (if b then Some fell else None))) [
         | true ↦ told_there
         | false ↦ told_not_there
       ] refl)
@@ -136,7 +148,8 @@ module _ (k : ℕ) (r : Rooted) where
 -- What the branch was before brought back, unless there is nothing.
 module _ (r : Rooted) where
   abbrev back_again : Timeline → Option Former → Replied
-  back_again t former = option_map_or (λ f. replied (with_changed t (restored r.branch f)) (Restored f.cursor)) former (replied t (Refusing refused.NothingExcised))
+  back_again t former = option_map_or (λ f. replied (with_changed t (restored r.branch f)) (Restored f.cursor)) former
+      (replied t (Refusing refused.NothingExcised))
 
   told_back : (f : Former) → r.branch.former ≡ Some f → IsReplyOf (λ t b. restore_reply t b) r (with_former r f) (Restored f.cursor)
   told_back f is = record { opening = refl; name = refl; told = λ t stands. ap (back_again t) is }
@@ -144,11 +157,13 @@ module _ (r : Rooted) where
   told_nothing : r.branch.former ≡ None → IsReplyOf (λ t b. restore_reply t b) r r (Refusing refused.NothingExcised)
   told_nothing is = record { opening = refl; name = refl; told = λ t stands. ap (back_again t) is ∙ same_branch r t (Refusing refused.NothingExcised) stands }
 
-  pub told-restored : (s : Rooted) (cursor : Option ℕ) → cursor ≡ option_map (λ f. f.cursor) r.branch.former → s ≡ option_map_or (with_former r) r.branch.former r
+  pub told-restored : (s : Rooted) (cursor : Option ℕ) → cursor ≡ option_map (λ f. f.cursor) r.branch.former
+      → s ≡ option_map_or (with_former r) r.branch.former r
       → IsReplyOf (λ t b. restore_reply t b) r s (brought_back cursor)
   told-restored s cursor is new =
       replied_as _ _ _ _ _ _ new (ap brought_back is)
-      (elim r.branch.former as (λ o. r.branch.former ≡ o → IsReplyOf (λ t b. restore_reply t b) r (option_map_or (with_former r) o r) (brought_back (option_map (λ f. f.cursor) o))) [
+      (elim r.branch.former as (λ o. r.branch.former ≡ o
+      → IsReplyOf (λ t b. restore_reply t b) r (option_map_or (with_former r) o r) (brought_back (option_map (λ f. f.cursor) o))) [
         | None ↦ told_nothing
         | Some f ↦ told_back f
       ] refl)
@@ -170,7 +185,8 @@ told-past r k w near here = record {
   opening = refl;
   name = refl;
   told = λ t stands.
-      let seen = λ (o : Option World). option_map_or (λ v. replied t (Shown r.branch.name (length r.branch.events) k v)) o (replied t (Refusing refused.NoBranch)) in
+      let seen = λ (o : Option World). option_map_or (λ v. replied t (Shown r.branch.name (length r.branch.events) k v)) o
+      (replied t (Refusing refused.NoBranch)) in
       ap (λ far. reply_unless t (refused_by ((far, refused.NothingForward) ∷ [])) (seen (run t.opening (take k r.branch.events)))) near
       ∙ ap (λ (o : World). seen (run o (take k r.branch.events))) stands.opening
       ∙ ap seen here
@@ -184,7 +200,8 @@ told-no_past r k far = record {
   name = refl;
   told = λ t stands.
       ap (λ b. reply_unless t (refused_by ((b, refused.NothingForward) ∷ []))
-      (option_map_or (λ v. replied t (Shown r.branch.name (length r.branch.events) k v)) (run t.opening (take k r.branch.events)) (replied t (Refusing refused.NoBranch)))) far
+      (option_map_or (λ v. replied t (Shown r.branch.name (length r.branch.events) k v)) (run t.opening (take k r.branch.events))
+      (replied t (Refusing refused.NoBranch)))) far
       ∙ same_branch r t (Refusing refused.NothingForward) stands;
 }
 
@@ -200,7 +217,8 @@ told-why r k reply is = record {
 }
 
 -- the explanation of an event that has not happened
-pub told-why_step : (r : Rooted) (e : Event) (w : World) (reply : Reply) → shown r ≡ Some w → reply ≡ explanation r.branch.name (r.branch.cursor + 1) w e → IsReplyOf (λ t b. why_step_reply t e b) r r reply
+pub told-why_step : (r : Rooted) (e : Event) (w : World) (reply : Reply) → shown r ≡ Some w
+    → reply ≡ explanation r.branch.name (r.branch.cursor + 1) w e → IsReplyOf (λ t b. why_step_reply t e b) r r reply
 told-why_step r e w reply here is = record {
   opening = refl;
   name = refl;
@@ -211,7 +229,8 @@ told-why_step r e w reply here is = record {
 }
 
 -- the trace of a frame
-pub told-frame : (r : Rooted) (ticket : ℕ) (reply : Reply) → reply ≡ frame_answer r.opening ticket r.branch → IsReplyOf (λ t b. frame_reply t ticket b) r r reply
+pub told-frame : (r : Rooted) (ticket : ℕ) (reply : Reply) → reply ≡ frame_answer r.opening ticket r.branch
+    → IsReplyOf (λ t b. frame_reply t ticket b) r r reply
 told-frame r ticket reply is = record {
   opening = refl;
   name = refl;
@@ -225,9 +244,11 @@ told-frame r ticket reply is = record {
 pub some-shown : {o : Option World} (P : World → Type 0) (w : World) → o ≡ Some w → P w → IsSomeAnd o P
 some-shown P w here is = subst (λ (x : Option World). IsSomeAnd x P) (sym here) is
 
-pub shown_as : (name name' : List ℕ) (events events' cursor cursor' : ℕ) (w w' : World) → name ≡ name' → events ≡ events' → cursor ≡ cursor' → w ≡ w' → Shown name events cursor w ≡ Shown name' events' cursor' w'
+pub shown_as : (name name' : List ℕ) (events events' cursor cursor' : ℕ) (w w' : World) → name ≡ name' → events ≡ events'
+    → cursor ≡ cursor' → w ≡ w' → Shown name events cursor w ≡ Shown name' events' cursor' w'
 shown_as name name' events events' cursor cursor' w w' a b c d =
-    ap (λ (x : List ℕ). Shown x events cursor w) a ∙ ap (λ n. Shown name' n cursor w) b ∙ ap (λ n. Shown name' events' n w) c ∙ ap (Shown name' events' cursor') d
+    ap (λ (x : List ℕ). Shown x events cursor w) a ∙ ap (λ n. Shown name' n cursor w) b ∙ ap (λ n. Shown name' events' n w) c
+    ∙ ap (Shown name' events' cursor') d
 
 -- the branch's events are listed
 pub told-logged : (r : Rooted) → IsReplyOf log_reply r r (Logged r.branch.name r.branch.events r.branch.cursor)
@@ -237,7 +258,8 @@ told-logged r = record {
   told = λ t stands. same_branch r t (Logged r.branch.name r.branch.events r.branch.cursor) stands;
 }
 
-pub logged_as : (name name' : List ℕ) (events events' : List Event) (cursor cursor' : ℕ) → name ≡ name' → events ≡ events' → cursor ≡ cursor' → Logged name events cursor ≡ Logged name' events' cursor'
+pub logged_as : (name name' : List ℕ) (events events' : List Event) (cursor cursor' : ℕ) → name ≡ name' → events ≡ events'
+    → cursor ≡ cursor' → Logged name events cursor ≡ Logged name' events' cursor'
 logged_as name name' events events' cursor cursor' a b c =
     ap (λ (x : List ℕ). Logged x events cursor) a ∙ ap (λ (es : List Event). Logged name' es cursor) b ∙ ap (Logged name' events') c
 
@@ -319,7 +341,8 @@ pub is-forward : (t : Timeline) (c : Command) (name : List ℕ) (n : ℕ) → c 
 unfolding command_step
 is-forward t c name n is = ap (command_step t) is
 
-pub is-fork : (t : Timeline) (c : Command) (from : List ℕ) (k : ℕ) (name : List ℕ) → c ≡ command.Fork from k name → command_step t c ≡ fork_command t from k name
+pub is-fork : (t : Timeline) (c : Command) (from : List ℕ) (k : ℕ) (name : List ℕ) → c ≡ command.Fork from k name
+    → command_step t c ≡ fork_command t from k name
 unfolding command_step
 is-fork t c from k name is = ap (command_step t) is
 

@@ -33,7 +33,9 @@ find_of-lookup name rs o is = by rs ∙ ap (option_map (λ (r : Rooted). r.branc
     by [] = refl
     by (x ∷ xs) =
         ap (λ t. cond t (Some x.branch) (named_in name (branches_of xs))) (turned x.branch.name name)
-        ∙ (elim (same_name name x.branch.name) as (λ t. cond t (Some x.branch) (named_in name (branches_of xs)) ≡ option_map (λ (r : Rooted). r.branch) (cond t (Some x) (lookup (same_name name) (by_name xs)))) [
+        ∙ (elim (same_name name x.branch.name) as
+        (λ t. cond t (Some x.branch) (named_in name (branches_of xs))
+        ≡ option_map (λ (r : Rooted). r.branch) (cond t (Some x) (lookup (same_name name) (by_name xs)))) [
           | true ↦ refl
           | false ↦ by xs
         ])
@@ -50,15 +52,18 @@ pub record Spot (name : List ℕ) (es : List (List ℕ × Rooted)) (old : Rooted
 spot_in : (name : List ℕ) (rs : List Rooted) (old : Rooted) → lookup (same_name name) (by_name rs) ≡ Some old → Spot name (by_name rs) old
 spot_in name [] old is = absurd (some_none old is)
 spot_in name (r ∷ rs) old is =
-    elim (same_name name r.branch.name) as (λ t. same_name name r.branch.name ≡ t → cond t (Some r) (lookup (same_name name) (by_name rs)) ≡ Some old → Spot name (by_name (r ∷ rs)) old) [
+    elim (same_name name r.branch.name) as (λ t. same_name name r.branch.name ≡ t
+    → cond t (Some r) (lookup (same_name name) (by_name rs)) ≡ Some old → Spot name (by_name (r ∷ rs)) old) [
       | true ↦ λ passes here.
           let same : r ≡ old = cc in
           record {
             front = [];
             rest = rs;
             whole = ap (λ (x : Rooted). by_name (x ∷ rs)) same;
-            found = ap (λ t. cond t (Some old.branch) (named_in name (branches_of rs))) (turned old.branch.name name ∙ ap (λ (x : Rooted). same_name name x.branch.name) (sym same) ∙ passes);
-            written = λ new called. ap (λ t. cond t ((r.branch.name, new) ∷ by_name rs) ((r.branch.name, r) ∷ set_value (same_name name) (by_name rs) new)) passes
+            found = ap (λ t. cond t (Some old.branch) (named_in name (branches_of rs))) (turned old.branch.name name
+                ∙ ap (λ (x : Rooted). same_name name x.branch.name) (sym same) ∙ passes);
+            written = λ new called. ap
+                (λ t. cond t ((r.branch.name, new) ∷ by_name rs) ((r.branch.name, r) ∷ set_value (same_name name) (by_name rs) new)) passes
                 ∙ ap (λ n. (n, new) ∷ by_name rs) (ap (λ (x : Rooted). x.branch.name) same ∙ sym called);
             removed = ap (λ t. cond t (by_name rs) ((r.branch.name, r) ∷ remove_entry (same_name name) (by_name rs))) passes;
           }
@@ -68,8 +73,10 @@ spot_in name (r ∷ rs) old is =
             front = r ∷ later.front;
             rest = later.rest;
             whole = ap (λ es. (r.branch.name, r) ∷ es) later.whole;
-            found = ap (λ t. cond t (Some r.branch) (named_in name (branches_of (later.front ++ old ∷ later.rest)))) (turned r.branch.name name ∙ fails) ∙ later.found;
-            written = λ new called. ap (λ t. cond t ((r.branch.name, new) ∷ by_name rs) ((r.branch.name, r) ∷ set_value (same_name name) (by_name rs) new)) fails
+            found = ap (λ t. cond t (Some r.branch) (named_in name (branches_of (later.front ++ old ∷ later.rest))))
+                (turned r.branch.name name ∙ fails) ∙ later.found;
+            written = λ new called. ap
+                (λ t. cond t ((r.branch.name, new) ∷ by_name rs) ((r.branch.name, r) ∷ set_value (same_name name) (by_name rs) new)) fails
                 ∙ ap (λ es. (r.branch.name, r) ∷ es) (later.written new called);
             removed = ap (λ t. cond t (by_name rs) ((r.branch.name, r) ∷ remove_entry (same_name name) (by_name rs))) fails
                 ∙ ap (λ es. (r.branch.name, r) ∷ es) later.removed;
@@ -112,7 +119,8 @@ spot name es old stand is =
     subst (λ fs. Spot name fs old) (sym stand.named) (spot_in name (values_of es) old (ap (lookup (same_name name)) (sym stand.named) ∙ sym is))
 
 -- the branch of the name
-pub found_by : (name : List ℕ) (es : List (List ℕ × Rooted)) (o : Option Rooted) → StandByName es → o ≡ lookup (same_name name) es → named_in name (branches_of (values_of es)) ≡ option_map (λ r. r.branch) o
+pub found_by : (name : List ℕ) (es : List (List ℕ × Rooted)) (o : Option Rooted) → StandByName es → o ≡ lookup (same_name name) es
+    → named_in name (branches_of (values_of es)) ≡ option_map (λ r. r.branch) o
 found_by name es o stand is = find_of-lookup name (values_of es) o (ap (lookup (same_name name)) (sym stand.named) ∙ sym is)
 
 -- a branch under a name that no other has goes last

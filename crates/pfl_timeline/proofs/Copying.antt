@@ -16,18 +16,21 @@ use Rattle.pfl_timeline.proofs.Prefixes.{run-front}
 use Rattle.pfl_timeline.proofs.Runs.{kept_as, history_as, of_parts, fits-above, mark-there, kept-back, history-back}
 
 -- the first n events alone, those that stand among them
-kept-fewer : {M : Type 0} (w : World) (events : List Event) (tape : List (WorldEdit M)) (marks : List ℕ) (n : ℕ) → length marks ≤ n → n ≤ length events → IsKept w events tape marks → IsKept w (take n events) tape marks
+kept-fewer : {M : Type 0} (w : World) (events : List Event) (tape : List (WorldEdit M)) (marks : List ℕ) (n : ℕ) → length marks ≤ n
+    → n ≤ length events → IsKept w events tape marks → IsKept w (take n events) tape marks
 kept-fewer w events tape marks n enough within k = record {
   opening = k.opening;
   within = omega (arith, length-take-le n events within, enough);
   fits = k.fits;
   rising = k.rising;
   each = λ i h. ap (run (back put_back tape w)) (take-take i n events (omega (arith, h, enough))) ∙ k.each i h;
-  whole = run-front (back put_back tape w) (take n events) (drop n events) (subst (λ (es : List Event). IsTrue (is_some (run (back put_back tape w) es))) (sym (take-append-drop n events)) k.whole);
+  whole = run-front (back put_back tape w) (take n events) (drop n events)
+      (subst (λ (es : List Event). IsTrue (is_some (run (back put_back tape w) es))) (sym (take-append-drop n events)) k.whole);
 }
 
 -- p events are to stand, and m is the mark that was read for them
-module _ {M : Type 0} (w : World) (events : List Event) (tape : List (WorldEdit M)) (marks : List ℕ) (k : IsKept w events tape marks) (h : History) (view : history w events tape marks ≡ h)
+module _ {M : Type 0} (w : World) (events : List Event) (tape : List (WorldEdit M)) (marks : List ℕ) (k : IsKept w events tape marks)
+    (h : History) (view : history w events tape marks ≡ h)
     (p : ℕ) (few : p ≤ h.cursor) (m : ℕ) (read : m ≡ mark_at tape marks p) where
   in_marks : p ≤ length marks
   in_marks = omega (arith, few, ap (λ (r : History). r.cursor) view)

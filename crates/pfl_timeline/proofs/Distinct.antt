@@ -39,23 +39,28 @@ all_behind P (y ∷ xs) x all is = (all.0, all_behind P xs x all.1 is)
 pub none_called : (name : List ℕ) (bs : List Branch) → find (called name) bs ≡ None → AllByRecursion (λ n. same_name n name ≡ false) (names bs)
 none_called name [] none = tt
 none_called name (b ∷ bs) none =
-    elim (same_name b.name name) as (λ t. cond t (Some b) (find (called name) bs) ≡ None → (t ≡ false) × AllByRecursion (λ n. same_name n name ≡ false) (names bs)) [
+    elim (same_name b.name name) as (λ t. cond t (Some b) (find (called name) bs) ≡ None
+    → (t ≡ false) × AllByRecursion (λ n. same_name n name ≡ false) (names bs)) [
       | true ↦ λ some. absurd (some_is_none b some)
       | false ↦ λ rest. (refl, none_called name bs rest)
     ] none
 
-apart_behind : (m name : List ℕ) (ns : List (List ℕ)) → AllByRecursion (λ n. same_name m n ≡ false) ns → same_name m name ≡ false → AllByRecursion (λ n. same_name m n ≡ false) (ns ++ name ∷ [])
+apart_behind : (m name : List ℕ) (ns : List (List ℕ)) → AllByRecursion (λ n. same_name m n ≡ false) ns → same_name m name ≡ false
+    → AllByRecursion (λ n. same_name m n ≡ false) (ns ++ name ∷ [])
 apart_behind m name ns all is = all_behind (λ n. same_name m n ≡ false) ns name all is
 
-distinct_names : (name : List ℕ) (ns : List (List ℕ)) → AllByRecursion (λ n. same_name n name ≡ false) ns → IsDistinct same_name ns → IsDistinct same_name (ns ++ name ∷ [])
+distinct_names : (name : List ℕ) (ns : List (List ℕ)) → AllByRecursion (λ n. same_name n name ≡ false) ns → IsDistinct same_name ns
+    → IsDistinct same_name (ns ++ name ∷ [])
 unfolding IsDistinct
 distinct_names name [] new distinct = (tt, tt)
 distinct_names name (n ∷ ns) new distinct = (apart_behind n name ns distinct.0 new.0, distinct_names name ns new.1 distinct.1)
 
 -- a branch after others, none of which has its name
-pub distinct_behind : (b : Branch) (bs : List Branch) → find (called b.name) bs ≡ None → IsDistinct same_name (names bs) → IsDistinct same_name (names (bs ++ b ∷ []))
+pub distinct_behind : (b : Branch) (bs : List Branch) → find (called b.name) bs ≡ None → IsDistinct same_name (names bs)
+    → IsDistinct same_name (names (bs ++ b ∷ []))
 distinct_behind b bs none distinct =
-    subst (IsDistinct same_name) (sym (map-append (λ (c : Branch). c.name) bs (b ∷ []))) (distinct_names b.name (names bs) (none_called b.name bs none) distinct)
+    subst (IsDistinct same_name) (sym (map-append (λ (c : Branch). c.name) bs (b ∷ [])))
+    (distinct_names b.name (names bs) (none_called b.name bs none) distinct)
 
 pub no_some : {X : Type 0} (o : Option X) → is_some o ≡ false → o ≡ None
 no_some None is = refl
@@ -77,7 +82,8 @@ module _ (name : List ℕ) where
         | false ↦ (all.0, all_others P bs all.1)
       ]
 
-  apart_others : (m : List ℕ) (bs : List Branch) → AllByRecursion (λ n. same_name m n ≡ false) (names bs) → AllByRecursion (λ n. same_name m n ≡ false) (names (others name bs))
+  apart_others : (m : List ℕ) (bs : List Branch) → AllByRecursion (λ n. same_name m n ≡ false) (names bs)
+      → AllByRecursion (λ n. same_name m n ≡ false) (names (others name bs))
   apart_others m [] all = tt
   apart_others m (b ∷ bs) all =
       elim (same_name b.name name) as (λ t. AllByRecursion (λ n. same_name m n ≡ false) (names (cond (not t) (b ∷ others name bs) (others name bs)))) [
@@ -110,12 +116,14 @@ name_there P [] b rest all = all.0
 name_there P (c ∷ front) b rest all = name_there P front b rest all.1
 
 -- of branches under names of their own, one goes by its name
-pub one_goes : (front : List Branch) (b : Branch) (rest : List Branch) → IsDistinct same_name (names (front ++ b ∷ rest)) → others b.name (front ++ b ∷ rest) ≡ front ++ rest
+pub one_goes : (front : List Branch) (b : Branch) (rest : List Branch) → IsDistinct same_name (names (front ++ b ∷ rest))
+    → others b.name (front ++ b ∷ rest) ≡ front ++ rest
 unfolding IsDistinct
 one_goes [] b rest distinct =
     ap (λ t. cond (not t) (b ∷ others b.name rest) (others b.name rest)) (itself b.name) ∙ all_stay b.name rest (all_differ b.name (names rest) distinct.0)
 one_goes (c ∷ front) b rest distinct =
-    ap (λ t. cond (not t) (c ∷ others b.name (front ++ b ∷ rest)) (others b.name (front ++ b ∷ rest))) (name_there (λ n. same_name c.name n ≡ false) front b rest distinct.0)
+    ap (λ t. cond (not t) (c ∷ others b.name (front ++ b ∷ rest)) (others b.name (front ++ b ∷ rest)))
+    (name_there (λ n. same_name c.name n ≡ false) front b rest distinct.0)
     ∙ ap (λ cs. c ∷ cs) (one_goes front b rest distinct.1)
 
 -- a branch between others
@@ -134,7 +142,8 @@ between p (c ∷ bs) b is =
     ] is
 
 -- one branch less
-pub one_less : (p : Branch → Bool) (bs : List Branch) (b : Branch) → find p bs ≡ Some b → IsDistinct same_name (names bs) → length (others b.name bs) + 1 ≡ length bs
+pub one_less : (p : Branch → Bool) (bs : List Branch) (b : Branch) → find p bs ≡ Some b → IsDistinct same_name (names bs)
+    → length (others b.name bs) + 1 ≡ length bs
 one_less p bs b is distinct =
     let k = between p bs b is in
     let gone : others b.name bs ≡ k.front ++ k.rest =

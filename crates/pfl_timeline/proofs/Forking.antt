@@ -26,7 +26,8 @@ use Rattle.pfl_timeline.proofs.Places.{Entries, asks-at, begins-there, has_branc
 abbrev with_first : Timeline → ℕ → List ℕ → Branch → Option Refused → Replied
 with_first t k name b why = reply_unless t why (replied (record t { branches = t.branches ++ first_events k name b ∷ [] }) Forked)
 
-module _ (from : List ℕ) (es : Entries) (old : Rooted) (t : Timeline) (view : timeline_of (values_of es) ≡ t) (stand : StandByName es) (here : Some old ≡ lookup (same_name from) es) (k : ℕ) (name : List ℕ) where
+module _ (from : List ℕ) (es : Entries) (old : Rooted) (t : Timeline) (view : timeline_of (values_of es) ≡ t) (stand : StandByName es)
+    (here : Some old ≡ lookup (same_name from) es) (k : ℕ) (name : List ℕ) where
   pub told-why : (why : Refused) → Some why ≡ fork_refusal t k name old.branch → with_branch t from (λ b. fork_reply t k name b) ≡ replied t (Refusing why)
   told-why why is = asks-at from es old t view stand here (λ b. fork_reply t k name b) ∙ ap (with_first t k name old.branch) (sym is)
 
@@ -41,9 +42,11 @@ module _ (from : List ℕ) (es : Entries) (old : Rooted) (t : Timeline) (view : 
     new_name : lookup (same_name name) (by_name (values_of es)) ≡ None
     new_name =
         let known = fork_known t k name old.branch (sym free) in
-        no_some (lookup (same_name name) (by_name (values_of es))) (ap (λ fs. is_some (lookup (same_name name) fs)) (sym stand.named) ∙ sym (has_branch name es t view stand) ∙ known.0)
+        no_some (lookup (same_name name) (by_name (values_of es))) (ap (λ fs. is_some (lookup (same_name name) fs)) (sym stand.named)
+        ∙ sym (has_branch name es t view stand) ∙ known.0)
 
-    module _ (n : Entries) (new : Rooted) (made : new ≡ record { opening = old.opening; branch = first_events k name old.branch }) (last : n ≡ insert_entry same_name es name new) where
+    module _ (n : Entries) (new : Rooted) (made : new ≡ record { opening = old.opening; branch = first_events k name old.branch })
+        (last : n ≡ insert_entry same_name es name new) where
       longer_by : n ≡ by_name (values_of es ++ new ∷ [])
       longer_by =
           last
@@ -82,7 +85,8 @@ module _ (from : List ℕ) (es : Entries) (old : Rooted) (t : Timeline) (view : 
 abbrev without : Timeline → Branch → Bool → Replied
 without t b last = reply_unless t (refused_by ((last, refused.LastBranch) ∷ [])) (replied (record t { branches = others b.name t.branches }) Removed)
 
-module _ (name : List ℕ) (es : Entries) (old : Rooted) (t : Timeline) (view : timeline_of (values_of es) ≡ t) (stand : StandByName es) (here : Some old ≡ lookup (same_name name) es) where
+module _ (name : List ℕ) (es : Entries) (old : Rooted) (t : Timeline) (view : timeline_of (values_of es) ≡ t) (stand : StandByName es)
+    (here : Some old ≡ lookup (same_name name) es) where
   asked : with_branch t name (λ b. drop_reply t b) ≡ drop_reply t old.branch
   asked = asks-at name es old t view stand here (λ b. drop_reply t b)
 

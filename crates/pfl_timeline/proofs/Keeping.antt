@@ -1,5 +1,6 @@
 -- Every command leaves a timeline a timeline, and each branch shows a world.
-use Rattle.std.specs.Prelude.{◌≡◌, ◌≤◌, ℕ, ◌+◌, ◌-◌, ◌++◌, Bool, true, false, not, nat_lt, nat_le, List, [], ◌∷◌, length, map, find, take, drop, Option, Some, None, is_some, IsTrue, IfSome, Ok, Err, refl, if◌then◌else◌}
+use Rattle.std.specs.Prelude.{◌≡◌, ◌≤◌, ℕ, ◌+◌, ◌-◌, ◌++◌, Bool, true, false, not, nat_lt, nat_le, List, [], ◌∷◌, length, map, find, take, drop}
+use Rattle.std.specs.Prelude.{Option, Some, None, is_some, IsTrue, IfSome, Ok, Err, refl, if◌then◌else◌}
 use Rattle.std.specs.List.{AllByRecursion, IsDistinct}
 use Rattle.std.specs.Option.{option_and_then, option_map_or}
 use Rattle.std.proofs.Common.{cond, sym, ◌∙◌, ap, subst, arith, length-append, length-take-le}
@@ -18,7 +19,12 @@ use Rattle.pfl_search.specs.world.Events.{step}
 use Rattle.pfl_search.specs.world.Meanings.{Stepped}
 use Rattle.pfl_search.specs.world.Runs.{run, world_after}
 use Rattle.pfl_search.specs.world.Worlds.{World}
-use Rattle.pfl_timeline.specs.Commands.{replied, reply_unless, with_branch, with_changed, extended, undone, at_cursor, step_answered, step_reply, back_reply, forward_reply, first_events, fork_refusal, fork_reply, drop_reply, show_reply, past_reply, explanation, why_reply, why_step_reply, frame_reply, step_command, back_command, forward_command, fork_command, drop_command, show_command, past_command, why_command, why_step_command, frame_command, names_command, excise_reply, restore_reply, excise_command, restore_command, log_reply, log_command, command_step, replayed}
+use Rattle.pfl_timeline.specs.Commands.{replied, reply_unless, with_branch, with_changed, extended, undone, at_cursor, step_answered, step_reply}
+use Rattle.pfl_timeline.specs.Commands.{back_reply, forward_reply, first_events, fork_refusal, fork_reply, drop_reply, show_reply, past_reply}
+use Rattle.pfl_timeline.specs.Commands.{explanation, why_reply, why_step_reply, frame_reply, step_command, back_command, forward_command}
+use Rattle.pfl_timeline.specs.Commands.{fork_command, drop_command, show_command, past_command, why_command, why_step_command, frame_command}
+use Rattle.pfl_timeline.specs.Commands.{names_command, excise_reply, restore_reply, excise_command, restore_command, log_reply, log_command}
+use Rattle.pfl_timeline.specs.Commands.{command_step, replayed}
 use Rattle.pfl_timeline.specs.Excisions.{has_event, excised, fallen_places, restored}
 use Rattle.pfl_timeline.specs.Laws.{CommandsKeepTimelines, BranchesShowWorlds}
 use Rattle.pfl_timeline.specs.Replies.{Replied, Forked, Removed, Shown, Excised, Restored, Refused as Refusing}
@@ -73,7 +79,8 @@ keeps t b is branch = record {
 -- ---- what is asked of a branch
 
 -- a branch with an accepted event more
-longer : (t : Timeline) (b : Branch) (e : Event) (w : World) (s : Stepped) → IsBranch t.opening b → world_of t b ≡ Some w → step w e ≡ Ok s → IsBranch t.opening (extended b e)
+longer : (t : Timeline) (b : Branch) (e : Event) (w : World) (s : Stepped) → IsBranch t.opening b → world_of t b ≡ Some w → step w e ≡ Ok s
+    → IsBranch t.opening (extended b e)
 unfolding world_of
 longer t b e w s branch here stepped =
     let ends : run t.opening (standing b ++ e ∷ []) ≡ Some s.world =
@@ -87,7 +94,8 @@ longer t b e w s branch here stepped =
 
 step_keeps : (t : Timeline) (e : Event) (b : Branch) → IsTimeline t → IsBranch t.opening b → IsTimeline (step_reply t e b).timeline
 step_keeps t e b is branch =
-    elim (world_of t b) as (λ o. world_of t b ≡ o → IsTimeline (option_map_or (λ w. step_answered t b e (step w e)) o (replied t (Refusing refused.NoBranch))).timeline) [
+    elim (world_of t b) as (λ o. world_of t b ≡ o
+    → IsTimeline (option_map_or (λ w. step_answered t b e (step w e)) o (replied t (Refusing refused.NoBranch))).timeline) [
       | None ↦ λ _. is
       | Some w ↦ λ here.
           (elim (step w e) as (λ r. step w e ≡ r → IsTimeline (step_answered t b e r).timeline) [
@@ -110,7 +118,8 @@ back_keeps t n b is branch =
 -- more events of a branch stand
 forward_keeps : (t : Timeline) (n : ℕ) (b : Branch) → IsTimeline t → IsBranch t.opening b → IsTimeline (forward_reply t n b).timeline
 forward_keeps t n b is branch =
-    elim (nat_lt (undone b) n) as (λ far. nat_lt (undone b) n ≡ far → IsTimeline (reply_unless t (refused_by ((far, refused.NothingForward) ∷ [])) (at_cursor t b (b.cursor + n))).timeline) [
+    elim (nat_lt (undone b) n) as (λ far. nat_lt (undone b) n ≡ far
+    → IsTimeline (reply_unless t (refused_by ((far, refused.NothingForward) ∷ [])) (at_cursor t b (b.cursor + n))).timeline) [
       | true ↦ λ _. is
       | false ↦ λ near.
           keeps t (record b { cursor = b.cursor + n }) is
@@ -118,7 +127,9 @@ forward_keeps t n b is branch =
     ] refl
 
 -- no test refuses
-pub none_refused : (a b c d : Bool) → refused_by ((a, refused.NameTaken) ∷ (b, refused.BadName) ∷ (c, refused.NothingForward) ∷ (d, refused.BranchesFull) ∷ []) ≡ None → (a ≡ false) × (b ≡ false) × (c ≡ false) × (d ≡ false)
+pub none_refused : (a b c d : Bool)
+    → refused_by ((a, refused.NameTaken) ∷ (b, refused.BadName) ∷ (c, refused.NothingForward) ∷ (d, refused.BranchesFull) ∷ []) ≡ None
+    → (a ≡ false) × (b ≡ false) × (c ≡ false) × (d ≡ false)
 none_refused true b c d is = absurd cc
 none_refused false true c d is = absurd cc
 none_refused false false true d is = absurd cc
@@ -153,15 +164,18 @@ module _ (t : Timeline) (k : ℕ) (name : List ℕ) (b : Branch) where
 
   pub is_full : taken ≡ false → bad ≡ false → far ≡ false → full ≡ true → Some refused.BranchesFull ≡ fork_refusal t k name b
   is_full one two three four =
-      sym (ap (λ x. first_of x bad far full) one ∙ ap (λ x. first_of false x far full) two ∙ ap (λ x. first_of false false x full) three ∙ ap (λ x. first_of false false false x) four)
+      sym (ap (λ x. first_of x bad far full) one ∙ ap (λ x. first_of false x far full) two ∙ ap (λ x. first_of false false x full) three
+      ∙ ap (λ x. first_of false false false x) four)
 
   pub is_free : taken ≡ false → bad ≡ false → far ≡ false → full ≡ false → None ≡ fork_refusal t k name b
   is_free one two three four =
-      sym (ap (λ x. first_of x bad far full) one ∙ ap (λ x. first_of false x far full) two ∙ ap (λ x. first_of false false x full) three ∙ ap (λ x. first_of false false false x) four)
+      sym (ap (λ x. first_of x bad far full) one ∙ ap (λ x. first_of false x far full) two ∙ ap (λ x. first_of false false x full) three
+      ∙ ap (λ x. first_of false false false x) four)
 
 -- what a fork that is not refused knows
 pub fork_known : (t : Timeline) (k : ℕ) (name : List ℕ) (b : Branch) → fork_refusal t k name b ≡ None
-    → (is_some (branch_of t name) ≡ false) × (not (is_branch_name name) ≡ false) × (nat_lt (length b.events) k ≡ false) × (nat_le 16 (length t.branches) ≡ false)
+    → (is_some (branch_of t name) ≡ false) × (not (is_branch_name name) ≡ false) × (nat_lt (length b.events) k ≡ false)
+    × (nat_le 16 (length t.branches) ≡ false)
 fork_known t k name b is = none_refused (is_some (branch_of t name)) (not (is_branch_name name)) (nat_lt (length b.events) k) (nat_le 16 (length t.branches)) is
 
 -- a name that is not none
@@ -170,11 +184,13 @@ is_one true is = refl
 is_one false is = absurd cc
 
 -- the first events of a branch
-first_is : (t : Timeline) (k : ℕ) (name : List ℕ) (b : Branch) → IsBranch t.opening b → IsTrue (is_branch_name name) → k ≤ length b.events → IsBranch t.opening (first_events k name b)
+first_is : (t : Timeline) (k : ℕ) (name : List ℕ) (b : Branch) → IsBranch t.opening b → IsTrue (is_branch_name name) → k ≤ length b.events
+    → IsBranch t.opening (first_events k name b)
 first_is t k name b branch named within = record {
   name = named;
   within = omega (arith, length-take-le k b.events within);
-  runs = run-front t.opening (take k b.events) (drop k b.events) (subst (λ (es : List Event). IsTrue (is_some (run t.opening es))) (sym (take-append-drop k b.events)) branch.runs);
+  runs = run-front t.opening (take k b.events) (drop k b.events)
+      (subst (λ (es : List Event). IsTrue (is_some (run t.opening es))) (sym (take-append-drop k b.events)) branch.runs);
   former = tt;
 }
 
@@ -182,7 +198,8 @@ first_is t k name b branch named within = record {
 fork_keeps : (t : Timeline) (k : ℕ) (name : List ℕ) (b : Branch) → IsTimeline t → IsBranch t.opening b → IsTimeline (fork_reply t k name b).timeline
 fork_keeps t k name b is branch =
     let new = first_events k name b in
-    elim (fork_refusal t k name b) as (λ o. fork_refusal t k name b ≡ o → IsTimeline (reply_unless t o (replied (record t { branches = t.branches ++ new ∷ [] }) Forked)).timeline) [
+    elim (fork_refusal t k name b) as (λ o. fork_refusal t k name b ≡ o
+    → IsTimeline (reply_unless t o (replied (record t { branches = t.branches ++ new ∷ [] }) Forked)).timeline) [
       | Some why ↦ λ _. is
       | None ↦ λ free.
           let known = fork_known t k name b free in
@@ -191,7 +208,8 @@ fork_keeps t k name b is branch =
             some = omega (arith, length-append t.branches (new ∷ []));
             few = omega (arith, length-append t.branches (new ∷ []), leb-false 16 (length t.branches) known.3);
             names = distinct_behind new t.branches (no_some (branch_of t name) known.0) is.names;
-            branches = all_behind (IsBranch t.opening) t.branches new is.branches (first_is t k name b branch (is_one (is_branch_name name) known.1) (ltb-false (length b.events) k known.2));
+            branches = all_behind (IsBranch t.opening) t.branches new is.branches
+                (first_is t k name b branch (is_one (is_branch_name name) known.1) (ltb-false (length b.events) k known.2));
           }
     ] refl
 
@@ -199,7 +217,8 @@ fork_keeps t k name b is branch =
 drop_keeps : (t : Timeline) (name : List ℕ) (b : Branch) → IsTimeline t → branch_of t name ≡ Some b → IsTimeline (drop_reply t b).timeline
 drop_keeps t name b is here =
     elim (nat_le (length t.branches) 1) as (λ last. nat_le (length t.branches) 1 ≡ last
-    → IsTimeline (reply_unless t (refused_by ((last, refused.LastBranch) ∷ [])) (replied (record t { branches = others b.name t.branches }) Removed)).timeline) [
+    → IsTimeline (reply_unless t (refused_by ((last, refused.LastBranch) ∷ []))
+    (replied (record t { branches = others b.name t.branches }) Removed)).timeline) [
       | true ↦ λ _. is
       | false ↦ λ more.
           let left = one_less (λ c. same_name c.name name) t.branches b here is.names in
@@ -214,7 +233,8 @@ drop_keeps t name b is here =
 
 show_keeps : (t : Timeline) (b : Branch) → IsTimeline t → IsTimeline (show_reply t b).timeline
 show_keeps t b is =
-    elim (world_of t b) as (λ o. IsTimeline (option_map_or (λ w. replied t (Shown b.name (length b.events) b.cursor w)) o (replied t (Refusing refused.NoBranch))).timeline) [
+    elim (world_of t b) as (λ o. IsTimeline
+    (option_map_or (λ w. replied t (Shown b.name (length b.events) b.cursor w)) o (replied t (Refusing refused.NoBranch))).timeline) [
       | None ↦ is
       | Some w ↦ is
     ]
@@ -224,15 +244,17 @@ past_keeps t k b is =
     elim (nat_lt (length b.events) k) as (λ far. IsTimeline (reply_unless t (refused_by ((far, refused.NothingForward) ∷ []))
     (option_map_or (λ w. replied t (Shown b.name (length b.events) k w)) (run t.opening (take k b.events)) (replied t (Refusing refused.NoBranch)))).timeline) [
       | true ↦ is
-      | false ↦ (elim (run t.opening (take k b.events)) as (λ o. IsTimeline (option_map_or (λ w. replied t (Shown b.name (length b.events) k w)) o (replied t (Refusing refused.NoBranch))).timeline) [
-        | None ↦ is
-        | Some w ↦ is
-      ])
+      | false ↦ (elim (run t.opening (take k b.events)) as
+          (λ o. IsTimeline (option_map_or (λ w. replied t (Shown b.name (length b.events) k w)) o (replied t (Refusing refused.NoBranch))).timeline) [
+            | None ↦ is
+            | Some w ↦ is
+          ])
     ]
 
 why_step_keeps : (t : Timeline) (e : Event) (b : Branch) → IsTimeline t → IsTimeline (why_step_reply t e b).timeline
 why_step_keeps t e b is =
-    elim (world_of t b) as (λ o. IsTimeline (option_map_or (λ w. replied t (explanation b.name (b.cursor + 1) w e)) o (replied t (Refusing refused.NoBranch))).timeline) [
+    elim (world_of t b) as (λ o. IsTimeline
+    (option_map_or (λ w. replied t (explanation b.name (b.cursor + 1) w e)) o (replied t (Refusing refused.NoBranch))).timeline) [
       | None ↦ is
       | Some w ↦ is
     ]
@@ -240,7 +262,9 @@ why_step_keeps t e b is =
 -- an event taken out
 excise_keeps : (t : Timeline) (k : ℕ) (b : Branch) → IsTimeline t → IsBranch t.opening b → IsTimeline (excise_reply t k b).timeline
 excise_keeps t k b is branch =
-    elim (not (has_event k b)) as (λ none. IsTimeline (reply_unless t (refused_by ((none, refused.NoEvent) ∷ [])) (replied (with_changed t (excised t.opening k b)) (Excised (fallen_places t.opening k b)))).timeline) [
+    elim (not (has_event k b)) as
+    (λ none. IsTimeline (reply_unless t (refused_by ((none, refused.NoEvent) ∷ []))
+    (replied (with_changed t (excised t.opening k b)) (Excised (fallen_places t.opening k b)))).timeline) [
       | true ↦ is
       | false ↦ keeps t (excised t.opening k b) is (excised-is t.opening k b branch)
     ]
@@ -248,7 +272,9 @@ excise_keeps t k b is branch =
 -- what was there brought back
 restore_keeps : (t : Timeline) (b : Branch) → IsTimeline t → IsBranch t.opening b → IsTimeline (restore_reply t b).timeline
 restore_keeps t b is branch =
-    elim b.former as (λ o. IfSome o (IsFormer t.opening) → IsTimeline (option_map_or (λ f. replied (with_changed t (restored b f)) (Restored f.cursor)) o (replied t (Refusing refused.NothingExcised))).timeline) [
+    elim b.former as (λ o. IfSome o (IsFormer t.opening)
+    → IsTimeline (option_map_or (λ f. replied (with_changed t (restored b f)) (Restored f.cursor)) o
+    (replied t (Refusing refused.NothingExcised))).timeline) [
       | None ↦ λ _. is
       | Some f ↦ λ former. keeps t (restored b f) is (record { name = branch.name; within = former.within; runs = former.runs; former = tt })
     ] branch.former
@@ -259,7 +285,8 @@ restore_keeps t b is branch =
 abbrev Finds : Timeline → List ℕ → Branch → Type 0
 Finds t name b = branch_of t name ≡ Some b
 
-named_keeps : (t : Timeline) (name : List ℕ) (done : Branch → Replied) → IsTimeline t → ((b : Branch) → Finds t name b → IsBranch t.opening b → IsTimeline (done b).timeline) → IsTimeline (with_branch t name done).timeline
+named_keeps : (t : Timeline) (name : List ℕ) (done : Branch → Replied) → IsTimeline t
+    → ((b : Branch) → Finds t name b → IsBranch t.opening b → IsTimeline (done b).timeline) → IsTimeline (with_branch t name done).timeline
 named_keeps t name done is keep =
     elim (branch_of t name) as (λ o. branch_of t name ≡ o → IsTimeline (option_map_or done o (replied t (Refusing refused.NoBranch))).timeline) [
       | None ↦ λ _. is
@@ -267,7 +294,8 @@ named_keeps t name done is keep =
     ] refl
 
 pub command_keeps : (t : Timeline) (c : Command) → IsTimeline t → IsTimeline (command_step t c).timeline
-unfolding command_step step_command back_command forward_command fork_command drop_command show_command past_command why_command why_step_command frame_command names_command excise_command restore_command log_command
+unfolding command_step step_command back_command forward_command fork_command drop_command show_command past_command why_command
+    why_step_command frame_command names_command excise_command restore_command log_command
 command_keeps t (command.Step name e) is = named_keeps t name (step_reply t e) is (λ b _ branch. step_keeps t e b is branch)
 command_keeps t (command.Back name n) is = named_keeps t name (back_reply t n) is (λ b _ branch. back_keeps t n b is branch)
 command_keeps t (command.Forward name n) is = named_keeps t name (forward_reply t n) is (λ b _ branch. forward_keeps t n b is branch)

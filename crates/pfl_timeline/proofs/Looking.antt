@@ -25,7 +25,8 @@ length-set_aside of [] = refl
 length-set_aside of (e ∷ es) = omega (arith, length_push (set_aside of es) (of e), length-set_aside of es)
 
 -- p of the events that stand are looked back to, and m is the mark that was read for them
-module _ {M : Type 0} (w : World) (events : List Event) (tape : List (WorldEdit M)) (marks : List ℕ) (k : IsKept w events tape marks) (h : History) (view : history w events tape marks ≡ h)
+module _ {M : Type 0} (w : World) (events : List Event) (tape : List (WorldEdit M)) (marks : List ℕ) (k : IsKept w events tape marks)
+    (h : History) (view : history w events tape marks ≡ h)
     (p : ℕ) (few : p ≤ h.cursor) (m : ℕ) (read : m ≡ mark_at tape marks p) where
   in_marks : p ≤ length marks
   in_marks = omega (arith, few, ap (λ (r : History). r.cursor) view)
@@ -36,10 +37,12 @@ module _ {M : Type 0} (w : World) (events : List Event) (tape : List (WorldEdit 
 
   -- and there is room for all that is kept, which is as much
   pub room-again : (n spare : ℕ) → n ≡ length tape - m → n ≤ spare → (us : List (WorldUndone M)) → us ≡ set_aside undone (above m tape) → length us ≤ spare
-  room-again n spare counted enough us kept = omega (arith, enough, as-many n counted, ap (λ (xs : List (WorldUndone M)). length xs) kept, length-set_aside (undone {M = M}) (above m tape))
+  room-again n spare counted enough us kept =
+      omega (arith, enough, as-many n counted, ap (λ (xs : List (WorldUndone M)). length xs) kept, length-set_aside (undone {M = M}) (above m tape))
 
   -- what is kept is kept of edits that led to the world
-  pub all-undone : IsWorld w → (v : World) (us : List (WorldUndone M)) → v ≡ back put_back (above m tape) w → us ≡ set_aside undone (above m tape) → AreUndone Finds IsWorld put_back undone us v
+  pub all-undone : IsWorld w → (v : World) (us : List (WorldUndone M)) → v ≡ back put_back (above m tape) w
+      → us ≡ set_aside undone (above m tape) → AreUndone Finds IsWorld put_back undone us v
   all-undone is v us world kept = record {
     edits = above m tape;
     led_to = w;
@@ -54,8 +57,10 @@ module _ {M : Type 0} (w : World) (events : List Event) (tape : List (WorldEdit 
   whole-again rest all front is = is ∙ (ap (λ (es : List (WorldEdit M)). es ++ above m tape) front ∙ take-append-drop m tape)
 
   -- and the world is the one that they led to
-  pub led-again : IsWorld w → (v : World) (us : List (WorldUndone M)) → v ≡ back put_back (above m tape) w → us ≡ set_aside undone (above m tape) → (rest : List (WorldEdit M)) → rest ≡ below m tape
-      → (new : World) (all : List (WorldEdit M)) → ((of : AreUndone Finds IsWorld put_back undone us v) → new ≡ of.led_to) → ((of : AreUndone Finds IsWorld put_back undone us v) → all ≡ rest ++ of.edits)
+  pub led-again : IsWorld w → (v : World) (us : List (WorldUndone M)) → v ≡ back put_back (above m tape) w
+      → us ≡ set_aside undone (above m tape) → (rest : List (WorldEdit M)) → rest ≡ below m tape
+      → (new : World) (all : List (WorldEdit M)) → ((of : AreUndone Finds IsWorld put_back undone us v) → new ≡ of.led_to)
+      → ((of : AreUndone Finds IsWorld put_back undone us v) → all ≡ rest ++ of.edits)
       → (new ≡ w) × (all ≡ tape)
   unfolding all-undone
   led-again is v us world kept rest front new all value list =
@@ -69,7 +74,8 @@ module _ {M : Type 0} (w : World) (events : List Event) (tape : List (WorldEdit 
       ∙ (k.each p in_marks ∙ ap Some (ap (λ n. back put_back (above n tape) w) (sym read) ∙ sym world))
 
   -- and this was seen of it
-  pub seen-there : {W S : Type 0} (sees : Reply → W → W → S → Type 0) (name : List ℕ) (n : ℕ) (v : World) (old new : W) (seen : S) → n ≡ length events → v ≡ back put_back (above m tape) w
+  pub seen-there : {W S : Type 0} (sees : Reply → W → W → S → Type 0) (name : List ℕ) (n : ℕ) (v : World) (old new : W) (seen : S)
+      → n ≡ length events → v ≡ back put_back (above m tape) w
       → sees (Shown name n p v) old new seen → IsSeen sees name h.opening h.events p old new seen
   seen-there sees name n v old new seen many world saw = record {
     world = v;
@@ -78,8 +84,10 @@ module _ {M : Type 0} (w : World) (events : List Event) (tape : List (WorldEdit 
   }
 
 -- this was seen of the world that is kept, which those that stand give
-pub seen-here : {M W S : Type 0} (w : World) (events : List Event) (tape : List (WorldEdit M)) (marks : List ℕ) → IsKept w events tape marks → (h : History) → history w events tape marks ≡ h
-    → (sees : Reply → W → W → S → Type 0) (name : List ℕ) (n c : ℕ) (old new : W) (seen : S) → n ≡ length events → c ≡ length marks → sees (Shown name n c w) old new seen
+pub seen-here : {M W S : Type 0} (w : World) (events : List Event) (tape : List (WorldEdit M)) (marks : List ℕ)
+    → IsKept w events tape marks → (h : History) → history w events tape marks ≡ h
+    → (sees : Reply → W → W → S → Type 0) (name : List ℕ) (n c : ℕ) (old new : W) (seen : S) → n ≡ length events → c ≡ length marks
+    → sees (Shown name n c w) old new seen
     → IsSeen sees name h.opening h.events h.cursor old new seen
 seen-here w events tape marks k h view sees name n c old new seen many stand saw = record {
   world = w;
@@ -89,7 +97,8 @@ seen-here w events tape marks k h view sees name n c old new seen many stand saw
 }
 
 -- the events up to p happened again, and this was seen then
-pub seen-forward : {W S : Type 0} (sees : Reply → W → W → S → Type 0) (name : List ℕ) (h g : History) (p c : ℕ) → c ≡ h.cursor → c ≤ p → g ≡ standing_at h (h.cursor + (p - c))
+pub seen-forward : {W S : Type 0} (sees : Reply → W → W → S → Type 0) (name : List ℕ) (h g : History) (p c : ℕ) → c ≡ h.cursor → c ≤ p
+    → g ≡ standing_at h (h.cursor + (p - c))
     → (old new : W) (seen : S) → IsSeen sees name g.opening g.events g.cursor old new seen → IsSeen sees name h.opening h.events p old new seen
 seen-forward sees name h g p c is few at old new seen saw =
     let end : h.cursor + (p - c) ≡ p = omega (arith, is, few) in

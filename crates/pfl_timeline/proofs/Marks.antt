@@ -39,7 +39,8 @@ module _ {E : Type 0} (tape : List E) (marks : List ℕ) (rising : (j k : ℕ) �
           mark-end k over ∙ ap (mark_at tape marks) same
     ]
 
-    pub rising-cut : (j k : ℕ) → j ≤ k → mark_at (below (mark_at tape marks p) tape) (take p marks) j ≤ mark_at (below (mark_at tape marks p) tape) (take p marks) k
+    pub rising-cut : (j k : ℕ) → j ≤ k
+        → mark_at (below (mark_at tape marks p) tape) (take p marks) j ≤ mark_at (below (mark_at tape marks p) tape) (take p marks) k
     rising-cut j k h = elim (cases_lt k p) [
       | inl under ↦ omega (arith, mark-cut j (omega (arith, h, under)), mark-cut k (omega (arith, under)), rising j k h)
       | inr over ↦ (elim (cases_lt j p) [

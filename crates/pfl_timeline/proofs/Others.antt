@@ -1,5 +1,6 @@
 -- A command leaves every other branch as it was.
-use Rattle.std.specs.Prelude.{◌≡◌, ℕ, ◌+◌, ◌-◌, true, false, not, nat_lt, nat_le, List, [], ◌∷◌, ◌++◌, length, map, find, take, Option, Some, None, Ok, Err, refl, if◌then◌else◌}
+use Rattle.std.specs.Prelude.{◌≡◌, ℕ, ◌+◌, ◌-◌, true, false, not, nat_lt, nat_le, List, [], ◌∷◌, ◌++◌, length, map, find, take, Option, Some, None}
+use Rattle.std.specs.Prelude.{Ok, Err, refl, if◌then◌else◌}
 use Rattle.std.specs.Option.{option_map_or}
 use Rattle.std.proofs.Common.{cond, sym, ◌∙◌, ap}
 use Rattle.std.proofs.lemmas.Slice.Eq.{bytes_eq-Decides}
@@ -12,7 +13,11 @@ use Rattle.pfl_language.specs.BranchWords.{same_name}
 use Rattle.pfl_search.specs.world.desk.Nodes.{refused_by}
 use Rattle.pfl_search.specs.world.Events.{step}
 use Rattle.pfl_search.specs.world.Runs.{run}
-use Rattle.pfl_timeline.specs.Commands.{replied, reply_unless, with_branch, with_changed, extended, undone, step_answered, step_reply, back_reply, forward_reply, first_events, fork_refusal, fork_reply, drop_reply, show_reply, past_reply, explanation, why_reply, why_step_reply, frame_reply, step_command, back_command, forward_command, fork_command, drop_command, show_command, past_command, why_command, why_step_command, frame_command, names_command, excise_reply, restore_reply, excise_command, restore_command, log_reply, log_command, command_step}
+use Rattle.pfl_timeline.specs.Commands.{replied, reply_unless, with_branch, with_changed, extended, undone, step_answered, step_reply, back_reply}
+use Rattle.pfl_timeline.specs.Commands.{forward_reply, first_events, fork_refusal, fork_reply, drop_reply, show_reply, past_reply, explanation}
+use Rattle.pfl_timeline.specs.Commands.{why_reply, why_step_reply, frame_reply, step_command, back_command, forward_command, fork_command}
+use Rattle.pfl_timeline.specs.Commands.{drop_command, show_command, past_command, why_command, why_step_command, frame_command, names_command}
+use Rattle.pfl_timeline.specs.Commands.{excise_reply, restore_reply, excise_command, restore_command, log_reply, log_command, command_step}
 use Rattle.pfl_timeline.specs.Excisions.{has_event, excised, restored}
 use Rattle.pfl_timeline.specs.Laws.{CommandsLeaveOthers}
 use Rattle.pfl_timeline.specs.Replies.{Replied, Shown, Restored, Refused as Refusing}
@@ -33,7 +38,8 @@ module _ (b : Branch) (name : List ℕ) (apart : same_name b.name name ≡ false
   find_put : (bs : List Branch) → find (called name) (map (put b) bs) ≡ find (called name) bs
   find_put [] = refl
   find_put (c ∷ cs) =
-      elim (same_name c.name b.name) as (λ t. same_name c.name b.name ≡ t → find (called name) ((if t then b else c) ∷ map (put b) cs) ≡ find (called name) (c ∷ cs)) [
+      elim (same_name c.name b.name) as (λ t. same_name c.name b.name ≡ t
+      → find (called name) ((if t then b else c) ∷ map (put b) cs) ≡ find (called name) (c ∷ cs)) [
         | true ↦ λ same.
             ap (λ t. cond t (Some b) (find (called name) (map (put b) cs))) apart
             ∙ (find_put cs ∙ sym (ap (λ t. cond t (Some c) (find (called name) cs)) (apart_too b c name apart same)))
@@ -54,7 +60,8 @@ has_the_name of (c ∷ cs) b is =
 abbrev Leaves : Timeline → List ℕ → Replied → Type 0
 Leaves t name done = branch_of done.timeline name ≡ branch_of t name
 
-leaves_named : (t : Timeline) (of name : List ℕ) (done : Branch → Replied) → ((b : Branch) → same_name b.name of ≡ true → Leaves t name (done b)) → Leaves t name (with_branch t of done)
+leaves_named : (t : Timeline) (of name : List ℕ) (done : Branch → Replied)
+    → ((b : Branch) → same_name b.name of ≡ true → Leaves t name (done b)) → Leaves t name (with_branch t of done)
 leaves_named t of name done leaves =
     elim (branch_of t of) as (λ o. branch_of t of ≡ o → Leaves t name (option_map_or done o (replied t (Refusing refused.NoBranch)))) [
       | None ↦ λ _. refl
@@ -80,24 +87,29 @@ module _ (t : Timeline) (of name : List ℕ) (apart : same_name of name ≡ fals
       ]
 
   leaves_back : (n : ℕ) (b : Branch) → same_name b.name of ≡ true → Leaves t name (back_reply t n b)
-  leaves_back n b has = leaves_answered t name (refused_by ((nat_lt b.cursor n, refused.TooFarBack) ∷ [])) _ (find_put (record b { cursor = b.cursor - n }) name (other b has) t.branches)
+  leaves_back n b has = leaves_answered t name (refused_by ((nat_lt b.cursor n, refused.TooFarBack) ∷ [])) _
+      (find_put (record b { cursor = b.cursor - n }) name (other b has) t.branches)
 
   leaves_forward : (n : ℕ) (b : Branch) → same_name b.name of ≡ true → Leaves t name (forward_reply t n b)
-  leaves_forward n b has = leaves_answered t name (refused_by ((nat_lt (undone b) n, refused.NothingForward) ∷ [])) _ (find_put (record b { cursor = b.cursor + n }) name (other b has) t.branches)
+  leaves_forward n b has = leaves_answered t name (refused_by ((nat_lt (undone b) n, refused.NothingForward) ∷ [])) _
+      (find_put (record b { cursor = b.cursor + n }) name (other b has) t.branches)
 
   leaves_excise : (k : ℕ) (b : Branch) → same_name b.name of ≡ true → Leaves t name (excise_reply t k b)
-  leaves_excise k b has = leaves_answered t name (refused_by ((not (has_event k b), refused.NoEvent) ∷ [])) _ (find_put (excised t.opening k b) name (other b has) t.branches)
+  leaves_excise k b has = leaves_answered t name (refused_by ((not (has_event k b), refused.NoEvent) ∷ [])) _
+      (find_put (excised t.opening k b) name (other b has) t.branches)
 
   leaves_restore : (b : Branch) → same_name b.name of ≡ true → Leaves t name (restore_reply t b)
   leaves_restore b has =
-      elim b.former as (λ o. Leaves t name (option_map_or (λ f. replied (with_changed t (restored b f)) (Restored f.cursor)) o (replied t (Refusing refused.NothingExcised)))) [
+      elim b.former as (λ o. Leaves t name
+      (option_map_or (λ f. replied (with_changed t (restored b f)) (Restored f.cursor)) o (replied t (Refusing refused.NothingExcised)))) [
         | None ↦ refl
         | Some f ↦ find_put (restored b f) name (other b has) t.branches
       ]
 
 leaves_show : (t : Timeline) (name : List ℕ) (b : Branch) → Leaves t name (show_reply t b)
 leaves_show t name b =
-    elim (world_of t b) as (λ o. Leaves t name (option_map_or (λ w. replied t (Shown b.name (length b.events) b.cursor w)) o (replied t (Refusing refused.NoBranch)))) [
+    elim (world_of t b) as (λ o. Leaves t name
+    (option_map_or (λ w. replied t (Shown b.name (length b.events) b.cursor w)) o (replied t (Refusing refused.NoBranch)))) [
       | None ↦ refl
       | Some w ↦ refl
     ]
@@ -105,14 +117,16 @@ leaves_show t name b =
 leaves_past : (t : Timeline) (k : ℕ) (name : List ℕ) (b : Branch) → Leaves t name (past_reply t k b)
 leaves_past t k name b =
     leaves_answered t name (refused_by ((nat_lt (length b.events) k, refused.NothingForward) ∷ [])) _
-    (elim (run t.opening (take k b.events)) as (λ o. Leaves t name (option_map_or (λ w. replied t (Shown b.name (length b.events) k w)) o (replied t (Refusing refused.NoBranch)))) [
+    (elim (run t.opening (take k b.events)) as
+    (λ o. Leaves t name (option_map_or (λ w. replied t (Shown b.name (length b.events) k w)) o (replied t (Refusing refused.NoBranch)))) [
       | None ↦ refl
       | Some w ↦ refl
     ])
 
 leaves_why_step : (t : Timeline) (e : Event) (name : List ℕ) (b : Branch) → Leaves t name (why_step_reply t e b)
 leaves_why_step t e name b =
-    elim (world_of t b) as (λ o. Leaves t name (option_map_or (λ w. replied t (explanation b.name (b.cursor + 1) w e)) o (replied t (Refusing refused.NoBranch)))) [
+    elim (world_of t b) as (λ o. Leaves t name
+    (option_map_or (λ w. replied t (explanation b.name (b.cursor + 1) w e)) o (replied t (Refusing refused.NoBranch)))) [
       | None ↦ refl
       | Some w ↦ refl
     ]
@@ -131,17 +145,21 @@ leaves_fork t k new name apart b = leaves_answered t name (fork_refusal t k new 
 find_others : (of name : List ℕ) → same_name of name ≡ false → (bs : List Branch) → find (called name) (others of bs) ≡ find (called name) bs
 find_others of name apart [] = refl
 find_others of name apart (c ∷ bs) =
-    elim (same_name c.name of) as (λ t. same_name c.name of ≡ t → find (called name) (cond (not t) (c ∷ others of bs) (others of bs)) ≡ find (called name) (c ∷ bs)) [
-      | true ↦ λ has. find_others of name apart bs ∙ sym (ap (λ t. cond t (Some c) (find (called name) bs)) (ap (λ n. same_name n name) ((bytes_eq-Decides c.name of).0 has) ∙ apart))
+    elim (same_name c.name of) as (λ t. same_name c.name of ≡ t
+    → find (called name) (cond (not t) (c ∷ others of bs) (others of bs)) ≡ find (called name) (c ∷ bs)) [
+      | true ↦ λ has. find_others of name apart bs
+          ∙ sym (ap (λ t. cond t (Some c) (find (called name) bs)) (ap (λ n. same_name n name) ((bytes_eq-Decides c.name of).0 has) ∙ apart))
       | false ↦ λ _. ap (λ (o : Option Branch). cond (same_name c.name name) (Some c) o) (find_others of name apart bs)
     ] refl
 
 leaves_drop : (t : Timeline) (of name : List ℕ) → same_name of name ≡ false → (b : Branch) → same_name b.name of ≡ true → Leaves t name (drop_reply t b)
 leaves_drop t of name apart b has =
-    leaves_answered t name (refused_by ((nat_le (length t.branches) 1, refused.LastBranch) ∷ [])) _ (find_others b.name name (other t of name apart b has) t.branches)
+    leaves_answered t name (refused_by ((nat_le (length t.branches) 1, refused.LastBranch) ∷ [])) _
+    (find_others b.name name (other t of name apart b has) t.branches)
 
 pub others-stay : CommandsLeaveOthers
-unfolding command_step step_command back_command forward_command fork_command drop_command show_command past_command why_command why_step_command frame_command names_command excise_command restore_command log_command
+unfolding command_step step_command back_command forward_command fork_command drop_command show_command past_command why_command
+    why_step_command frame_command names_command excise_command restore_command log_command
 others-stay t (command.Step of e) name apart = leaves_named t of name (step_reply t e) (leaves_step t of name apart e)
 others-stay t (command.Back of n) name apart = leaves_named t of name (back_reply t n) (leaves_back t of name apart n)
 others-stay t (command.Forward of n) name apart = leaves_named t of name (forward_reply t n) (leaves_forward t of name apart n)

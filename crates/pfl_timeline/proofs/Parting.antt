@@ -1,5 +1,6 @@
 -- What an excision leaves standing, and what it reports, in words of the list alone.
-use Rattle.std.specs.Prelude.{◌≡◌, ℕ, zero, suc, ◌+◌, ◌-◌, ◌<◌, ◌≤◌, nat_le, List, [], ◌∷◌, ◌++◌, length, filter, take, drop, fold, Option, Some, is_some, IsTrue, Ok, Err, refl}
+use Rattle.std.specs.Prelude.{◌≡◌, ℕ, zero, suc, ◌+◌, ◌-◌, ◌<◌, ◌≤◌, nat_le, List, [], ◌∷◌, ◌++◌, length, filter, take, drop, fold, Option, Some}
+use Rattle.std.specs.Prelude.{is_some, IsTrue, Ok, Err, refl}
 use Rattle.std.specs.List.{AllByRecursion}
 use Rattle.std.proofs.Common.{cond, sym, ◌∙◌, ap, subst, arith, length-append, append_assoc, append-nil}
 use Rattle.std.proofs.lemmas.Bool.{le-leb, lt-leb}
@@ -125,11 +126,14 @@ extends P s (p ∷ ps) all =
 
 all_stand : (c : ℕ) (ps : List Placed) → UpTo c ps → stand c ps ≡ length ps
 all_stand c [] all = refl
-all_stand c (p ∷ ps) all = ap (λ t. length (cond t (p ∷ filter (λ x. nat_le x.place c) ps) (filter (λ x. nat_le x.place c) ps))) (le-leb p.place c all.0) ∙ ap suc (all_stand c ps all.1)
+all_stand c (p ∷ ps) all = ap (λ t. length (cond t (p ∷ filter (λ x. nat_le x.place c) ps) (filter (λ x. nat_le x.place c) ps)))
+    (le-leb p.place c all.0) ∙ ap suc (all_stand c ps all.1)
 
 none_stands : (c : ℕ) (ps : List Placed) → Behind c ps → stand c ps ≡ 0
 none_stands c [] all = refl
-none_stands c (p ∷ ps) all = ap (λ t. length (cond t (p ∷ filter (λ x. nat_le x.place c) ps) (filter (λ x. nat_le x.place c) ps))) (lt-leb p.place c all.0) ∙ none_stands c ps all.1
+none_stands c (p ∷ ps) all =
+    ap (λ t. length (cond t (p ∷ filter (λ x. nat_le x.place c) ps) (filter (λ x. nat_le x.place c) ps))) (lt-leb p.place c all.0)
+    ∙ none_stands c ps all.1
 
 -- of a list that is parted at c, those stand that are accepted of the part in front
 module _ (o : World) (c : ℕ) (front rest : List Placed) (within : UpTo c front) (behind : Behind c rest) where
@@ -160,8 +164,17 @@ module _ (o : World) (c : ℕ) (front rest : List Placed) (within : UpTo c front
   standing_is =
       let k = then_kept in
       let parts : stand c (first.kept ++ k.more) ≡ stand c first.kept + stand c k.more =
-      ap length (filter-append (λ (p : Placed). nat_le p.place c) first.kept k.more) ∙ length-append (filter (λ (p : Placed). nat_le p.place c) first.kept) (filter (λ (p : Placed). nat_le p.place c) k.more) in
-      omega (arith, ap (stand c) kept_is, parts, all_stand c first.kept first_within, none_stands c k.more k.all, length-map first.kept (λ (p : Placed). p.event))
+      ap length (filter-append (λ (p : Placed). nat_le p.place c) first.kept k.more)
+      ∙ length-append (filter (λ (p : Placed). nat_le p.place c) first.kept) (filter (λ (p : Placed). nat_le p.place c) k.more) in
+      omega (
+        arith,
+        ap (stand c) kept_is,
+        parts,
+        all_stand c first.kept first_within,
+        none_stands c k.more k.all,
+        length-map first.kept
+            (λ (p : Placed). p.event),
+      )
 
   pub parted-standing : take (stand c whole.kept) (events_in whole.kept) ≡ accepted_events o (events_in front)
   unfolding first
@@ -191,7 +204,8 @@ unfolding refused_behind
 fold_refused s n [] = sym (append-nil (places_in s.fallen))
 fold_refused s n (e ∷ es) =
     let p : Placed = record { place = n + 1; event = e } in
-    elim (step s.world e) as (λ r. places_in (fold sift (sifted s p r) (placed_behind (n + 1) es)).fallen ≡ places_in s.fallen ++ refused_with s.world (n + 1) (λ v. refused_behind (n + 1) v es) r) [
+    elim (step s.world e) as (λ r. places_in (fold sift (sifted s p r) (placed_behind (n + 1) es)).fallen ≡ places_in s.fallen
+    ++ refused_with s.world (n + 1) (λ v. refused_behind (n + 1) v es) r) [
       | Ok new ↦ fold_refused (sifted s p (Ok new)) (n + 1) es
       | Err why ↦
           fold_refused (sifted s p (Err why)) (n + 1) es
@@ -204,16 +218,19 @@ drop_placed n zero m es at = let same : n ≡ m = omega (arith, at) in ap (λ i.
 drop_placed n (suc k) m [] at = refl
 drop_placed n (suc k) m (e ∷ es) at = drop_placed (n + 1) k m es (omega (arith, at))
 
-pub sieve-refused : (o : World) (k : ℕ) (es : List Event) (w : World) → run o (take (k - 1) es) ≡ Some w → places_in (sieve o (without k (placed es))).fallen ≡ refused_behind k w (drop k es)
+pub sieve-refused : (o : World) (k : ℕ) (es : List Event) (w : World) → run o (take (k - 1) es) ≡ Some w
+    → places_in (sieve o (without k (placed es))).fallen ≡ refused_behind k w (drop k es)
 unfolding sieve
 sieve-refused o k es w runs =
     let front : List Placed = take (k - 1) (placed es) in
-    let events : events_in (take (k - 1) (placed es)) ≡ take (k - 1) es = sym (take-map (λ (p : Placed). p.event) (k - 1) (placed es)) ∙ ap (take (k - 1)) (events_placed 0 es) in
+    let events : events_in (take (k - 1) (placed es)) ≡ take (k - 1) es = sym (take-map (λ (p : Placed). p.event) (k - 1) (placed es))
+    ∙ ap (take (k - 1)) (events_placed 0 es) in
     let leads : run o (events_in (take (k - 1) (placed es))) ≡ Some w = ap (run o) events ∙ runs in
     let all = sieve-keeps o (take (k - 1) (placed es)) (subst (λ (v : Option World). IsTrue (is_some v)) (sym leads) refl) in
     let now : Sieved = sieve o (take (k - 1) (placed es)) in
     let world : (sieve o (take (k - 1) (placed es))).world ≡ w =
-    (let both : Some (sieve o (take (k - 1) (placed es))).world ≡ Some w = sym (sieve-sound o (take (k - 1) (placed es))) ∙ ap (λ (ps : List Placed). run o (events_in ps)) all.kept ∙ leads in cc) in
+    (let both : Some (sieve o (take (k - 1) (placed es))).world ≡ Some w = sym (sieve-sound o (take (k - 1) (placed es)))
+    ∙ ap (λ (ps : List Placed). run o (events_in ps)) all.kept ∙ leads in cc) in
     let here : k ≡ 0 + k = omega arith in
     ap (λ (s : Sieved). places_in s.fallen) (fold-append sift (at_first o) (take (k - 1) (placed es)) (drop k (placed es)))
     ∙ ap (λ (ps : List Placed). places_in (fold sift (sieve o (take (k - 1) (placed es))) ps).fallen) (drop_placed 0 k k es here)

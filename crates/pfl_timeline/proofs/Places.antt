@@ -51,7 +51,8 @@ module _ (r s : Rooted) (rest : List Rooted) where
   length_with [] = refl
   length_with (x ∷ front) = ap suc (length_with front)
 
-  branches_with : (front : List Rooted) (P : Branch → Type 0) → P s.branch → AllByRecursion P (branches_of (front ++ r ∷ rest)) → AllByRecursion P (branches_of (front ++ s ∷ rest))
+  branches_with : (front : List Rooted) (P : Branch → Type 0) → P s.branch → AllByRecursion P (branches_of (front ++ r ∷ rest))
+      → AllByRecursion P (branches_of (front ++ s ∷ rest))
   branches_with [] P is all = (is, all.1)
   branches_with (x ∷ front) P is all = (all.0, branches_with front P is all.1)
 
@@ -71,16 +72,19 @@ name_at P [] r rest all = all.0
 name_at P (x ∷ front) r rest all = name_at P front r rest all.1
 
 -- in a list of distinct names one branch is changed by its name
-changed : (front : List Rooted) (r s : Rooted) (rest : List Rooted) → s.branch.name ≡ r.branch.name → IsDistinct same_name (names_of (front ++ r ∷ rest)) → map (put s.branch) (branches_of (front ++ r ∷ rest)) ≡ branches_of (front ++ s ∷ rest)
+changed : (front : List Rooted) (r s : Rooted) (rest : List Rooted) → s.branch.name ≡ r.branch.name
+    → IsDistinct same_name (names_of (front ++ r ∷ rest)) → map (put s.branch) (branches_of (front ++ r ∷ rest)) ≡ branches_of (front ++ s ∷ rest)
 unfolding IsDistinct
 changed [] r s rest same apart =
     ap (λ t. (if t then s.branch else r.branch) ∷ map (put s.branch) (branches_of rest)) (ap (same_name r.branch.name) same ∙ itself r.branch.name)
     ∙ ap (λ bs. s.branch ∷ bs) (stays s.branch rest (subst (λ m. AllByRecursion (λ n. same_name m n ≡ false) (names_of rest)) (sym same) apart.0))
 changed (x ∷ front) r s rest same apart =
-    ap (λ t. (if t then s.branch else x.branch) ∷ map (put s.branch) (branches_of (front ++ r ∷ rest))) (ap (same_name x.branch.name) same ∙ name_at (λ n. same_name x.branch.name n ≡ false) front r rest apart.0)
+    ap (λ t. (if t then s.branch else x.branch) ∷ map (put s.branch) (branches_of (front ++ r ∷ rest))) (ap (same_name x.branch.name) same
+    ∙ name_at (λ n. same_name x.branch.name n ≡ false) front r rest apart.0)
     ∙ ap (λ bs. x.branch ∷ bs) (changed front r s rest same apart.1)
 
-module _ (front : List Rooted) (r s : Rooted) (rest : List Rooted) (opening : s.opening ≡ r.opening) (name : s.branch.name ≡ r.branch.name) (kept : AreKept (front ++ r ∷ rest)) where
+module _ (front : List Rooted) (r s : Rooted) (rest : List Rooted) (opening : s.opening ≡ r.opening) (name : s.branch.name ≡ r.branch.name)
+    (kept : AreKept (front ++ r ∷ rest)) where
   -- the timeline with the new branch in the place of the old one
   pub with_new : with_changed (timeline_of (front ++ r ∷ rest)) s.branch ≡ timeline_of (front ++ s ∷ rest)
   with_new =
@@ -104,7 +108,8 @@ module _ (front : List Rooted) (r s : Rooted) (rest : List Rooted) (opening : s.
           few = omega (arith, t.few, length_with r s rest front);
           names = subst (IsDistinct same_name) (sym (names_with r s rest front name)) t.names;
           branches = subst (λ (w : World). AllByRecursion (IsBranch w) (branches_of (front ++ s ∷ rest))) (sym o)
-              (branches_with r s rest front (IsBranch (opening_of (front ++ r ∷ rest))) (subst (λ (w : World). IsBranch w s.branch) (sym one_opening) is) t.branches);
+              (branches_with r s rest front (IsBranch (opening_of (front ++ r ∷ rest)))
+              (subst (λ (w : World). IsBranch w s.branch) (sym one_opening) is) t.branches);
         };
       }
 
@@ -123,12 +128,15 @@ told-none asked name es t reply view stand none is =
 
 -- the same, and nothing is written
 pub told-none-still : (asked : Timeline → Branch → Replied) (name : List ℕ) (es n : Entries) (t : Timeline) (reply : Reply) → timeline_of (values_of es) ≡ t
-    → StandByName es → None ≡ lookup (same_name name) es → n ≡ es → reply ≡ Refusing refused.NoBranch → with_branch t name (asked t) ≡ replied (timeline_of (values_of n)) reply
+    → StandByName es → None ≡ lookup (same_name name) es → n ≡ es → reply ≡ Refusing refused.NoBranch
+    → with_branch t name (asked t) ≡ replied (timeline_of (values_of n)) reply
 told-none-still asked name es n t reply view stand none same is =
-    told-none asked name es t reply view stand none is ∙ ap (λ (u : Timeline). replied u reply) (sym (ap (λ (fs : Entries). timeline_of (values_of fs)) same ∙ view))
+    told-none asked name es t reply view stand none is
+    ∙ ap (λ (u : Timeline). replied u reply) (sym (ap (λ (fs : Entries). timeline_of (values_of fs)) same ∙ view))
 
 -- whether a branch has the name
-pub has_branch : (name : List ℕ) (es : Entries) (t : Timeline) → timeline_of (values_of es) ≡ t → StandByName es → is_some (branch_of t name) ≡ is_some (lookup (same_name name) es)
+pub has_branch : (name : List ℕ) (es : Entries) (t : Timeline) → timeline_of (values_of es) ≡ t → StandByName es
+    → is_some (branch_of t name) ≡ is_some (lookup (same_name name) es)
 has_branch name es t view stand =
     ap (λ (u : Timeline). is_some (branch_of u name)) (sym view)
     ∙ ap is_some (found_by name es (lookup (same_name name) es) stand refl)
@@ -142,11 +150,13 @@ pub how_many : (es : Entries) (t : Timeline) → timeline_of (values_of es) ≡ 
 how_many es t view = ap (λ (u : Timeline). length u.branches) (sym view) ∙ length-map (values_of es) (λ (r : Rooted). r.branch) ∙ length-values_of es
 
 -- no branch has the name
-pub none-at : (name : List ℕ) (es : Entries) (t : Timeline) → timeline_of (values_of es) ≡ t → StandByName es → None ≡ lookup (same_name name) es → branch_of t name ≡ None
+pub none-at : (name : List ℕ) (es : Entries) (t : Timeline) → timeline_of (values_of es) ≡ t → StandByName es
+    → None ≡ lookup (same_name name) es → branch_of t name ≡ None
 none-at name es t view stand none = ap (λ (u : Timeline). branch_of u name) (sym view) ∙ found_by name es None stand none
 
 -- What is asked of a name that a branch has: that branch replies.
-module _ (name : List ℕ) (es : Entries) (old : Rooted) (t : Timeline) (view : timeline_of (values_of es) ≡ t) (stand : StandByName es) (here : Some old ≡ lookup (same_name name) es) where
+module _ (name : List ℕ) (es : Entries) (old : Rooted) (t : Timeline) (view : timeline_of (values_of es) ≡ t) (stand : StandByName es)
+    (here : Some old ≡ lookup (same_name name) es) where
   at : Spot name es old
   at = spot name es old stand here
 
@@ -176,7 +186,8 @@ module _ (name : List ℕ) (es : Entries) (old : Rooted) (t : Timeline) (view : 
 
   -- what it accepts is accepted
   pub accepted-at : (asked : Timeline → Branch → Replied) → Accepts asked old → IsAccepted (with_branch t name (asked t))
-  accepted-at asked accepts = ap (λ (b : Option Branch). is_refusal (option_map_or (asked t) b (replied t (Refusing refused.NoBranch))).reply) found ∙ accepts t stands_in
+  accepted-at asked accepts =
+      ap (λ (b : Option Branch). is_refusal (option_map_or (asked t) b (replied t (Refusing refused.NoBranch))).reply) found ∙ accepts t stands_in
 
   -- nothing is written
   pub told-still : (asked : Timeline → Branch → Replied) (reply : Reply) → IsReplyOf asked old old reply → with_branch t name (asked t) ≡ replied t reply
@@ -190,7 +201,8 @@ module _ (name : List ℕ) (es : Entries) (old : Rooted) (t : Timeline) (view : 
     values-new : new.branch.name ≡ old.branch.name → values_of n ≡ at.front ++ new ∷ at.rest
     values-new called = values_are n (at.front ++ new ∷ at.rest) (written ∙ at.written new called)
 
-    pub told-at : (asked : Timeline → Branch → Replied) (reply : Reply) → IsReplyOf asked old new reply → with_branch t name (asked t) ≡ replied (timeline_of (values_of n)) reply
+    pub told-at : (asked : Timeline → Branch → Replied) (reply : Reply) → IsReplyOf asked old new reply
+        → with_branch t name (asked t) ≡ replied (timeline_of (values_of n)) reply
     told-at asked reply answered =
         let h : IsReplyOf asked old new reply = answered in
         asks-at (asked t)
@@ -210,10 +222,12 @@ module _ (name : List ℕ) (es : Entries) (old : Rooted) (t : Timeline) (view : 
 
 -- ---- the first timeline
 
-pub kept-first : (w : World) (r : Rooted) (name : List ℕ) (es : Entries) → IsWorld w → name ≡ main_name → r ≡ record { opening = w; branch = record { name = name; events = []; cursor = 0; former = None } }
+pub kept-first : (w : World) (r : Rooted) (name : List ℕ) (es : Entries) → IsWorld w → name ≡ main_name
+    → r ≡ record { opening = w; branch = record { name = name; events = []; cursor = 0; former = None } }
     → es ≡ (name, r) ∷ [] → StandByName es
 kept-first w r name es is called made whole =
-    let first : r ≡ record { opening = w; branch = record { name = main_name; events = []; cursor = 0; former = None } } = made ∙ ap (λ n. record { opening = w; branch = record { name = n; events = []; cursor = 0; former = None } }) called in
+    let first : r ≡ record { opening = w; branch = record { name = main_name; events = []; cursor = 0; former = None } } =
+    made ∙ ap (λ n. record { opening = w; branch = record { name = n; events = []; cursor = 0; former = None } }) called in
     stand_by es (r ∷ []) (whole ∙ ap (λ n. (n, r) ∷ []) (sym (ap (λ (x : Rooted). x.branch.name) made)))
     (subst (λ (x : Rooted). AreKept (x ∷ [])) (sym first) (record { one_opening = (refl, tt); timeline = new_timeline-is w is }))
 
@@ -252,14 +266,22 @@ all_without : {X : Type 0} (P : X → Type 0) (xs : List X) (x : X) (ys : List X
 all_without P [] x ys all = all.1
 all_without P (z ∷ xs) x ys all = (all.0, all_without P xs x ys all.1)
 
-module _ (front : List Rooted) (old : Rooted) (rest : List Rooted) (kept : AreKept (front ++ old ∷ rest)) (more : nat_le (length (branches_of (front ++ old ∷ rest))) 1 ≡ false) where
+module _ (front : List Rooted) (old : Rooted) (rest : List Rooted) (kept : AreKept (front ++ old ∷ rest))
+    (more : nat_le (length (branches_of (front ++ old ∷ rest))) 1 ≡ false) where
   others_begin : AllByRecursion (λ (r : Rooted). r.opening ≡ opening_of (front ++ old ∷ rest)) (front ++ rest)
   others_begin = all_without (λ (r : Rooted). r.opening ≡ opening_of (front ++ old ∷ rest)) front old rest kept.one_opening
 
   shorter_opening : opening_of (front ++ rest) ≡ opening_of (front ++ old ∷ rest)
   shorter_opening =
       opening_is (front ++ rest) (opening_of (front ++ old ∷ rest))
-      (omega (arith, length-append front rest, length-append front (old ∷ rest), leb-false (length (branches_of (front ++ old ∷ rest))) 1 more, length-map (front ++ old ∷ rest) (λ (r : Rooted). r.branch)))
+      (omega (
+        arith,
+        length-append front rest,
+        length-append front (old ∷ rest),
+        leb-false
+            (length (branches_of (front ++ old ∷ rest))) 1 more,
+        length-map (front ++ old ∷ rest) (λ (r : Rooted). r.branch),
+      ))
       others_begin
 
   shorter_branches : branches_of (front ++ rest) ≡ others old.branch.name (branches_of (front ++ old ∷ rest))
@@ -269,7 +291,8 @@ module _ (front : List Rooted) (old : Rooted) (rest : List Rooted) (kept : AreKe
       (subst (λ bs. IsDistinct same_name (map (λ b. b.name) bs)) (map-append (λ (r : Rooted). r.branch) front (old ∷ rest)) kept.timeline.names))
       ∙ ap (others old.branch.name) (sym (map-append (λ (r : Rooted). r.branch) front (old ∷ rest)))
 
-  pub shorter : timeline_of (front ++ rest) ≡ record (timeline_of (front ++ old ∷ rest)) { branches = others old.branch.name (timeline_of (front ++ old ∷ rest)).branches }
+  pub shorter : timeline_of (front ++ rest)
+      ≡ record (timeline_of (front ++ old ∷ rest)) { branches = others old.branch.name (timeline_of (front ++ old ∷ rest)).branches }
   shorter =
       ap (λ (o : World). record { opening = o; branches = branches_of (front ++ rest) }) shorter_opening
       ∙ ap (λ bs. record { opening = opening_of (front ++ old ∷ rest); branches = bs }) shorter_branches

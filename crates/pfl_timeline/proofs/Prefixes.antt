@@ -48,6 +48,7 @@ the_step (Err why) is = absurd cc
 pub last_accepted : (w : World) (es : List Event) (e : Event) → IsTrue (is_some (run w (es ++ e ∷ []))) → Accepted w es e
 last_accepted w es e is =
     let before : (v : World) × (run w es ≡ Some v) = the_world (run w es) (run-front w es (e ∷ []) is) in
-    let ends : run w (es ++ e ∷ []) ≡ world_after (step before.0 e) = run-last w es e ∙ ap (λ (o : Option World). option_and_then (λ v. world_after (step v e)) o) before.1 in
+    let ends : run w (es ++ e ∷ []) ≡ world_after (step before.0 e) =
+    run-last w es e ∙ ap (λ (o : Option World). option_and_then (λ v. world_after (step v e)) o) before.1 in
     let gives : (s : Stepped) × (step before.0 e ≡ Ok s) = the_step (step before.0 e) (subst (λ (o : Option World). IsTrue (is_some o)) ends is) in
     record { before = before.0; here = before.1; gives = gives.0; stepped = gives.1 }

@@ -21,7 +21,8 @@ module _ {M : Type 0} (w new : World) (events : List Event) (tape after : List (
   -- after those that stand
   module _ (all : fs ≡ take (length marks) events ++ e ∷ []) where
     pub kept-extended : IsKept new fs after ns
-    kept-extended = kept_as new new _ fs _ after _ ns refl all (split tape after taped) items (kept-more w new events tape (above (length tape) after) marks e out k stepped fits back_is)
+    kept-extended = kept_as new new _ fs _ after _ ns refl all (split tape after taped) items
+        (kept-more w new events tape (above (length tape) after) marks e out k stepped fits back_is)
 
     pub history-extended : history new fs after ns ≡ of_parts (back put_back tape w) (take (length marks) events ++ e ∷ []) (length marks + 1)
     history-extended =
@@ -31,7 +32,8 @@ module _ {M : Type 0} (w new : World) (events : List Event) (tape after : List (
   -- as the first of those that had been undone
   module _ (all : fs ≡ events) (within : length marks < length events) (next : e ≡ get_or events (length marks) e) where
     pub kept-redone : IsKept new fs after ns
-    kept-redone = kept_as new new _ fs _ after _ ns refl all (split tape after taped) items (kept-again w new events tape (above (length tape) after) marks e out k stepped fits back_is within next)
+    kept-redone = kept_as new new _ fs _ after _ ns refl all (split tape after taped) items
+        (kept-again w new events tape (above (length tape) after) marks e out k stepped fits back_is within next)
 
     pub history-redone : history new fs after ns ≡ of_parts (back put_back tape w) events (length marks + 1)
     history-redone =

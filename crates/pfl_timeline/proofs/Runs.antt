@@ -38,7 +38,8 @@ unfolding run
 run-none w = refl
 
 -- the world that those that stand give is the one that is kept
-pub reached-kept : {M : Type 0} (w : World) (events : List Event) (tape : List (WorldEdit M)) (marks : List ℕ) → IsKept w events tape marks → reached (history w events tape marks) ≡ Some w
+pub reached-kept : {M : Type 0} (w : World) (events : List Event) (tape : List (WorldEdit M)) (marks : List ℕ) → IsKept w events tape marks
+    → reached (history w events tape marks) ≡ Some w
 reached-kept {M = M} w events tape marks k =
     k.each (length marks) (le_refl (length marks))
     ∙ ap (λ n. Some (back put_back (above n tape) w)) (mark-past tape marks (length marks) (le_refl (length marks)))
@@ -56,10 +57,12 @@ kept-new {M = M} w is = record {
 }
 
 -- of equal ones
-pub kept_as : {M : Type 0} (w v : World) (es fs : List Event) (tape copied : List (WorldEdit M)) (ms ns : List ℕ) → v ≡ w → fs ≡ es → copied ≡ tape → ns ≡ ms → IsKept w es tape ms → IsKept v fs copied ns
+pub kept_as : {M : Type 0} (w v : World) (es fs : List Event) (tape copied : List (WorldEdit M)) (ms ns : List ℕ) → v ≡ w → fs ≡ es
+    → copied ≡ tape → ns ≡ ms → IsKept w es tape ms → IsKept v fs copied ns
 kept_as w v es fs tape copied ms ns a b c d k = rw (a, b, c, d) k
 
-pub history_as : {M : Type 0} (w v : World) (es fs : List Event) (tape copied : List (WorldEdit M)) (ms ns : List ℕ) → v ≡ w → fs ≡ es → copied ≡ tape → ns ≡ ms → history v fs copied ns ≡ history w es tape ms
+pub history_as : {M : Type 0} (w v : World) (es fs : List Event) (tape copied : List (WorldEdit M)) (ms ns : List ℕ) → v ≡ w → fs ≡ es
+    → copied ≡ tape → ns ≡ ms → history v fs copied ns ≡ history w es tape ms
 history_as {M = M} w v es fs tape copied ms ns a b c d =
     ap (λ (x : World). history x fs copied ns) a
     ∙ ap (λ (xs : List Event). history w xs copied ns) b
@@ -70,7 +73,8 @@ abbrev pub of_parts : World → List Event → ℕ → History
 of_parts o es n = record { opening = o; events = es; cursor = n }
 
 -- The tape is taken back to where the first p events stood.
-module _ {M : Type 0} (w : World) (events : List Event) (tape : List (WorldEdit M)) (marks : List ℕ) (k : IsKept w events tape marks) (p : ℕ) (few : p ≤ length marks) where
+module _ {M : Type 0} (w : World) (events : List Event) (tape : List (WorldEdit M)) (marks : List ℕ) (k : IsKept w events tape marks)
+    (p : ℕ) (few : p ≤ length marks) where
   abbrev mark : ℕ
   mark = mark_at tape marks p
 
@@ -119,7 +123,8 @@ module _ {M : Type 0} (w : World) (events : List Event) (tape : List (WorldEdit 
   }
 
   -- the history then
-  pub history-cut : history (back put_back (above (mark_at tape marks p) tape) w) events (below (mark_at tape marks p) tape) (take p marks) ≡ of_parts (back put_back tape w) events p
+  pub history-cut : history (back put_back (above (mark_at tape marks p) tape) w) events (below (mark_at tape marks p) tape) (take p marks)
+      ≡ of_parts (back put_back tape w) events p
   history-cut =
       ap (λ (o : World). of_parts o events (length (take p marks))) (sym same_opening)
       ∙ ap (of_parts (back put_back tape w) events) as_many
@@ -166,7 +171,9 @@ module _ {M : Type 0} (w new : World) (events fs : List Event) (tape more : List
       ∙ take-take i (length marks) events h
 
   -- the tape leads from the new world where it led from the old one
-  led : (i : ℕ) → i ≤ length marks → back put_back (above (mark_at (tape ++ more) (marks ++ length tape ∷ []) i) (tape ++ more)) new ≡ back put_back (above (mark_at tape marks i) tape) w
+  led : (i : ℕ) → i ≤ length marks
+      → back put_back (above (mark_at (tape ++ more) (marks ++ length tape ∷ []) i) (tape ++ more)) new
+      ≡ back put_back (above (mark_at tape marks i) tape) w
   led i h =
       ap (λ n. back put_back (above n (tape ++ more)) new) (mark-more tape marks k.rising more i h)
       ∙ ap (λ (es : List (WorldEdit M)). back put_back es new) (above-more tape more (mark_at tape marks i) (mark-within tape marks k.rising i))
@@ -226,12 +233,14 @@ module _ {M : Type 0} (w new : World) (events : List Event) (tape more : List (W
   runs : IsTrue (is_some (run (back put_back tape w) longer))
   runs =
       subst (λ (fs : List Event). IsTrue (is_some (run (back put_back tape w) fs))) all_of_it
-      (subst (λ (o : Option World). IsTrue (is_some o)) (sym (at_end w new events longer tape more marks e out k stepped fits back_is all_of_it (omega (arith, one_more)))) refl)
+      (subst (λ (o : Option World). IsTrue (is_some o))
+      (sym (at_end w new events longer tape more marks e out k stepped fits back_is all_of_it (omega (arith, one_more)))) refl)
 
   pub kept-more : IsKept new (take (length marks) events ++ e ∷ []) (tape ++ more) (marks ++ length tape ∷ [])
   kept-more = kept-step w new events longer tape more marks e out k stepped fits back_is all_of_it (omega (arith, one_more)) runs
 
-  pub history-more : history new (take (length marks) events ++ e ∷ []) (tape ++ more) (marks ++ length tape ∷ []) ≡ of_parts (back put_back tape w) (take (length marks) events ++ e ∷ []) (length marks + 1)
+  pub history-more : history new (take (length marks) events ++ e ∷ []) (tape ++ more) (marks ++ length tape ∷ [])
+      ≡ of_parts (back put_back tape w) (take (length marks) events ++ e ∷ []) (length marks + 1)
   history-more = history-step w new events longer tape more marks e out k stepped fits back_is all_of_it (omega (arith, one_more))
 
 -- The event is the first of those that had been undone, all of which stay.

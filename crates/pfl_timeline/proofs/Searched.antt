@@ -25,7 +25,8 @@ pub gives_all : {S V E : Type 0} (found_of : S → Option V) (tried : S → ℕ)
     → IfOk r (λ x. IfSome (found_of x) (λ run. (events : List Event) → Reaches s w events → length (items run) ≤ length events))
     → IfOk r (λ x. IfNone (found_of x) ((events : List Event) → ¬ (Reaches s w events)))
     → IfOk r (λ x. tried x ≡ runs_to_try s w) → IfOk r (λ x. tried x ≤ s.most) → IfOk r (λ x. Gives items s w (found_of x) (tried x))
-gives_all found_of tried items s w (Ok x) first leads shortest none counted within = record { first = first; leads = leads; shortest = shortest; none = none; counted = counted; within = within }
+gives_all found_of tried items s w (Ok x) first leads shortest none counted within =
+    record { first = first; leads = leads; shortest = shortest; none = none; counted = counted; within = within }
 gives_all found_of tried items s w (Err e) first leads shortest none counted within = tt
 
 -- the answer where as many runs as there are to try were allowed
@@ -36,7 +37,8 @@ answered items s b w found tried gives =
     let within : runs_to_try s w ≤ s.most = subst (λ (n : ℕ). n ≤ s.most) gives.counted gives.within in
     ap (λ (n : ℕ). found_by b.name s.depth n (option_map items found)) gives.counted
     ∙ ap (found_by b.name s.depth (runs_to_try s w)) gives.first
-    ∙ sym (ap (λ (t : Bool). if t then GaveUp s.most else found_by b.name s.depth (runs_to_try s w) (shortest_run s.goal s.depth s.choices w)) (le-ltb s.most (runs_to_try s w) within))
+    ∙ sym (ap (λ (t : Bool). if t then GaveUp s.most
+    else found_by b.name s.depth (runs_to_try s w) (shortest_run s.goal s.depth s.choices w)) (le-ltb s.most (runs_to_try s w) within))
 
 -- what it means
 pub meant : {V : Type 0} (items : V → List Event) (s : Sought) (b : Branch) (w : World) (found : Option V) (tried : ℕ)
@@ -47,10 +49,13 @@ meant items s b w (Some run) tried gives = (gives.leads, gives.shortest)
 -- the answer where more runs are to be tried than were allowed
 pub given_up : (s : Sought) (b : Branch) (w : World) → s.most < runs_to_try s w → GaveUp s.most ≡ finding_from s b w
 unfolding finding_from
-given_up s b w more = sym (ap (λ (t : Bool). if t then GaveUp s.most else found_by b.name s.depth (runs_to_try s w) (shortest_run s.goal s.depth s.choices w)) (lt-ltb s.most (runs_to_try s w) more))
+given_up s b w more = sym
+    (ap (λ (t : Bool). if t then GaveUp s.most else found_by b.name s.depth (runs_to_try s w) (shortest_run s.goal s.depth s.choices w))
+    (lt-ltb s.most (runs_to_try s w) more))
 
 -- the same of the reason why the search stopped
-pub stopped_at : (s : Sought) (b : Branch) (w : World) (why : Stopped) → IsStop s.most (runs_to_try s w) why → why ≡ TooMany → GaveUp s.most ≡ finding_from s b w
+pub stopped_at : (s : Sought) (b : Branch) (w : World) (why : Stopped) → IsStop s.most (runs_to_try s w) why → why ≡ TooMany
+    → GaveUp s.most ≡ finding_from s b w
 stopped_at s b w why stop is = given_up s b w (subst (λ (y : Stopped). IsStop s.most (runs_to_try s w) y) is stop)
 
 -- the world that a branch of the timeline shows
@@ -59,7 +64,8 @@ unfolding world_of
 world_at t r begins = ap (λ (o : World). run o (standing r.branch)) (sym begins)
 
 -- the answer from where the branch of the name stands
-pub finding-at : (t : Timeline) (name : List ℕ) (s : Sought) (b : Branch) (w : World) (f : Finding) → branch_of t name ≡ Some b → world_of t b ≡ Some w → f ≡ finding_from s b w
+pub finding-at : (t : Timeline) (name : List ℕ) (s : Sought) (b : Branch) (w : World) (f : Finding) → branch_of t name ≡ Some b
+    → world_of t b ≡ Some w → f ≡ finding_from s b w
     → f ≡ finding t name s
 finding-at t name s b w f here shows is =
     is ∙ sym (ap (λ (o : Option World). option_map_or (finding_from s b) o (Refused refused.NoBranch)) shows)
@@ -70,7 +76,8 @@ pub finding-none : (t : Timeline) (name : List ℕ) (s : Sought) → branch_of t
 finding-none t name s none = sym (ap (λ (o : Option Branch). option_map_or (finding_on t s) o (Refused refused.NoBranch)) none)
 
 -- what the answer means there
-pub means-at : (t : Timeline) (name : List ℕ) (s : Sought) (b : Branch) (w : World) (f : Finding) → branch_of t name ≡ Some b → world_of t b ≡ Some w → IsAnswer s w f
+pub means-at : (t : Timeline) (name : List ℕ) (s : Sought) (b : Branch) (w : World) (f : Finding) → branch_of t name ≡ Some b
+    → world_of t b ≡ Some w → IsAnswer s w f
     → (c : Branch) (v : World) → branch_of t name ≡ Some c → world_of t c ≡ Some v → IsAnswer s v f
 means-at t name s b w f here shows is c v there sees =
     let one : b ≡ c = some_same (sym here ∙ there) in

@@ -1,5 +1,6 @@
 -- What happens where one event of a list does not, and the others come one after another.
-use Rattle.std.specs.Prelude.{◌≡◌, ℕ, zero, suc, ◌+◌, ◌-◌, ◌<◌, ◌≤◌, true, false, ◌&&◌, nat_le, min, List, [], ◌∷◌, ◌++◌, length, get_or, map, filter, take, drop, fold, Option, Some, None, is_some, IsTrue, Result, Ok, Err, refl, if◌then◌else◌}
+use Rattle.std.specs.Prelude.{◌≡◌, ℕ, zero, suc, ◌+◌, ◌-◌, ◌<◌, ◌≤◌, true, false, ◌&&◌, nat_le, min, List, [], ◌∷◌, ◌++◌, length, get_or, map, filter}
+use Rattle.std.specs.Prelude.{take, drop, fold, Option, Some, None, is_some, IsTrue, Result, Ok, Err, refl, if◌then◌else◌}
 use Rattle.std.specs.Option.{option_and_then}
 use Rattle.std.proofs.Common.{cond, sym, ◌∙◌, ap, subst, arith, length-append, append_assoc, append-nil, length-take-le, take_all, drop_of_length-le}
 use Rattle.std.proofs.lemmas.Bool.{le-leb, lt-leb, leb-true, leb-false}
@@ -37,7 +38,8 @@ length_placed : (n : ℕ) (es : List Event) → length (placed_behind n es) ≡ 
 length_placed n [] = refl
 length_placed n (e ∷ es) = ap suc (length_placed (n + 1) es)
 
-get_placed : (n i m : ℕ) (es : List Event) (e : Event) → e ≡ get_or es i e → i < length es → n + i + 1 ≡ m → get_or (placed_behind n es) i (record { place = m; event = e }) ≡ record { place = m; event = e }
+get_placed : (n i m : ℕ) (es : List Event) (e : Event) → e ≡ get_or es i e → i < length es → n + i + 1 ≡ m
+    → get_or (placed_behind n es) i (record { place = m; event = e }) ≡ record { place = m; event = e }
 get_placed n i m [] e is within place = absurd (omega (arith, within))
 get_placed n zero m (x ∷ es) e is within place =
     let same : n + 1 ≡ m = omega (arith, place) in
@@ -93,7 +95,8 @@ fold_accepted : (s : Sieved) (ps : List Placed) → events_in (fold sift s ps).k
 unfolding accepted_events
 fold_accepted s [] = sym (append-nil (events_in s.kept))
 fold_accepted s (p ∷ ps) =
-    elim (step s.world p.event) as (λ r. events_in (fold sift (sifted s p r) ps).kept ≡ events_in s.kept ++ accepted_with s.world p.event (λ v. accepted_events v (events_in ps)) r) [
+    elim (step s.world p.event) as (λ r. events_in (fold sift (sifted s p r) ps).kept ≡ events_in s.kept
+    ++ accepted_with s.world p.event (λ v. accepted_events v (events_in ps)) r) [
       | Ok new ↦
           fold_accepted (sifted s p (Ok new)) ps
           ∙ ap (λ (es : List Event). es ++ accepted_events new.world (events_in ps)) (map-append (λ (q : Placed). q.event) s.kept (p ∷ []))
@@ -140,7 +143,9 @@ stand c ps = length (filter (λ p. nat_le p.place c) ps)
 stand_more : (c : ℕ) (ps : List Placed) (p : Placed) → nat_le p.place c ≡ true → stand c (ps ++ p ∷ []) ≡ stand c ps + 1
 stand_more c [] p is = ap (λ t. length (cond t (p ∷ []) [])) is
 stand_more c (q ∷ ps) p is =
-    elim (nat_le q.place c) as (λ t. length (cond t (q ∷ filter (λ x. nat_le x.place c) (ps ++ p ∷ [])) (filter (λ x. nat_le x.place c) (ps ++ p ∷ []))) ≡ length (cond t (q ∷ filter (λ x. nat_le x.place c) ps) (filter (λ x. nat_le x.place c) ps)) + 1) [
+    elim (nat_le q.place c) as
+    (λ t. length (cond t (q ∷ filter (λ x. nat_le x.place c) (ps ++ p ∷ [])) (filter (λ x. nat_le x.place c) (ps ++ p ∷ [])))
+    ≡ length (cond t (q ∷ filter (λ x. nat_le x.place c) ps) (filter (λ x. nat_le x.place c) ps)) + 1) [
       | true ↦ (let more = stand_more c ps p is in omega (arith, more))
       | false ↦ stand_more c ps p is
     ]
@@ -148,7 +153,9 @@ stand_more c (q ∷ ps) p is =
 stand_same : (c : ℕ) (ps : List Placed) (p : Placed) → nat_le p.place c ≡ false → stand c (ps ++ p ∷ []) ≡ stand c ps
 stand_same c [] p is = ap (λ t. length (cond t (p ∷ []) [])) is
 stand_same c (q ∷ ps) p is =
-    elim (nat_le q.place c) as (λ t. length (cond t (q ∷ filter (λ x. nat_le x.place c) (ps ++ p ∷ [])) (filter (λ x. nat_le x.place c) (ps ++ p ∷ []))) ≡ length (cond t (q ∷ filter (λ x. nat_le x.place c) ps) (filter (λ x. nat_le x.place c) ps))) [
+    elim (nat_le q.place c) as
+    (λ t. length (cond t (q ∷ filter (λ x. nat_le x.place c) (ps ++ p ∷ [])) (filter (λ x. nat_le x.place c) (ps ++ p ∷ [])))
+    ≡ length (cond t (q ∷ filter (λ x. nat_le x.place c) ps) (filter (λ x. nat_le x.place c) ps))) [
       | true ↦ ap suc (stand_same c ps p is)
       | false ↦ stand_same c ps p is
     ]
@@ -189,12 +196,16 @@ excised-is o k b is =
     }
 
 -- the branch of the history that is left, and of the one that was
-pub rooted-excised : (name : List ℕ) (h new was : History) (former : Option History) (r : Rooted) (k : ℕ) → rooted name h former ≡ r → has_event k r.branch ≡ true
-    → new ≡ standing_at (so_far h.opening (sieve h.opening (without k (placed h.events)))) (stand h.cursor (sieve h.opening (without k (placed h.events))).kept) → was ≡ h
+pub rooted-excised : (name : List ℕ) (h new was : History) (former : Option History) (r : Rooted) (k : ℕ) → rooted name h former ≡ r
+    → has_event k r.branch ≡ true
+    → new ≡ standing_at (so_far h.opening (sieve h.opening (without k (placed h.events))))
+    (stand h.cursor (sieve h.opening (without k (placed h.events))).kept) → was ≡ h
     → rooted name new (Some was) ≡ (if has_event k r.branch then record r { branch = excised r.opening k r.branch } else r)
 rooted-excised name h new was former r k view has made same =
     ap (λ (x : History). rooted name x (Some was)) made
-    ∙ ap (λ (x : History). rooted name (standing_at (so_far h.opening (sieve h.opening (without k (placed h.events)))) (stand h.cursor (sieve h.opening (without k (placed h.events))).kept)) (Some x)) same
+    ∙ ap (λ (x : History). rooted name
+    (standing_at (so_far h.opening (sieve h.opening (without k (placed h.events))))
+    (stand h.cursor (sieve h.opening (without k (placed h.events))).kept)) (Some x)) same
     ∙ ap (λ (x : Rooted). record x { branch = excised x.opening k x.branch }) view
     ∙ sym (ap (λ t. if t then record r { branch = excised r.opening k r.branch } else r) has)
 
@@ -329,12 +340,14 @@ module _ (h : History) (k i : ℕ) (e : Event) (behind : k ≤ i) (within : i < 
   fell_out : FallsBy h.opening old it old_sound rest new so.rest (step old.world e) → Going h k (i + 1) new (fallen ++ (i + 1) ∷ []) standing
   fell_out falls = record {
     rest = falls.0 ∙ ap (so_far h.opening) (sym next);
-    fallen = ap (λ (ns : List ℕ). ns ++ (i + 1) ∷ []) so.fallen ∙ sym (ap (λ (s : Sieved). places_in s.fallen) next ∙ ap places_in falls.2 ∙ map-append (λ (q : Placed). q.place) old.fallen (it ∷ []));
+    fallen = ap (λ (ns : List ℕ). ns ++ (i + 1) ∷ []) so.fallen
+        ∙ sym (ap (λ (s : Sieved). places_in s.fallen) next ∙ ap places_in falls.2 ∙ map-append (λ (q : Placed). q.place) old.fallen (it ∷ []));
     standing = so.standing ∙ sym (ap (λ (s : Sieved). stand h.cursor s.kept) next ∙ ap (stand h.cursor) falls.1);
     few = omega (arith, so.few);
   }
 
-  kept_on : IsKeptBy h.opening old it old_sound rest new so.rest (step old.world e) → (n : ℕ) → n ≤ i + 1 → stand h.cursor (old.kept ++ it ∷ []) ≡ n → Going h k (i + 1) new fallen n
+  kept_on : IsKeptBy h.opening old it old_sound rest new so.rest (step old.world e) → (n : ℕ) → n ≤ i + 1
+      → stand h.cursor (old.kept ++ it ∷ []) ≡ n → Going h k (i + 1) new fallen n
   kept_on kept n few count = record {
     rest = kept.0 ∙ ap (so_far h.opening) (sym next);
     fallen = so.fallen ∙ sym (ap (λ (s : Sieved). places_in s.fallen) next ∙ ap places_in kept.2);
@@ -378,7 +391,9 @@ module _ (h : History) (k i : ℕ) (all : length h.events ≤ i) (rest : History
       let cursor = ap (λ (r : History). r.cursor) so.rest in
       omega (arith, so.standing, cursor, stand_few h.cursor (up_to h k i).kept)
 
-  pub gone-rest : (n : ℕ) → n ≡ standing → standing_at rest n ≡ standing_at (so_far h.opening (sieve h.opening (without k (placed h.events)))) (stand h.cursor (sieve h.opening (without k (placed h.events))).kept)
+  pub gone-rest : (n : ℕ) → n ≡ standing
+      → standing_at rest n ≡ standing_at (so_far h.opening (sieve h.opening (without k (placed h.events))))
+      (stand h.cursor (sieve h.opening (without k (placed h.events))).kept)
   gone-rest n is =
       ap (standing_at rest) (is ∙ so.standing ∙ ap (λ (s : Sieved). stand h.cursor s.kept) whole_list)
       ∙ ap (λ (r : History). standing_at r (stand h.cursor (sieve h.opening (without k (placed h.events))).kept)) (so.rest ∙ ap (so_far h.opening) whole_list)

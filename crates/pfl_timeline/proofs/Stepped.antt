@@ -29,15 +29,21 @@ unfolding world_of
 shows w v es is = ap (run w) (whole es) ∙ is
 
 -- one step
-one_more : (w : World) (es : List Event) (e : Event) → Accepted w es e → (command_step (all_stand w es) (command.Step main_name e)).timeline ≡ all_stand w (es ++ e ∷ [])
+one_more : (w : World) (es : List Event) (e : Event) → Accepted w es e
+    → (command_step (all_stand w es) (command.Step main_name e)).timeline ≡ all_stand w (es ++ e ∷ [])
 unfolding command_step step_command
 one_more w es e k =
     let t = all_stand w es in
     let b = main_with es in
-    ap (λ (o : Option World). (option_map_or (λ v. step_answered t b e (step v e)) o (replied t (Refusing refused.NoBranch))).timeline) (shows w k.before es k.here)
+    ap (λ (o : Option World). (option_map_or (λ v. step_answered t b e (step v e)) o (replied t (Refusing refused.NoBranch))).timeline)
+    (shows w k.before es k.here)
     ∙ ap (λ (r : Result Stepped Refusal). (step_answered t b e r).timeline) k.stepped
-    ∙ ap (λ (fs : List Event). record { opening = w; branches = record { name = main_name; events = fs ++ e ∷ []; cursor = length es + 1; former = None } ∷ [] }) (whole es)
-    ∙ ap (λ n. record { opening = w; branches = record { name = main_name; events = es ++ e ∷ []; cursor = n; former = None } ∷ [] }) (sym (length-append es (e ∷ [])))
+    ∙ ap (λ (fs : List Event). record {
+      opening = w;
+      branches = record { name = main_name; events = fs ++ e ∷ []; cursor = length es + 1; former = None } ∷ [];
+    }) (whole es)
+    ∙ ap (λ n. record { opening = w; branches = record { name = main_name; events = es ++ e ∷ []; cursor = n; former = None } ∷ [] })
+    (sym (length-append es (e ∷ [])))
 
 -- the other steps after these
 all_more : (w : World) (es rest : List Event) → IsTrue (is_some (run w (es ++ rest))) → replayed (all_stand w es) (steps rest) ≡ all_stand w (es ++ rest)
@@ -50,15 +56,19 @@ all_more w es (e ∷ rest) is =
     ∙ all_more w (es ++ e ∷ []) rest all
     ∙ ap (all_stand w) moved
 
-shown_whole : (opening w : World) (es : List Event) → run opening es ≡ Some w → (show_command (all_stand opening es) main_name).reply ≡ Shown main_name (length es) (length es) w
+shown_whole : (opening w : World) (es : List Event) → run opening es ≡ Some w
+    → (show_command (all_stand opening es) main_name).reply ≡ Shown main_name (length es) (length es) w
 unfolding show_command
 shown_whole opening w es is =
     let t = all_stand opening es in
-    ap (λ (o : Option World). (option_map_or (λ v. replied t (Shown main_name (length es) (length es) v)) o (replied t (Refusing refused.NoBranch))).reply) (shows opening w es is)
+    ap (λ (o : Option World).
+    (option_map_or (λ v. replied t (Shown main_name (length es) (length es) v)) o (replied t (Refusing refused.NoBranch))).reply)
+    (shows opening w es is)
 
 pub steps-run : StepsAreRuns
 steps-run opening es w is =
-    let stepped : replayed (new_timeline opening) (steps es) ≡ all_stand opening es = all_more opening [] es (subst (λ (o : Option World). IsTrue (is_some o)) (sym is) refl) in
+    let stepped : replayed (new_timeline opening) (steps es) ≡ all_stand opening es =
+    all_more opening [] es (subst (λ (o : Option World). IsTrue (is_some o)) (sym is) refl) in
     record {
       timeline = stepped;
       shown = ap (λ (t : Timeline). (show_command t main_name).reply) stepped ∙ shown_whole opening w es is;

@@ -1,5 +1,6 @@
 -- The frame of a ticket, found without the opening at hand.
-use Rattle.std.specs.Prelude.{◌≡◌, ℕ, ◌+◌, ◌-◌, ◌≤◌, Bool, false, List, length, take, drop, slice_get, Option, Some, None, is_some, IsTrue, Result, Ok, IfOk, refl}
+use Rattle.std.specs.Prelude.{◌≡◌, ℕ, ◌+◌, ◌-◌, ◌≤◌, Bool, false, List, length, take, drop, slice_get, Option, Some, None, is_some, IsTrue, Result}
+use Rattle.std.specs.Prelude.{Ok, IfOk, refl}
 use Rattle.std.specs.Option.{option_map, option_map_or, option_and_then}
 use Rattle.std.proofs.Common.{sym, ◌∙◌, ap, subst}
 use Rattle.pfl_edits.specs.Maps as maps
@@ -61,16 +62,19 @@ module _ (r : Rooted) (ticket : ℕ) (opening : IsWorld r.opening) (branch : IsB
     }
 
     -- it is the one that is in flight after that event
-    traced-is : TracesAreCounted → (e : Event) (w : World) (o : Option InFlight) → slice_get events (k - 1) ≡ Some e → run r.opening (take k events) ≡ Some w → maps.get w.link.frames ticket ≡ o
+    traced-is : TracesAreCounted → (e : Event) (w : World) (o : Option InFlight) → slice_get events (k - 1) ≡ Some e
+        → run r.opening (take k events) ≡ Some w → maps.get w.link.frames ticket ≡ o
         → traced r.opening events ticket ≡ option_map (sent_as e) o
     traced-is counted e w o at to is =
         counted r.opening events ticket opening branch.runs
         ∙ ap (option_and_then (counted_trace r.opening events ticket)) sent
-        ∙ ap (option_and_then (λ (c : Event). option_and_then (λ (v : World). option_map (sent_as c) (maps.get v.link.frames ticket)) (run r.opening (take k events)))) at
+        ∙ ap (option_and_then (λ (c : Event). option_and_then (λ (v : World). option_map (sent_as c) (maps.get v.link.frames ticket))
+        (run r.opening (take k events)))) at
         ∙ ap (option_and_then (λ (v : World). option_map (sent_as e) (maps.get v.link.frames ticket))) to
         ∙ ap (option_map (sent_as e)) is
 
-    pub frame-is : TracesAreCounted → (e : Event) (w : World) (o : Option InFlight) → slice_get events (k - 1) ≡ Some e → run r.opening (take k events) ≡ Some w → maps.get w.link.frames ticket ≡ o
+    pub frame-is : TracesAreCounted → (e : Event) (w : World) (o : Option InFlight) → slice_get events (k - 1) ≡ Some e
+        → run r.opening (take k events) ≡ Some w → maps.get w.link.frames ticket ≡ o
         → frame_answer r.opening ticket r.branch ≡ shown_as (option_map (sent_as e) o)
     frame-is counted e w o at to is = ap shown_as (traced-is counted e w o at to is)
 
@@ -80,22 +84,28 @@ SeesFrame ticket told old new seen = IfOk seen (λ frame. frame ≡ frame_there 
 
 -- so it is where a branch's history is looked at
 pub frame-seen : {N W : Type 0} (r : Rooted) (name : List ℕ) (h looked : History) (former : Option History) → rooted name h former ≡ r → looked ≡ h
-    → (ticket k : ℕ) (opening : IsWorld r.opening) (branch : IsBranch r.opening r.branch) (sent : sending_place r.opening.link.next ticket r.branch.events ≡ Some k) → TracesAreCounted
-    → (e : Event) → slice_get r.branch.events (k - 1) ≡ Some e → (f : InFlight) (old new : W) (seen : Result (Option InFlight) N) (o : Option InFlight) → seen ≡ Ok o → o ≡ Some f
+    → (ticket k : ℕ) (opening : IsWorld r.opening) (branch : IsBranch r.opening r.branch)
+    (sent : sending_place r.opening.link.next ticket r.branch.events ≡ Some k) → TracesAreCounted
+    → (e : Event) → slice_get r.branch.events (k - 1) ≡ Some e
+    → (f : InFlight) (old new : W) (seen : Result (Option InFlight) N) (o : Option InFlight) → seen ≡ Ok o → o ≡ Some f
     → IsSeen (SeesFrame ticket) name looked.opening looked.events k old new seen
     → frame_answer r.opening ticket r.branch ≡ Traced r.branch.name ticket (sent_as r ticket opening branch k sent e f)
 frame-seen r name h looked former view is ticket k opening branch sent counted e there f old new seen o gave it saw =
     let here =
     subst (λ (q : Rooted). IsSeen (SeesFrame ticket) q.branch.name q.opening q.branch.events k old new seen) view
     (subst (λ (g : History). IsSeen (SeesFrame ticket) name g.opening g.events k old new seen) is saw) in
-    let flies : o ≡ maps.get here.world.link.frames ticket = subst (λ (x : Result (Option InFlight) _). IfOk x (λ frame. frame ≡ frame_there ticket (Shown r.branch.name (length r.branch.events) k here.world))) gave here.sees_it in
+    let flies : o ≡ maps.get here.world.link.frames ticket =
+    subst (λ (x : Result (Option InFlight) _). IfOk x
+    (λ frame. frame ≡ frame_there ticket (Shown r.branch.name (length r.branch.events) k here.world))) gave here.sees_it in
     frame-is r ticket opening branch k sent counted e here.world (Some f) there here.run_to (sym flies ∙ it)
 
 -- equal traces
-pub traced_as : (name name' : List ℕ) (ticket k : ℕ) (e : Event) (len len' : ℕ) (f : InFlight) (steps steps' : List FrameStep) → name ≡ name' → len ≡ len' → steps ≡ steps'
+pub traced_as : (name name' : List ℕ) (ticket k : ℕ) (e : Event) (len len' : ℕ) (f : InFlight) (steps steps' : List FrameStep)
+    → name ≡ name' → len ≡ len' → steps ≡ steps'
     → Traced name ticket (record { first = record { place = k; event = e; outcome = Sent ticket len }; frame = f; later = steps })
     ≡ Traced name' ticket (record { first = record { place = k; event = e; outcome = Sent ticket len' }; frame = f; later = steps' })
 traced_as name name' ticket k e len len' f steps steps' a b c =
     ap (λ (n : List ℕ). Traced n ticket (record { first = record { place = k; event = e; outcome = Sent ticket len }; frame = f; later = steps })) a
     ∙ ap (λ n. Traced name' ticket (record { first = record { place = k; event = e; outcome = Sent ticket n }; frame = f; later = steps })) b
-    ∙ ap (λ (ss : List FrameStep). Traced name' ticket (record { first = record { place = k; event = e; outcome = Sent ticket len' }; frame = f; later = ss })) c
+    ∙ ap (λ (ss : List FrameStep). Traced name' ticket
+    (record { first = record { place = k; event = e; outcome = Sent ticket len' }; frame = f; later = ss })) c

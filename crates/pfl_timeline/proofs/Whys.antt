@@ -1,5 +1,6 @@
 -- What is reported of an event of a branch, and of one that has not happened, is what a step of it replies where the branch stands.
-use Rattle.std.specs.Prelude.{◌≡◌, ℕ, zero, suc, ◌+◌, ◌-◌, ◌<◌, ◌≤◌, Bool, true, false, ◌&&◌, nat_le, List, [], ◌∷◌, ◌++◌, length, take, drop, slice_get, Option, Some, None, is_some, IsTrue, Result, Ok, Err, IfOk, refl, if◌then◌else◌}
+use Rattle.std.specs.Prelude.{◌≡◌, ℕ, zero, suc, ◌+◌, ◌-◌, ◌<◌, ◌≤◌, Bool, true, false, ◌&&◌, nat_le, List, [], ◌∷◌, ◌++◌, length, take, drop}
+use Rattle.std.specs.Prelude.{slice_get, Option, Some, None, is_some, IsTrue, Result, Ok, Err, IfOk, refl, if◌then◌else◌}
 use Rattle.std.specs.Option.{option_map_or}
 use Rattle.std.proofs.Common.{sym, ◌∙◌, ap, subst, arith}
 use Rattle.std.proofs.lemmas.Bool.{leb-true}
@@ -15,7 +16,8 @@ use Rattle.pfl_search.specs.world.Meanings.{Stepped}
 use Rattle.pfl_search.specs.world.Runs.{run}
 use Rattle.pfl_search.specs.world.Worlds.{World}
 use Rattle.pfl_reasons.specs.Explaining.{came_of, explained}
-use Rattle.pfl_timeline.specs.Commands.{replied, event_at, explanation, why_answer, why_reply, why_step_reply, show_reply, step_answered, step_reply, step_command, show_command, why_command, why_step_command}
+use Rattle.pfl_timeline.specs.Commands.{replied, event_at, explanation, why_answer, why_reply, why_step_reply, show_reply, step_answered, step_reply}
+use Rattle.pfl_timeline.specs.Commands.{step_command, show_command, why_command, why_step_command}
 use Rattle.pfl_timeline.specs.Excisions.{has_event}
 use Rattle.pfl_timeline.specs.Laws.{WhysAreSteps, IsExplained, standing_before, WhysForetellSteps, step_told}
 use Rattle.pfl_timeline.specs.Memory.{is_refusal}
@@ -67,15 +69,19 @@ module _ (k : ℕ) (b : Branch) (has : has_event k b ≡ true) where
   -- it was accepted where it stands
   accepted_there : (opening : World) → IsBranch opening b → (e : Event) → slice_get b.events (k - 1) ≡ Some e → Accepted opening (take (k - 1) b.events) e
   accepted_there opening branch e is =
-      let runs = run-front opening (take k b.events) (drop k b.events) (subst (λ (es : List Event). IsTrue (is_some (run opening es))) (sym (take-append-drop k b.events)) branch.runs) in
+      let runs = run-front opening (take k b.events) (drop k b.events)
+      (subst (λ (es : List Event). IsTrue (is_some (run opening es))) (sym (take-append-drop k b.events)) branch.runs) in
       last_accepted opening (take (k - 1) b.events) e (subst (λ (es : List Event). IsTrue (is_some (run opening es))) (up_to_it e is) runs)
 
   -- ---- its explanation
 
-  explained_as : (opening : World) (e : Event) (w : World) → slice_get b.events (k - 1) ≡ Some e → run opening (take (k - 1) b.events) ≡ Some w → why_answer opening k b ≡ explanation b.name k w e
+  explained_as : (opening : World) (e : Event) (w : World) → slice_get b.events (k - 1) ≡ Some e
+      → run opening (take (k - 1) b.events) ≡ Some w → why_answer opening k b ≡ explanation b.name k w e
   explained_as opening e w is before =
       let there : event_at k b ≡ Some e = ap (λ t. if t then slice_get b.events (k - 1) else None) has ∙ is in
-      ap (λ (o : Option Event). option_map_or (λ f. option_map_or (λ v. explanation b.name k v f) (run opening (take (k - 1) b.events)) (Refusing refused.NoBranch)) o (Refusing refused.NoEvent)) there
+      ap (λ (o : Option Event). option_map_or
+      (λ f. option_map_or (λ v. explanation b.name k v f) (run opening (take (k - 1) b.events)) (Refusing refused.NoBranch)) o
+      (Refusing refused.NoEvent)) there
       ∙ ap (λ (o : Option World). option_map_or (λ v. explanation b.name k v e) o (Refusing refused.NoBranch)) before
 
   -- it was accepted, so its explanation is no refusal
@@ -92,7 +98,8 @@ module _ (k : ℕ) (b : Branch) (has : has_event k b ≡ true) where
       IfOk-weaker seen _ _ (λ reply h. h ∙ sym (explained_as opening e saw.world is saw.run_to)) saw.sees_it
 
 -- so it is where a branch's history is looked at
-pub explained-by : {M N W : Type 0} (k : ℕ) (r : Rooted) (name : List ℕ) (h looked : History) (former : Option History) → rooted name h former ≡ r → looked ≡ h → has_event k r.branch ≡ true
+pub explained-by : {M N W : Type 0} (k : ℕ) (r : Rooted) (name : List ℕ) (h looked : History) (former : Option History)
+    → rooted name h former ≡ r → looked ≡ h → has_event k r.branch ≡ true
     → (e : Event) → slice_get r.branch.events (k - 1) ≡ Some e → (old new : W) (seen : Result (GivenReply M) N)
     → IsSeen (Explains k e) name looked.opening looked.events (k - 1) old new seen → IfOk seen (λ reply. reply_of reply ≡ why_answer r.opening k r.branch)
 explained-by k r name h looked former view is has e there old new seen saw =
@@ -102,7 +109,8 @@ explained-by k r name h looked former view is has e there old new seen saw =
 
 -- an event is explained where a branch stands
 pub explained-here : {M N W : Type 0} (r : Rooted) (name : List ℕ) (h looked : History) (former : Option History) → rooted name h former ≡ r → looked ≡ h
-    → (k : ℕ) → k ≡ h.cursor + 1 → (e : Event) (old new : W) (seen : Result (GivenReply M) N) → IsSeen (Explains k e) name looked.opening looked.events looked.cursor old new seen
+    → (k : ℕ) → k ≡ h.cursor + 1 → (e : Event) (old new : W) (seen : Result (GivenReply M) N)
+    → IsSeen (Explains k e) name looked.opening looked.events looked.cursor old new seen
     → IfOk seen (λ reply. (w : World) × (shown r ≡ Some w) × (reply_of reply ≡ explanation r.branch.name (r.branch.cursor + 1) w e))
 explained-here r name h looked former view is k next e old new seen saw =
     let there = subst (λ (g : History). IsSeen (Explains k e) name g.opening g.events g.cursor old new seen) is saw in
@@ -126,20 +134,25 @@ module _ (t : Timeline) (name : List ℕ) (k : ℕ) (b : Branch) (is : IsTimelin
     unfolding show_command world_of
     shown_before =
         ap (λ (o : Option Branch). (option_map_or (show_reply moved) o (replied moved (Refusing refused.NoBranch))).reply) found_before
-        ∙ ap (λ (o : Option World). (option_map_or (λ w. replied moved (Shown b.name (length b.events) (k - 1) w)) o (replied moved (Refusing refused.NoBranch))).reply) accepted.here
+        ∙ ap (λ (o : Option World).
+        (option_map_or (λ w. replied moved (Shown b.name (length b.events) (k - 1) w)) o
+        (replied moved (Refusing refused.NoBranch))).reply) accepted.here
 
     stepped_before : (step_command moved name e).reply ≡ StepReply accepted.gives.outcome (length b.events - (k - 1))
     unfolding step_command world_of
     stepped_before =
         ap (λ (o : Option Branch). (option_map_or (step_reply moved e) o (replied moved (Refusing refused.NoBranch))).reply) found_before
-        ∙ ap (λ (o : Option World). (option_map_or (λ w. step_answered moved before e (step w e)) o (replied moved (Refusing refused.NoBranch))).reply) accepted.here
+        ∙ ap (λ (o : Option World).
+        (option_map_or (λ w. step_answered moved before e (step w e)) o (replied moved (Refusing refused.NoBranch))).reply) accepted.here
         ∙ ap (λ (r : Result Stepped Refusal). (step_answered moved before e r).reply) accepted.stepped
 
-    reported : slice_get b.events (k - 1) ≡ Some e → why_command t name k ≡ replied t (Explained b.name k e (Ok accepted.gives.outcome) (explained accepted.before e))
+    reported : slice_get b.events (k - 1) ≡ Some e
+        → why_command t name k ≡ replied t (Explained b.name k e (Ok accepted.gives.outcome) (explained accepted.before e))
     unfolding why_command
     reported there =
         ap (λ (o : Option Branch). option_map_or (why_reply t k) o (replied t (Refusing refused.NoBranch))) here
-        ∙ ap (replied t) (explained_as k b has t.opening e accepted.before there accepted.here ∙ ap (λ (at : Result Stepped Refusal). Explained b.name k e (came_of at) (explained accepted.before e)) accepted.stepped)
+        ∙ ap (replied t) (explained_as k b has t.opening e accepted.before there accepted.here
+        ∙ ap (λ (at : Result Stepped Refusal). Explained b.name k e (came_of at) (explained accepted.before e)) accepted.stepped)
 
   pub why-stepped : IsExplained t name k b
   why-stepped =
@@ -166,7 +179,8 @@ module _ (t : Timeline) (name : List ℕ) (e : Event) (b : Branch) (here : branc
   unfolding show_command
   shown_now =
       ap (λ (o : Option Branch). (option_map_or (show_reply t) o (replied t (Refusing refused.NoBranch))).reply) here
-      ∙ ap (λ (o : Option World). (option_map_or (λ v. replied t (Shown b.name (length b.events) b.cursor v)) o (replied t (Refusing refused.NoBranch))).reply) there
+      ∙ ap (λ (o : Option World).
+      (option_map_or (λ v. replied t (Shown b.name (length b.events) b.cursor v)) o (replied t (Refusing refused.NoBranch))).reply) there
 
   told_of : (at : Result Stepped Refusal) → (step_answered t b e at).reply ≡ step_told (length b.events - b.cursor) (came_of at)
   told_of (Ok s) = refl
@@ -187,7 +201,8 @@ module _ (t : Timeline) (name : List ℕ) (e : Event) (b : Branch) (here : branc
 
 -- each branch shows a world
 its_world : (t : Timeline) (name : List ℕ) (b : Branch) → IsTimeline t → branch_of t name ≡ Some b → (w : World) × (world_of t b ≡ Some w)
-its_world t name b is here = the_world (world_of t b) (found_is (λ c. IsTrue (is_some (world_of t c))) (λ c. same_name c.name name) t.branches b (branches-show t is) here)
+its_world t name b is here =
+    the_world (world_of t b) (found_is (λ c. IsTrue (is_some (world_of t c))) (λ c. same_name c.name name) t.branches b (branches-show t is) here)
 
 pub whys-foretell-steps : WhysForetellSteps
 whys-foretell-steps t name e b is here =

@@ -93,7 +93,10 @@ final t [] = t
 final t (c ∷ cs) = final (command_step t c).timeline cs
 
 unfoldable computing : ℕ
-unfolding of_worlds replies final commands.command_step timelines.world_of commands.step_command commands.back_command commands.forward_command commands.fork_command commands.drop_command commands.show_command commands.past_command commands.why_command commands.why_step_command commands.frame_command frames.done frames.traced commands.names_command commands.excise_command commands.restore_command commands.log_command excisions.sieve summary
+unfolding of_worlds replies final commands.command_step timelines.world_of commands.step_command commands.back_command
+    commands.forward_command commands.fork_command commands.drop_command commands.show_command commands.past_command commands.why_command
+    commands.why_step_command commands.frame_command frames.done frames.traced commands.names_command commands.excise_command
+    commands.restore_command commands.log_command excisions.sieve summary
 computing = 0
 
 abbrev t : Timeline
@@ -106,15 +109,26 @@ there_and_back : replies (t) (packet u1 ∷ back 1 ∷ show main_name ∷ []) �
 unfolding computing
 there_and_back = refl
 
-cut_and_fork : replies (t) (packet u1 ∷ packet u2 ∷ packet u3 ∷ back 3 ∷ tick 5 ∷ forward 1 ∷ back 2 ∷ fork main_name 0 (codes "t") ∷ show (codes "t") ∷ names ∷ drop (codes "t") ∷ drop main_name ∷ []) ≡ passed 1 1 0 ∷ passed 1 2 0 ∷ passed 1 3 0 ∷ reply.At 0 ∷ reply.Stepped (outcome.At (given.Clock 5)) 3 ∷ reply.Refused refused.NothingForward ∷ reply.Refused refused.TooFarBack ∷ reply.Forked ∷ reply.Shown (codes "t") 0 0 (opening limits) ∷ reply.Names (main_name ∷ codes "t" ∷ []) ∷ reply.Removed ∷ reply.Refused refused.LastBranch ∷ []
+cut_and_fork : replies (t) (packet u1 ∷ packet u2 ∷ packet u3 ∷ back 3 ∷ tick 5 ∷ forward 1 ∷ back 2 ∷ fork main_name 0 (codes "t")
+    ∷ show (codes "t") ∷ names ∷ drop (codes "t") ∷ drop main_name ∷ []) ≡ passed 1 1 0 ∷ passed 1 2 0 ∷ passed 1 3 0 ∷ reply.At 0
+    ∷ reply.Stepped (outcome.At (given.Clock 5)) 3 ∷ reply.Refused refused.NothingForward ∷ reply.Refused refused.TooFarBack ∷ reply.Forked
+    ∷ reply.Shown (codes "t") 0 0 (opening limits) ∷ reply.Names (main_name ∷ codes "t" ∷ []) ∷ reply.Removed ∷ reply.Refused refused.LastBranch ∷ []
 unfolding computing
 cut_and_fork = refl
 
-fork_refused : replies (t) (fork main_name 1 main_name ∷ fork main_name 1 (codes "T") ∷ fork main_name 1 (codes "t") ∷ fork (codes "x") 0 (codes "t") ∷ []) ≡ reply.Refused refused.NameTaken ∷ reply.Refused refused.BadName ∷ reply.Refused refused.NothingForward ∷ reply.Refused refused.NoBranch ∷ []
+fork_refused : replies (t) (fork main_name 1 main_name ∷ fork main_name 1 (codes "T") ∷ fork main_name 1 (codes "t")
+    ∷ fork (codes "x") 0 (codes "t") ∷ []) ≡ reply.Refused refused.NameTaken ∷ reply.Refused refused.BadName
+    ∷ reply.Refused refused.NothingForward ∷ reply.Refused refused.NoBranch ∷ []
 unfolding computing
 fork_refused = refl
 
-branches_full : replies (t) (fork main_name 0 (codes "b1") ∷ fork main_name 0 (codes "b2") ∷ fork main_name 0 (codes "b3") ∷ fork main_name 0 (codes "b4") ∷ fork main_name 0 (codes "b5") ∷ fork main_name 0 (codes "b6") ∷ fork main_name 0 (codes "b7") ∷ fork main_name 0 (codes "b8") ∷ fork main_name 0 (codes "b9") ∷ fork main_name 0 (codes "b10") ∷ fork main_name 0 (codes "b11") ∷ fork main_name 0 (codes "b12") ∷ fork main_name 0 (codes "b13") ∷ fork main_name 0 (codes "b14") ∷ fork main_name 0 (codes "b15") ∷ fork main_name 0 (codes "b16") ∷ []) ≡ reply.Forked ∷ reply.Forked ∷ reply.Forked ∷ reply.Forked ∷ reply.Forked ∷ reply.Forked ∷ reply.Forked ∷ reply.Forked ∷ reply.Forked ∷ reply.Forked ∷ reply.Forked ∷ reply.Forked ∷ reply.Forked ∷ reply.Forked ∷ reply.Forked ∷ reply.Refused refused.BranchesFull ∷ []
+branches_full : replies (t) (fork main_name 0 (codes "b1") ∷ fork main_name 0 (codes "b2") ∷ fork main_name 0 (codes "b3")
+    ∷ fork main_name 0 (codes "b4") ∷ fork main_name 0 (codes "b5") ∷ fork main_name 0 (codes "b6") ∷ fork main_name 0 (codes "b7")
+    ∷ fork main_name 0 (codes "b8") ∷ fork main_name 0 (codes "b9") ∷ fork main_name 0 (codes "b10") ∷ fork main_name 0 (codes "b11")
+    ∷ fork main_name 0 (codes "b12") ∷ fork main_name 0 (codes "b13") ∷ fork main_name 0 (codes "b14") ∷ fork main_name 0 (codes "b15")
+    ∷ fork main_name 0 (codes "b16") ∷ []) ≡ reply.Forked ∷ reply.Forked ∷ reply.Forked ∷ reply.Forked ∷ reply.Forked ∷ reply.Forked
+    ∷ reply.Forked ∷ reply.Forked ∷ reply.Forked ∷ reply.Forked ∷ reply.Forked ∷ reply.Forked ∷ reply.Forked ∷ reply.Forked ∷ reply.Forked
+    ∷ reply.Refused refused.BranchesFull ∷ []
 unfolding computing
 branches_full = refl
 
@@ -127,7 +141,8 @@ unfolding computing
 counted = refl
 
 -- a refused event cuts nothing
-refused_step : replies (t) (packet u1 ∷ back 1 ∷ tick 1000000000001 ∷ forward 1 ∷ []) ≡ passed 1 1 0 ∷ reply.At 0 ∷ reply.Refused (refused.Event refusal.ClockFull) ∷ reply.At 1 ∷ []
+refused_step : replies (t) (packet u1 ∷ back 1 ∷ tick 1000000000001 ∷ forward 1 ∷ []) ≡ passed 1 1 0 ∷ reply.At 0
+    ∷ reply.Refused (refused.Event refusal.ClockFull) ∷ reply.At 1 ∷ []
 unfolding computing
 refused_step = refl
 
@@ -145,7 +160,8 @@ abbrev asked_then : List Command → List Reply
 asked_then cs = replies after_four cs
 
 -- where the packet goes, its frame goes too, and the other packet has the number that was the first one's; then all is back
-taken_out : asked_then (excise 1 ∷ back 1 ∷ step (event.At A (own.Kill (name 1 1))) ∷ []) ≡ reply.Excised (2 ∷ 3 ∷ []) ∷ reply.At 0 ∷ reply.Refused (refused.Event refusal.NoSuchState) ∷ []
+taken_out : asked_then (excise 1 ∷ back 1 ∷ step (event.At A (own.Kill (name 1 1))) ∷ []) ≡ reply.Excised (2 ∷ 3 ∷ []) ∷ reply.At 0
+    ∷ reply.Refused (refused.Event refusal.NoSuchState) ∷ []
 unfolding computing
 taken_out = refl
 
@@ -158,20 +174,24 @@ unfolding computing
 no_event = refl
 
 -- of the events that stand those stand that are left
-undone_before : asked_then (back 2 ∷ excise 1 ∷ forward 2 ∷ forward 1 ∷ restore ∷ []) ≡ reply.At 2 ∷ reply.Excised (2 ∷ 3 ∷ []) ∷ reply.Refused refused.NothingForward ∷ reply.At 1 ∷ reply.Restored 2 ∷ []
+undone_before : asked_then (back 2 ∷ excise 1 ∷ forward 2 ∷ forward 1 ∷ restore ∷ []) ≡ reply.At 2 ∷ reply.Excised (2 ∷ 3 ∷ [])
+    ∷ reply.Refused refused.NothingForward ∷ reply.At 1 ∷ reply.Restored 2 ∷ []
 unfolding computing
 undone_before = refl
 
 -- a refused step leaves what can be brought back, and an accepted one does not
 last_event : asked_then (excise 4 ∷ step (event.Of 9 frame.Lose) ∷ restore ∷ excise 4 ∷ tick 1 ∷ restore ∷ [])
-    ≡ reply.Excised [] ∷ reply.Refused (refused.Event refusal.NoSuchFrame) ∷ reply.Restored 4 ∷ reply.Excised [] ∷ reply.Stepped (outcome.At (given.Clock 1)) 0 ∷ reply.Refused refused.NothingExcised ∷ []
+    ≡ reply.Excised [] ∷ reply.Refused (refused.Event refusal.NoSuchFrame) ∷ reply.Restored 4 ∷ reply.Excised []
+    ∷ reply.Stepped (outcome.At (given.Clock 1)) 0 ∷ reply.Refused refused.NothingExcised ∷ []
 unfolding computing
 last_event = refl
 
 -- a log lists all events, those after the cursor too; a fork's those that it took
 told : asked_then (back 3 ∷ log main_name ∷ fork main_name 2 (codes "t") ∷ log (codes "t") ∷ excise 1 ∷ log main_name ∷ log (codes "x") ∷ [])
-    ≡ reply.At 1 ∷ reply.Logged main_name (event.At A (own.Packet Outbound u1) ∷ event.Flush A ∷ event.Of 1 frame.Deliver ∷ event.At A (own.Packet Outbound u2) ∷ []) 1 ∷ reply.Forked
-    ∷ reply.Logged (codes "t") (event.At A (own.Packet Outbound u1) ∷ event.Flush A ∷ []) 2 ∷ reply.Excised (2 ∷ 3 ∷ []) ∷ reply.Logged main_name (event.At A (own.Packet Outbound u2) ∷ []) 0 ∷ reply.Refused refused.NoBranch ∷ []
+    ≡ reply.At 1 ∷ reply.Logged main_name (event.At A (own.Packet Outbound u1) ∷ event.Flush A ∷ event.Of 1 frame.Deliver
+    ∷ event.At A (own.Packet Outbound u2) ∷ []) 1 ∷ reply.Forked
+    ∷ reply.Logged (codes "t") (event.At A (own.Packet Outbound u1) ∷ event.Flush A ∷ []) 2 ∷ reply.Excised (2 ∷ 3 ∷ [])
+    ∷ reply.Logged main_name (event.At A (own.Packet Outbound u2) ∷ []) 0 ∷ reply.Refused refused.NoBranch ∷ []
 unfolding computing
 told = refl
 
@@ -188,7 +208,8 @@ first_explained =
     reply.Explained main_name 1 e (Ok (outcome.At (given.Handled (fate.Pass (Some (name 1 1)))))) (explained (opening limits) e)
 
 why_there : asked_then (why main_name 1 ∷ back 4 ∷ why main_name 1 ∷ why main_name 0 ∷ why main_name 5 ∷ why (codes "x") 0 ∷ forward 4 ∷ [])
-    ≡ first_explained ∷ reply.At 0 ∷ first_explained ∷ reply.Refused refused.NoEvent ∷ reply.Refused refused.NoEvent ∷ reply.Refused refused.NoBranch ∷ reply.At 4 ∷ []
+    ≡ first_explained ∷ reply.At 0 ∷ first_explained ∷ reply.Refused refused.NoEvent ∷ reply.Refused refused.NoEvent
+    ∷ reply.Refused refused.NoBranch ∷ reply.At 4 ∷ []
 unfolding computing
 why_there = refl
 
@@ -196,7 +217,8 @@ why_there = refl
 abbrev no_flush : Reply
 no_flush = reply.Explained main_name 1 (event.Flush A) (Err refusal.NothingPending) (explained (opening limits) (event.Flush A))
 
-foretold : asked_then (back 4 ∷ why_step (event.Flush A) ∷ why_step (event.At A (own.Packet Outbound u1)) ∷ forward 4 ∷ command.WhyStep (codes "x") (event.Flush A) ∷ [])
+foretold : asked_then (back 4 ∷ why_step (event.Flush A) ∷ why_step (event.At A (own.Packet Outbound u1)) ∷ forward 4
+    ∷ command.WhyStep (codes "x") (event.Flush A) ∷ [])
     ≡ reply.At 0 ∷ no_flush ∷ first_explained ∷ reply.At 4 ∷ reply.Refused refused.NoBranch ∷ []
 unfolding computing
 foretold = refl
@@ -232,7 +254,8 @@ sent_and_taken =
     ∷ record { place = 3; event = event.Of 1 frame.Deliver; outcome = outcome.Taken 1 } ∷ []
 
 -- so it is shown wherever the branch stands
-frame_shown : map steps_shown (asked_then (frame_of main_name 1 ∷ back 4 ∷ frame_of main_name 1 ∷ forward 4 ∷ [])) ≡ sent_and_taken ∷ [] ∷ sent_and_taken ∷ [] ∷ []
+frame_shown : map steps_shown (asked_then (frame_of main_name 1 ∷ back 4 ∷ frame_of main_name 1 ∷ forward 4 ∷ [])) ≡ sent_and_taken ∷ []
+    ∷ sent_and_taken ∷ [] ∷ []
 unfolding computing
 frame_shown = refl
 
@@ -241,7 +264,8 @@ frame_as_sent : map first_frame (asked_then (frame_of main_name 1 ∷ [])) ≡ m
 unfolding computing
 frame_as_sent = refl
 
-no_frame : asked_then (frame_of main_name 0 ∷ frame_of main_name 2 ∷ frame_of (codes "x") 1 ∷ []) ≡ reply.Refused refused.NoFrame ∷ reply.Refused refused.NoFrame ∷ reply.Refused refused.NoBranch ∷ []
+no_frame : asked_then (frame_of main_name 0 ∷ frame_of main_name 2 ∷ frame_of (codes "x") 1 ∷ []) ≡ reply.Refused refused.NoFrame
+    ∷ reply.Refused refused.NoFrame ∷ reply.Refused refused.NoBranch ∷ []
 unfolding computing
 no_frame = refl
 

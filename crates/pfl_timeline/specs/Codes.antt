@@ -21,10 +21,12 @@ coded_branch =
     (λ b. (b.name, (b.events, (b.cursor, b.former)))) (λ p. record { name = p.0; events = p.1.0; cursor = p.1.1.0; former = p.1.1.1 }) (λ _. refl)
 
 abbrev pub coded_history : Coded History
-coded_history = code_by (World × (List Event × ℕ)) (coded× coded_world (coded× coded_events coded_ℕ)) (λ h. (h.opening, (h.events, h.cursor))) (λ p. record { opening = p.0; events = p.1.0; cursor = p.1.1 }) (λ _. refl)
+coded_history = code_by (World × (List Event × ℕ)) (coded× coded_world (coded× coded_events coded_ℕ))
+    (λ h. (h.opening, (h.events, h.cursor))) (λ p. record { opening = p.0; events = p.1.0; cursor = p.1.1 }) (λ _. refl)
 
 abbrev pub coded_rooted : Coded Rooted
 coded_rooted = code_by (World × Branch) (coded× coded_world coded_branch) (λ r. (r.opening, r.branch)) (λ p. record { opening = p.0; branch = p.1 }) (λ _. refl)
 
 abbrev pub coded_timeline : Coded Timeline
-coded_timeline = code_by (World × List Branch) (coded× coded_world (coded_list coded_branch)) (λ t. (t.opening, t.branches)) (λ p. record { opening = p.0; branches = p.1 }) (λ _. refl)
+coded_timeline = code_by (World × List Branch) (coded× coded_world (coded_list coded_branch)) (λ t. (t.opening, t.branches))
+    (λ p. record { opening = p.0; branches = p.1 }) (λ _. refl)

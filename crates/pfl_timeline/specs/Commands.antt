@@ -1,5 +1,6 @@
 -- The commands over a timeline: the timeline after each, and the reply. A refused command changes nothing (this project's profile).
-use Rattle.std.specs.Prelude.{ℕ, ◌+◌, ◌-◌, Bool, not, nat_lt, nat_le, List, [], ◌∷◌, ◌++◌, length, map, filter, take, slice_get, Option, Some, None, is_some, Result, Ok, Err, if◌then◌else◌}
+use Rattle.std.specs.Prelude.{ℕ, ◌+◌, ◌-◌, Bool, not, nat_lt, nat_le, List, [], ◌∷◌, ◌++◌, length, map, filter, take, slice_get, Option, Some, None}
+use Rattle.std.specs.Prelude.{is_some, Result, Ok, Err, if◌then◌else◌}
 use Rattle.std.specs.List.{fold}
 use Rattle.std.specs.Option.{option_map_or}
 use Rattle.pfl_base.specs.declared.refusal.Refusal.{Refusal}
@@ -17,7 +18,8 @@ use Rattle.pfl_search.specs.world.Worlds.{World}
 use Rattle.pfl_reasons.specs.Explaining.{came_of, explained}
 use Rattle.pfl_reasons.specs.Frames.{traced}
 use Rattle.pfl_timeline.specs.Excisions.{has_event, excised, fallen_places, restored}
-use Rattle.pfl_timeline.specs.Replies.{Reply, Stepped as StepReply, At, Forked, Removed, Shown, Names, Excised, Restored, Logged, Explained, Traced, Refused as Refusing, Replied}
+use Rattle.pfl_timeline.specs.Replies.{Reply, Stepped as StepReply, At, Forked, Removed, Shown, Names, Excised, Restored, Logged, Explained, Traced}
+use Rattle.pfl_timeline.specs.Replies.{Refused as Refusing, Replied}
 use Rattle.pfl_timeline.specs.Timelines.{Branch, Timeline, branch_of, standing, world_of}
 
 -- the timeline with a reply

@@ -46,7 +46,10 @@ former_of h = record { events = h.events; cursor = h.cursor }
 
 -- the branch that they stand for
 abbrev pub rooted : List ℕ → History → Option History → Rooted
-rooted name h former = record { opening = h.opening; branch = record { name = name; events = h.events; cursor = h.cursor; former = option_map former_of former } }
+rooted name h former = record {
+  opening = h.opening;
+  branch = record { name = name; events = h.events; cursor = h.cursor; former = option_map former_of former };
+}
 
 -- the name is one for a branch, and both histories begin from one opening
 pub record IsNamed (name : List ℕ) (h : History) (former : Option History) : Type 0 where

@@ -1,5 +1,6 @@
 -- Laws of timelines, in their own words (this project's profile).
-use Rattle.std.specs.Prelude.{◌≡◌, ◌≢◌, ℕ, ◌+◌, ◌-◌, ◌≤◌, Bool, false, List, [], ◌∷◌, length, map, take, drop, Option, Some, None, is_some, IsTrue, IsFalse, slice_get, Result, Ok, Err}
+use Rattle.std.specs.Prelude.{◌≡◌, ◌≢◌, ℕ, ◌+◌, ◌-◌, ◌≤◌, Bool, false, List, [], ◌∷◌, length, map, take, drop, Option, Some, None, is_some, IsTrue}
+use Rattle.std.specs.Prelude.{IsFalse, slice_get, Result, Ok, Err}
 use Rattle.std.specs.List.{AllByRecursion}
 use Rattle.std.specs.Option.{option_map}
 use Rattle.pfl_base.specs.declared.refusal.Refusal.{Refusal}
@@ -15,7 +16,8 @@ use Rattle.pfl_search.specs.world.Meanings.{Stepped}
 use Rattle.pfl_search.specs.world.Runs.{run}
 use Rattle.pfl_search.specs.world.Worlds.{World, IsWorld}
 use Rattle.pfl_reasons.specs.Explaining.{explained}
-use Rattle.pfl_timeline.specs.Commands.{replied, with_changed, step_command, show_command, past_command, why_command, why_step_command, log_command, command_step, replayed}
+use Rattle.pfl_timeline.specs.Commands.{replied, with_changed, step_command, show_command, past_command, why_command, why_step_command, log_command}
+use Rattle.pfl_timeline.specs.Commands.{command_step, replayed}
 use Rattle.pfl_timeline.specs.Excisions.{without, has_event}
 use Rattle.pfl_timeline.specs.Replies as reply
 use Rattle.pfl_timeline.specs.Replies.{Reply}
@@ -34,8 +36,8 @@ abbrev pub BranchesShowWorlds : Type 0
 BranchesShowWorlds = (t : Timeline) → IsTimeline t → AllByRecursion (λ b. IsTrue (is_some (world_of t b))) t.branches
 
 -- no reply reports want of memory, which is returned in place of a reply
-abbrev pub NoReplyTellsWantOfMemory : Type 0
-NoReplyTellsWantOfMemory = (t : Timeline) (c : Command) → (command_step t c).reply ≢ reply.Refused (refused.Event NoMemory)
+abbrev pub NoReplyReportsWantOfMemory : Type 0
+NoReplyReportsWantOfMemory = (t : Timeline) (c : Command) → (command_step t c).reply ≢ reply.Refused (refused.Event NoMemory)
 
 -- a step of each event on `main`
 abbrev pub steps : List Event → List Command
@@ -169,9 +171,10 @@ refused_behind n w [] = []
 refused_behind n w (e ∷ es) = refused_with w (n + 1) (λ v. refused_behind (n + 1) v es) (step w e)
 
 -- the reply lists the places of the events after it that are refused where the world in front of it goes on
-abbrev pub ExcisionsTellTheRefused : Type 0
-ExcisionsTellTheRefused =
-    (t : Timeline) (name : List ℕ) (k : ℕ) (b : Branch) (w : World) → branch_of t name ≡ Some b → IsTrue (has_event k b) → run t.opening (take (k - 1) b.events) ≡ Some w
+abbrev pub ExcisionsReportTheRefused : Type 0
+ExcisionsReportTheRefused =
+    (t : Timeline) (name : List ℕ) (k : ℕ) (b : Branch) (w : World) → branch_of t name ≡ Some b → IsTrue (has_event k b)
+    → run t.opening (take (k - 1) b.events) ≡ Some w
     → (command_step t (command.Excise name k)).reply ≡ reply.Excised (refused_behind k w (drop k b.events))
 
 -- where the list without the event has a run, no other event falls out

@@ -16,9 +16,9 @@ is_refusal _ = false
 abbrev pub IsAccepted : Replied → Type 0
 IsAccepted done = IsFalse (is_refusal done.reply)
 
--- a step and a way forward make changes, a fork a branch, a show a copy of a world, at another place too, an explanation what it
--- says, a frame's trace a copy of the frame, the names and a log a list, and an excision a branch beside the one that it takes the place of; a way back, a drop and a
--- restoration make nothing
+-- a step and a way forward make changes, a fork a branch, a show a copy of a world, at another place too, an explanation what it says, a
+-- frame's trace a copy of the frame, the names and a log a list, and an excision a branch beside the one that it takes the place of; a
+-- way back, a drop and a restoration make nothing
 abbrev pub makes_something : Command → Bool
 makes_something (command.Step name e) = true
 makes_something (command.Back name n) = false

@@ -1,6 +1,7 @@
 //! Branches.
 
-ghost use Rattle.std.specs.Prelude.{◌≡◌, ◌+◌, ◌-◌, ◌≤◌, true, false, nat_lt, [], length, Ok, Some, None, IfErr, IfOk, IfSome, OnErr, OnOk, IsTrue, if◌then◌else◌};
+ghost use Rattle.std.specs.Prelude.{◌≡◌, ◌+◌, ◌-◌, ◌≤◌, true, false, nat_lt, [], length, Ok, Some, None, IfErr, IfOk, IfSome, OnErr, OnOk, IsTrue};
+ghost use Rattle.std.specs.Prelude.{if◌then◌else◌};
 ghost use Rattle.std.specs.Option.{option_map, option_map_or};
 ghost use Rattle.pfl_language.specs.BranchWords.{is_branch_name};
 ghost use Rattle.pfl_search.specs.world.Events.{step, IsEventRefusal};
@@ -202,8 +203,10 @@ impl<A: Allocator + Copy> Branch<A> {
     /// Returns the places of the events that are refused then: they fall out, too. What the branch was can be brought back.
     /// Where there is no memory, nothing changes.
     pub(crate) fn excise(&mut self, place: u32) -> Result<Option<Vec<usize, A>>, NoMemory>
-        ensures fallen { IfOk result (λ fallen. option_map (λ v. v.items) fallen ≡ if has_event place self.old.branch then Some (fallen_places self.old.opening place self.old.branch) else None) }
-        ensures branch { OnOk result (self.new ≡ if has_event place self.old.branch then record self.old { branch = excised self.old.opening place self.old.branch } else self.old) }
+        ensures fallen { IfOk result (λ fallen. option_map (λ v. v.items) fallen ≡ if has_event place self.old.branch
+            then Some (fallen_places self.old.opening place self.old.branch) else None) }
+        ensures branch { OnOk result (self.new ≡ if has_event place self.old.branch
+            then record self.old { branch = excised self.old.opening place self.old.branch } else self.old) }
         ensures memory { OnErr result (has_event place self.old.branch ≡ true) }
         ensures unchanged { OnErr result (self.new ≡ self.old) }
         ensures opening { self.new.opening ≡ self.old.opening }

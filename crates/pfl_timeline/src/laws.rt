@@ -1,6 +1,9 @@
 //! Laws of timelines. They have no code: each is a theorem over the definitions, which a function's contract names.
 
-ghost use Rattle.pfl_timeline.specs.Laws.{NewTimelinesAreTimelines, CommandsKeepTimelines, BranchesShowWorlds, BranchesShowTheirRuns, CommandsLeaveOthers, PastsAreShown, WhysAreSteps, WhysForetellSteps, ExcisionsAreRunsWithout, ExcisionsLeaveStanding, ExcisionsTellTheRefused, NothingElseFallsOut, RestorationsTakeBack, NoReplyTellsWantOfMemory, StepsAreRuns};
+ghost use Rattle.pfl_timeline.specs.Laws.{NewTimelinesAreTimelines, CommandsKeepTimelines, BranchesShowWorlds, BranchesShowTheirRuns};
+ghost use Rattle.pfl_timeline.specs.Laws.{CommandsLeaveOthers, PastsAreShown, WhysAreSteps, WhysForetellSteps, ExcisionsAreRunsWithout};
+ghost use Rattle.pfl_timeline.specs.Laws.{ExcisionsLeaveStanding, ExcisionsReportTheRefused, NothingElseFallsOut, RestorationsTakeBack};
+ghost use Rattle.pfl_timeline.specs.Laws.{NoReplyReportsWantOfMemory, StepsAreRuns};
 
 /// The timeline that opens over a world keeps all that is true of each timeline.
 pub fn new_timelines_are_timelines()
@@ -39,8 +42,8 @@ pub fn commands_leave_others()
 {}
 
 /// No reply reports want of memory, which is returned in place of a reply.
-pub fn no_reply_tells_want_of_memory()
-    ensures { NoReplyTellsWantOfMemory }
+pub fn no_reply_reports_want_of_memory()
+    ensures { NoReplyReportsWantOfMemory }
 {}
 
 /// Events that are stepped one after another show the world of their run.
@@ -54,7 +57,7 @@ pub fn steps_are_runs()
 pub fn excisions_are_runs_without_the_event()
     ensures runs { ExcisionsAreRunsWithout }
     ensures standing { ExcisionsLeaveStanding }
-    ensures told { ExcisionsTellTheRefused }
+    ensures told { ExcisionsReportTheRefused }
     ensures alone { NothingElseFallsOut }
     ensures restored { RestorationsTakeBack }
 {}

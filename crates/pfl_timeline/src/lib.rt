@@ -14,7 +14,7 @@ pub use finding::Finding;
 pub use laws::{
     branches_show_their_runs, commands_keep_timelines, commands_leave_others,
     excisions_are_runs_without_the_event, new_timelines_are_timelines,
-    no_reply_tells_want_of_memory, pasts_are_shown, steps_are_runs, whys_are_steps,
+    no_reply_reports_want_of_memory, pasts_are_shown, steps_are_runs, whys_are_steps,
     whys_foretell_steps,
 };
 pub use look::{Look, NotSeen, Sight};

@@ -108,7 +108,8 @@ impl<A: Allocator + Copy> Look<A, ()> for Explaining<A> {
         world: &mut World<A>,
         _nothing: &mut (),
     ) -> Result<Reply<A>, NoMemory>
-        ensures sees { IfOk result (λ reply. reply_of reply ≡ explained_there self.now.place self.now.event (Shown sight.now.name.now sight.now.events sight.now.cursor world.old)) }
+        ensures sees { IfOk result (λ reply. reply_of reply
+            ≡ explained_there self.now.place self.now.event (Shown sight.now.name.now sight.now.events sight.now.cursor world.old)) }
         ensures still { world.new ≡ world.old }
     {
         let (came, why) = explain(self.alloc, world, &self.event)?;

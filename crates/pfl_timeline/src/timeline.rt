@@ -3,7 +3,9 @@
 ghost use Rattle.std.specs.Prelude.{◌≡◌, ◌≢◌, length, map, Some, is_some, IfOk, IfErr, IsSomeAnd, IsTrue, OnErr, OnOk};
 ghost use Rattle.std.specs.List.{AllByRecursion};
 ghost use Rattle.std.specs.Option.{option_map};
-ghost use Rattle.pfl_timeline.specs.Commands.{replied, step_command, back_command, forward_command, fork_refusal, fork_command, drop_command, show_command, past_command, why_command, why_step_command, frame_command, names_command, excise_command, restore_command, log_command, command_step};
+ghost use Rattle.pfl_timeline.specs.Commands.{replied, step_command, back_command, forward_command, fork_refusal, fork_command, drop_command};
+ghost use Rattle.pfl_timeline.specs.Commands.{show_command, past_command, why_command, why_step_command, frame_command, names_command};
+ghost use Rattle.pfl_timeline.specs.Commands.{excise_command, restore_command, log_command, command_step};
 ghost use Rattle.pfl_timeline.specs.Memory.{IsAccepted, MayWantMemory};
 ghost use Rattle.pfl_timeline.specs.Looks.{IsNotSeen};
 ghost use Rattle.pfl_timeline.specs.Replies.{reply_of, Reply as Replying, Refused as Refusing, Shown};
@@ -112,7 +114,9 @@ impl<A: Allocator> Timeline<A> {
 
     /// The branch that `show` shows, where it stands, or why it shows none.
     pub fn shown(&self, name: &BranchWord) -> Result<&Branch<A>, Refused>
-        ensures branch { IfOk result (λ r. IsSomeAnd (shown r.now) (λ world. show_command self.now name.now ≡ replied self.now (Shown r.now.branch.name (length r.now.branch.events) r.now.branch.cursor world))) }
+        ensures branch { IfOk result (λ r. IsSomeAnd (shown r.now)
+            (λ world. show_command self.now name.now
+            ≡ replied self.now (Shown r.now.branch.name (length r.now.branch.events) r.now.branch.cursor world))) }
         ensures refused { IfErr result (λ why. show_command self.now name.now ≡ replied self.now (Refusing why)) }
     {
         match self.branches.get(name) {
@@ -310,7 +314,8 @@ impl<A: Allocator + Copy> Timeline<A> {
         look: &L,
         writer: &mut W,
     ) -> Result<L::Seen, NotSeen>
-        ensures seen { IfOk result (λ seen. (told : Replying) × (past_command self.old name.now place ≡ replied self.old told) × L.sees look.now told writer.old writer.new seen) }
+        ensures seen { IfOk result (λ seen. (told : Replying) × (past_command self.old name.now place ≡ replied self.old told)
+            × L.sees look.now told writer.old writer.new seen) }
         ensures accepted { OnOk result (IsAccepted (past_command self.old name.now place)) }
         ensures refused { IfErr result (IsNotSeen self.old (past_command self.old name.now place)) }
         ensures still { (past_command self.old name.now place).timeline ≡ self.old }

@@ -19,7 +19,8 @@ left-cases m (Moved u) t e = let same : u ≡ t = cc in inr (ap (λ (v : State).
 left-cases m OutOfWindow t e = let same : m ≡ t = cc in inl same
 left-cases m Reused t e = cc
 
-module _ (P : State → Type 0) (Q : Arrival → Type 0) (step : (m : State) (a : Arrival) (t : State) → Q a → P m → tracked m a.packet a.dir a.now ≡ Moved t → P t) where
+module _ (P : State → Type 0) (Q : Arrival → Type 0) (step : (m : State) (a : Arrival) (t : State) → Q a → P m
+    → tracked m a.packet a.dir a.now ≡ Moved t → P t) where
   one : (m : State) (a : Arrival) → Q a → P m → (at : Option State) → after_packet m a ≡ at → IfSome at P
   one m a q p None e = tt
   one m a q p (Some t) e = elim (left-cases m (tracked m a.packet a.dir a.now) t e) [

@@ -33,8 +33,10 @@ both false b e = absurd (subst T (sym e) tt)
 -- keys that pass the test are those of a state
 pub keys-known : (wire stack : Key) → IsProto wire.proto → IsProto stack.proto → are_keys wire stack ≡ true → AreKeys wire stack
 keys-known wire stack hw hs e =
-    let last = both (((proto_number stack.proto == proto_number wire.proto) && same_family wire.far.addr wire.near.addr) && same_family stack.far.addr stack.near.addr) (same_family wire.far.addr stack.far.addr) e in
-    let third = both ((proto_number stack.proto == proto_number wire.proto) && same_family wire.far.addr wire.near.addr) (same_family stack.far.addr stack.near.addr) last.0 in
+    let last = both (((proto_number stack.proto == proto_number wire.proto) && same_family wire.far.addr wire.near.addr)
+    && same_family stack.far.addr stack.near.addr) (same_family wire.far.addr stack.far.addr) e in
+    let third = both ((proto_number stack.proto == proto_number wire.proto) && same_family wire.far.addr wire.near.addr)
+    (same_family stack.far.addr stack.near.addr) last.0 in
     let second = both (proto_number stack.proto == proto_number wire.proto) (same_family wire.far.addr wire.near.addr) third.0 in
     record {
       proto = hw;
@@ -84,7 +86,9 @@ four false b c d p r s = absurd (subst T (sym p) tt)
 four true true false d p r s = absurd (subst T (sym r) tt)
 four true true true false p r s = absurd (subst T (sym s) tt)
 
-translated-keys : (p : Proto) (far near e : End) → same_family far.addr near.addr ≡ true → are_keys (translated_to (record { proto = p; far = far; near = near }) e p) (record { proto = p; far = far; near = near }) ≡ same_family near.addr e.addr
+translated-keys : (p : Proto) (far near e : End) → same_family far.addr near.addr ≡ true
+    → are_keys (translated_to (record { proto = p; far = far; near = near }) e p) (record { proto = p; far = far; near = near })
+    ≡ same_family near.addr e.addr
 translated-keys Tcp far near e h = four true (same_family far.addr e.addr) _ _ refl h (itself far.addr) ∙ beside far.addr near.addr e.addr h
 translated-keys Udp far near e h = four true (same_family far.addr e.addr) _ _ refl h (itself far.addr) ∙ beside far.addr near.addr e.addr h
 translated-keys Icmp far near e h = four true (same_family far.addr e.addr) _ _ refl h (itself far.addr) ∙ beside far.addr near.addr e.addr h
@@ -106,10 +110,15 @@ flow-family p Inbound h = h
 flow-family p Outbound h = turned p.src.addr p.dst.addr h
 
 -- the same for the flow of a packet
-pub packet-keys : (p : PacketFields) (dir : Dir) (nat : Option End) → same_family p.src.addr p.dst.addr ≡ true → are_keys (wire_key (key p dir) nat) (key p dir) ≡ fits_family (key p dir) nat
+pub packet-keys : (p : PacketFields) (dir : Dir) (nat : Option End) → same_family p.src.addr p.dst.addr ≡ true
+    → are_keys (wire_key (key p dir) nat) (key p dir) ≡ fits_family (key p dir) nat
 packet-keys p dir nat h = wire-keys (key p dir) nat (flow-family p dir h)
 
 -- what the test of a packet's keys returns
-pub packet-pair : (p : PacketFields) (dir : Dir) (nat : Option End) (stack wire : Key) (answer : Option KeyFields) → same_family p.src.addr p.dst.addr ≡ true → stack ≡ key p dir → wire ≡ wire_key stack nat → answer ≡ pair_if (are_keys wire stack) wire stack → answer ≡ pair_if (fits_family (key p dir) nat) (wire_key (key p dir) nat) (key p dir)
+pub packet-pair : (p : PacketFields) (dir : Dir) (nat : Option End) (stack wire : Key) (answer : Option KeyFields)
+    → same_family p.src.addr p.dst.addr ≡ true → stack ≡ key p dir → wire ≡ wire_key stack nat
+    → answer ≡ pair_if (are_keys wire stack) wire stack → answer ≡ pair_if (fits_family (key p dir) nat) (wire_key (key p dir) nat) (key p dir)
 packet-pair p dir nat stack wire answer h at_stack at_wire e =
-    e ∙ (ap (λ w. pair_if (are_keys w stack) w stack) at_wire ∙ (ap (λ s. pair_if (are_keys (wire_key s nat) s) (wire_key s nat) s) at_stack ∙ ap (λ b. pair_if b (wire_key (key p dir) nat) (key p dir)) (packet-keys p dir nat h)))
+    e ∙ (ap (λ w. pair_if (are_keys w stack) w stack) at_wire
+    ∙ (ap (λ s. pair_if (are_keys (wire_key s nat) s) (wire_key s nat) s) at_stack
+    ∙ ap (λ b. pair_if b (wire_key (key p dir) nat) (key p dir)) (packet-keys p dir nat h)))

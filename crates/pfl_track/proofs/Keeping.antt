@@ -64,9 +64,11 @@ tcp-shifts s p dir now t is packet e = by_tests (is_request p && is_closed s) (i
     by_tests false false e = cc
     by_tests false true e = let same : m ≡ t = cc in subst Shifts same shifts
 
-by_proto : (b : Bool) (s : State) (p : Packet) (dir : Dir) (now : ℕ) (t : State) → IsState s → IsPacket p → cond b (tracked_tcp s p dir now) (Moved (tracked_other s dir now)) ≡ Moved t → Shifts t
+by_proto : (b : Bool) (s : State) (p : Packet) (dir : Dir) (now : ℕ) (t : State) → IsState s → IsPacket p
+    → cond b (tracked_tcp s p dir now) (Moved (tracked_other s dir now)) ≡ Moved t → Shifts t
 by_proto true s p dir now t is packet e = tcp-shifts s p dir now t is packet e
-by_proto false s p dir now t is packet e = let same : tracked_other s dir now ≡ t = cc in subst Shifts same (moved-shifts s dir _ _ now (sender-shift s dir is) (receiver-shift s dir is))
+by_proto false s p dir now t is packet e = let same : tracked_other s dir now ≡ t =
+    cc in subst Shifts same (moved-shifts s dir _ _ now (sender-shift s dir is) (receiver-shift s dir is))
 
 used-is : (s : State) (src dst : Peer) (now : ℕ) → IsState s → IsPeer src → IsPeer dst → IsState (used s src dst now)
 used-is s src dst now is from to = record {
@@ -83,7 +85,8 @@ pub tracked-is : (s : State) (p : Packet) (dir : Dir) (now : ℕ) (t : State) �
 tracked-is s p dir now t is packet e =
     let rises = tracked-rises s p dir now t is e in
     let shifts = by_proto (is_tcp p.proto) s p dir now t is packet e in
-    subst IsState (sym (tracked-used s p dir now t e)) (used-is s t.src t.dst now is (record { level = rises.src_most; scale = shifts.src }) (record { level = rises.dst_most; scale = shifts.dst }))
+    subst IsState (sym (tracked-used s p dir now t e))
+    (used-is s t.src t.dst now is (record { level = rises.src_most; scale = shifts.src }) (record { level = rises.dst_most; scale = shifts.dst }))
 
 first-is : (p : Packet) → IsPacket p → IsPeer (first_peer p)
 first-is p packet = by (is_tcp p.proto) _ _ (record { level = omega arith; scale = packet.scale }) (record { level = omega arith; scale = tt })
@@ -92,7 +95,8 @@ first-is p packet = by (is_tcp p.proto) _ _ (record { level = omega arith; scale
     by true x y h k = h
     by false x y h k = k
 
-pub start-is : (name : StateName) (wire stack : Key) (dir : Dir) (p : Packet) (rule : Option ℕ) (no_sync : Bool) (now : ℕ) → AreKeys wire stack → IsPacket p → IsState (start_state name wire stack dir p rule no_sync now)
+pub start-is : (name : StateName) (wire stack : Key) (dir : Dir) (p : Packet) (rule : Option ℕ) (no_sync : Bool) (now : ℕ)
+    → AreKeys wire stack → IsPacket p → IsState (start_state name wire stack dir p rule no_sync now)
 start-is name wire stack dir p rule no_sync now are packet = record {
   src = first-is p packet;
   dst = record { level = omega arith; scale = tt };

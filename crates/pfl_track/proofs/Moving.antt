@@ -32,7 +32,8 @@ tcp-used s p dir now t e = by_tests (is_request p && is_closed s) (is_inside (be
     by_tests false false e = cc
     by_tests false true e = let same : m ≡ t = cc in subst (IsUsed s now) same (moved-used s dir _ _ now)
 
-by_proto : (b : Bool) (s : State) (p : Packet) (dir : Dir) (now : ℕ) (t : State) → cond b (tracked_tcp s p dir now) (Moved (tracked_other s dir now)) ≡ Moved t → IsUsed s now t
+by_proto : (b : Bool) (s : State) (p : Packet) (dir : Dir) (now : ℕ) (t : State)
+    → cond b (tracked_tcp s p dir now) (Moved (tracked_other s dir now)) ≡ Moved t → IsUsed s now t
 by_proto true s p dir now t e = tcp-used s p dir now t e
 by_proto false s p dir now t e = let same : tracked_other s dir now ≡ t = cc in subst (IsUsed s now) same (moved-used s dir _ _ now)
 

@@ -57,18 +57,21 @@ small_answer false false level up h k = h
 receiver_level-most : (p : Packet) (level : ℕ) → level ≤ 10 → receiver_level p level ≤ 10
 receiver_level-most p level h = small_answer (rst p) (ack p) level (acknowledged level) h (acknowledged-most level h)
 
-by_side : (b : Bool) (s : State) (from to : Peer) (now : ℕ) → (cond b s.src s.dst).level ≤ from.level → (cond b s.dst s.src).level ≤ to.level → from.level ≤ 10 → to.level ≤ 10 → RisesInRange s (cond b (used s from to now) (used s to from now))
+by_side : (b : Bool) (s : State) (from to : Peer) (now : ℕ) → (cond b s.src s.dst).level ≤ from.level
+    → (cond b s.dst s.src).level ≤ to.level → from.level ≤ 10 → to.level ≤ 10 → RisesInRange s (cond b (used s from to now) (used s to from now))
 by_side true s from to now h k u v = record { src = h; dst = k; src_most = u; dst_most = v }
 by_side false s from to now h k u v = record { src = k; dst = h; src_most = v; dst_most = u }
 
-moved-rises : (s : State) (dir : Dir) (from to : Peer) (now : ℕ) → (sender s dir).level ≤ from.level → (receiver s dir).level ≤ to.level → from.level ≤ 10 → to.level ≤ 10 → RisesInRange s (moved s dir from to now)
+moved-rises : (s : State) (dir : Dir) (from to : Peer) (now : ℕ) → (sender s dir).level ≤ from.level → (receiver s dir).level ≤ to.level
+    → from.level ≤ 10 → to.level ≤ 10 → RisesInRange s (moved s dir from to now)
 moved-rises s dir from to now h k u v = by_side (from_src s dir) s from to now h k u v
 
 side-level : (b : Bool) (s : State) → IsState s → ((cond b s.src s.dst).level ≤ 10) × ((cond b s.dst s.src).level ≤ 10)
 side-level true s is = (is.src.level, is.dst.level)
 side-level false s is = (is.dst.level, is.src.level)
 
-begun_level : (b : Bool) (level : ℕ) (s : Peer) (x : Peer) → (b ≡ true → s.level ≡ 0) → s.level ≤ 10 → x.level ≡ 2 → (s.level ≤ (cond b x s).level) × ((cond b x s).level ≤ 10)
+begun_level : (b : Bool) (level : ℕ) (s : Peer) (x : Peer) → (b ≡ true → s.level ≡ 0) → s.level ≤ 10 → x.level ≡ 2
+    → (s.level ≤ (cond b x s).level) × ((cond b x s).level ≤ 10)
 begun_level true level s x z h e = let zero_is = z refl in (omega arith, omega arith)
 begun_level false level s x z h e = (omega arith, h)
 
@@ -91,7 +94,8 @@ tcp-rises s p dir now t is e = by_tests (is_request p && is_closed s) (is_inside
     rises =
         let up = sender_level-rises p (begun (sender s dir) (receiver s dir) p).level began.1 in
         let start = began.0 in
-        moved-rises s dir _ _ now (omega arith) (receiver_level-rises p (receiver s dir).level levels.1) (sender_level-most p (begun (sender s dir) (receiver s dir) p).level began.1) (receiver_level-most p (receiver s dir).level levels.1)
+        moved-rises s dir _ _ now (omega arith) (receiver_level-rises p (receiver s dir).level levels.1)
+        (sender_level-most p (begun (sender s dir) (receiver s dir) p).level began.1) (receiver_level-most p (receiver s dir).level levels.1)
 
     by_tests : (r w : Bool) → cond r Reused (cond (not w) OutOfWindow (Moved m)) ≡ Moved t → RisesInRange s t
     by_tests true w e = cc
@@ -101,7 +105,8 @@ tcp-rises s p dir now t is e = by_tests (is_request p && is_closed s) (is_inside
 other-rises : (s : State) (dir : Dir) (now : ℕ) → IsState s → RisesInRange s (tracked_other s dir now)
 other-rises s dir now is =
     let levels = side-level (from_src s dir) s is in
-    moved-rises s dir _ _ now (omega arith) (answered (receiver s dir).level) (heard (sender s dir).level levels.0) (answered-most (receiver s dir).level levels.1)
+    moved-rises s dir _ _ now (omega arith) (answered (receiver s dir).level) (heard (sender s dir).level levels.0)
+    (answered-most (receiver s dir).level levels.1)
   where
     answered : (level : ℕ) → level ≤ cond (level == 1) 2 level
     answered level = grind (arith, nat_tests)
@@ -112,7 +117,8 @@ other-rises s dir now is =
     heard : (level : ℕ) → level ≤ 10 → max level 1 ≤ 10
     heard level h = omega arith
 
-by_proto : (b : Bool) (s : State) (p : Packet) (dir : Dir) (now : ℕ) (t : State) → IsState s → cond b (tracked_tcp s p dir now) (Moved (tracked_other s dir now)) ≡ Moved t → RisesInRange s t
+by_proto : (b : Bool) (s : State) (p : Packet) (dir : Dir) (now : ℕ) (t : State) → IsState s
+    → cond b (tracked_tcp s p dir now) (Moved (tracked_other s dir now)) ≡ Moved t → RisesInRange s t
 by_proto true s p dir now t is e = tcp-rises s p dir now t is e
 by_proto false s p dir now t is e = let same : tracked_other s dir now ≡ t = cc in subst (RisesInRange s) same (other-rises s dir now is)
 

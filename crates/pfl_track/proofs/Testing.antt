@@ -7,7 +7,9 @@ use Rattle.pfl_track.specs.Windows.{ack_near, acknowledges, at_scale, is_scaled,
 
 -- each edge that is tested holds, or is missed
 met-by : (right left counts near : Bool) (r l number least most a : ℕ)
-    → (is_none (unless right r) && is_none (unless left l) && option_map_or (λ (t : AckTest). is_none t.missed) (if counts then Some (record { number = number; least = least; most = most; missed = unless near a }) else None) true)
+    → (is_none (unless right r) && is_none (unless left l)
+    && option_map_or (λ (t : AckTest). is_none t.missed) (if counts
+    then Some (record { number = number; least = least; most = most; missed = unless near a }) else None) true)
     ≡ (right && left && (not counts || near))
 met-by false left counts near r l number least most a = refl
 met-by true false counts near r l number least most a = refl
@@ -19,4 +21,5 @@ pub edges-agree : TestsAgree
 unfolding tested_by
 edges-agree s d p =
     let a = ack_test (at_scale (is_scaled s d p) s max_ack_window) d p in
-    met-by (right_edge s p) (left_edge s (at_scale (is_scaled s d p) d d.window) p) (acknowledges d p) (ack_near (at_scale (is_scaled s d p) s max_ack_window) d p) _ _ a.number a.least a.most _
+    met-by (right_edge s p) (left_edge s (at_scale (is_scaled s d p) d d.window) p) (acknowledges d p)
+    (ack_near (at_scale (is_scaled s d p) s max_ack_window) d p) _ _ a.number a.least a.most _

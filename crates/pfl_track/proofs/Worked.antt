@@ -7,7 +7,8 @@ use Rattle.pfl_base.specs.declared.direction.Dir.{Dir}
 use Rattle.pfl_base.specs.declared.direction.Dir.TheVariants.{Inbound, Outbound}
 use Rattle.pfl_base.specs.declared.packet.Packet.{Packet}
 use Rattle.pfl_base.specs.declared.class.Class.{Class}
-use Rattle.pfl_base.specs.declared.class.Class.TheVariants.{TcpFirst, TcpOpening, TcpEstablished, TcpClosing, TcpFinWait, TcpClosed, UdpFirst, UdpSingle, UdpMultiple}
+use Rattle.pfl_base.specs.declared.class.Class.TheVariants.{TcpFirst, TcpOpening, TcpEstablished, TcpClosing, TcpFinWait, TcpClosed, UdpFirst}
+use Rattle.pfl_base.specs.declared.class.Class.TheVariants.{UdpSingle, UdpMultiple}
 use Rattle.pfl_base.specs.Keys.{key}
 use Rattle.pfl_track.specs.declared.peer.Peer.{Peer}
 use Rattle.pfl_track.specs.declared.state.State.{State}
@@ -22,8 +23,10 @@ abbrev outside : ℕ → End
 outside port = record { addr = V4 0xc0000209; port = port }
 
 abbrev tcp : Dir → ℕ → ℕ → ℕ → ℕ → Packet
-tcp Outbound flags seq ack window = record { proto = Tcp; src = inside; dst = outside 80; flags = flags; seq = seq; ack = ack; window = window; len = 0; scale = None }
-tcp Inbound flags seq ack window = record { proto = Tcp; src = outside 80; dst = inside; flags = flags; seq = seq; ack = ack; window = window; len = 0; scale = None }
+tcp Outbound flags seq ack window =
+    record { proto = Tcp; src = inside; dst = outside 80; flags = flags; seq = seq; ack = ack; window = window; len = 0; scale = None }
+tcp Inbound flags seq ack window =
+    record { proto = Tcp; src = outside 80; dst = inside; flags = flags; seq = seq; ack = ack; window = window; len = 0; scale = None }
 
 abbrev udp : Dir → Packet
 udp Outbound = record { proto = Udp; src = inside; dst = outside 53; flags = 0; seq = 0; ack = 0; window = 0; len = 40; scale = None }
@@ -80,7 +83,8 @@ ends (Moved s) = Some (s.src, s.dst)
 ends OutOfWindow = None
 ends Reused = None
 
-tcp_ends : ends opened ≡ Some (record { level = 4; scale = None; window = 1000; lo = 101; hi = 2101 }, record { level = 4; scale = None; window = 2000; lo = 501; hi = 1501 })
+tcp_ends : ends opened ≡ Some
+    (record { level = 4; scale = None; window = 1000; lo = 101; hi = 2101 }, record { level = 4; scale = None; window = 2000; lo = 501; hi = 1501 })
 tcp_ends = refl
 
 tcp_outside : then opened Inbound (tcp Inbound 16 5000 101 2000) ≡ OutOfWindow

@@ -58,7 +58,8 @@ OnlyEndsMoveAlong = (s : State) (run : List Arrival) (t : State) → after_all s
 
 -- what a packet begins is a state
 abbrev pub StatesBegin : Type 0
-StatesBegin = (name : StateName) (wire stack : Key) (dir : Dir) (p : Packet) (rule : Option ℕ) (no_sync : Bool) (now : ℕ) → AreKeys wire stack → IsPacket p → IsState (start_state name wire stack dir p rule no_sync now)
+StatesBegin = (name : StateName) (wire stack : Key) (dir : Dir) (p : Packet) (rule : Option ℕ) (no_sync : Bool) (now : ℕ)
+    → AreKeys wire stack → IsPacket p → IsState (start_state name wire stack dir p rule no_sync now)
 
 -- what a packet makes of a state is a state
 abbrev pub StatesStayStates : Type 0

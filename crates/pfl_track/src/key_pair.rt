@@ -55,7 +55,8 @@ impl KeyPair {
     /// The keys of a packet, where the end `nat` takes the place of the near end on the wire (pf.conf(5), `nat`); none
     /// where that end is of another family than the packet.
     pub fn of_packet(packet: &Packet, dir: Dir, nat: Option<End>) -> Option<KeyPair>
-        ensures { let fields : KeyFields = record { wire = wire_of (flow_of packet.now dir) nat; stack = flow_of packet.now dir } in result ≡ (if fits_family (flow_of packet.now dir) nat then Some fields else None) }
+        ensures { let fields : KeyFields = record { wire = wire_of (flow_of packet.now dir) nat; stack = flow_of packet.now dir } in result
+            ≡ (if fits_family (flow_of packet.now dir) nat then Some fields else None) }
     {
         let stack = key(packet, dir);
         let wire = wire_key(&stack, nat);

@@ -1,7 +1,8 @@
 //! Laws of tracking. They have no code: each is a theorem over the definitions, which a function's contract names.
 
 ghost use Rattle.pfl_track.specs.Edges.{TestsAgree};
-ghost use Rattle.pfl_track.specs.Laws.{PacketsLowerNoLevel, PacketsLowerNoLevelAlong, OnlyEndsMove, OnlyEndsMoveAlong, StatesBegin, StatesStayStates, StatesStayStatesAlong};
+ghost use Rattle.pfl_track.specs.Laws.{PacketsLowerNoLevel, PacketsLowerNoLevelAlong, OnlyEndsMove, OnlyEndsMoveAlong, StatesBegin, StatesStayStates};
+ghost use Rattle.pfl_track.specs.Laws.{StatesStayStatesAlong};
 
 /// A packet lowers the level of no end, and lifts none above [`crate::MAX_LEVEL`]; nor do packets, one after the other.
 pub fn levels_never_fall()

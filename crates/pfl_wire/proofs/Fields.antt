@@ -1,5 +1,6 @@
 -- A field that is read is the field that was written, and what was written is read again: numbers and pads.
-use Rattle.std.proofs.Common.{◌≡◌, T, ℕ, zero, suc, ◌+◌, ◌*◌, ◌^◌, ◌<◌, ◌≤◌, ◌/◌, ◌%◌, Bool, true, false, cond, ltb, List, [], ◌∷◌, ◌++◌, length, get_or, take, drop, Result, Ok, Err, refl, sym, ap, subst, ◌∙◌, append_assoc, arith}
+use Rattle.std.proofs.Common.{◌≡◌, T, ℕ, zero, suc, ◌+◌, ◌*◌, ◌^◌, ◌<◌, ◌≤◌, ◌/◌, ◌%◌, Bool, true, false, cond, ltb, List, [], ◌∷◌, ◌++◌, length}
+use Rattle.std.proofs.Common.{get_or, take, drop, Result, Ok, Err, refl, sym, ap, subst, ◌∙◌, append_assoc, arith}
 use Rattle.std.specs.Prelude.{replicate, ◌==◌, ◌&&◌}
 use Rattle.std.specs.List.{list_all}
 use Rattle.std.specs.Int.{byte_at as byte_of, bytes_high_first}
@@ -59,7 +60,8 @@ Takes-then a x b y c p q = record { parts = p.parts ∙ ap (λ (t : List ℕ). x
 pub byte_takes : (bytes : List ℕ) (x : ℕ × List ℕ) → IsBytes bytes → byte_at bytes ≡ Ok x → Takes bytes (x.0 ∷ []) x.1 × (x.0 < 256)
 byte_takes [] x fits e = absurd cc
 byte_takes (b ∷ bytes) x fits e =
-    subst (λ (y : ℕ × List ℕ). Takes (b ∷ bytes) (y.0 ∷ []) y.1 × (y.0 < 256)) (ok_is (b, bytes) x e) (record { parts = refl; rest_fits = IsBytes-rest b bytes fits }, fits 0)
+    subst (λ (y : ℕ × List ℕ). Takes (b ∷ bytes) (y.0 ∷ []) y.1
+    × (y.0 < 256)) (ok_is (b, bytes) x e) (record { parts = refl; rest_fits = IsBytes-rest b bytes fits }, fits 0)
 
 -- ---- numbers
 
@@ -78,9 +80,11 @@ some k = let h = one-le-pow k 256 (omega arith) in omega arith
 bytes_above : (k m x : ℕ) → bytes_high_first k (x + m * 256 ^ k) ≡ bytes_high_first k x
 bytes_above zero m x = refl
 bytes_above (suc k) m x =
-    let moved : x + m * 256 ^ suc k ≡ x + m * 256 * 256 ^ k = ap (λ (p : ℕ). x + p) (ap (λ (p : ℕ). m * p) (pow-succ' 256 k) ∙ sym (mul_assoc m 256 (256 ^ k))) in
+    let moved : x + m * 256 ^ suc k ≡ x + m * 256 * 256 ^ k =
+    ap (λ (p : ℕ). x + p) (ap (λ (p : ℕ). m * p) (pow-succ' 256 k) ∙ sym (mul_assoc m 256 (256 ^ k))) in
     let first : byte_of k (x + m * 256 * 256 ^ k) ≡ byte_of k x =
-    byte_of-pow k (x + m * 256 * 256 ^ k) ∙ ap (λ (y : ℕ). y % 256) (add-mul-div_right x (m * 256) (some k)) ∙ mod_shift (x / 256 ^ k) m ∙ sym (byte_of-pow k x) in
+    byte_of-pow k (x + m * 256 * 256 ^ k) ∙ ap (λ (y : ℕ). y % 256) (add-mul-div_right x (m * 256) (some k)) ∙ mod_shift (x / 256 ^ k) m
+    ∙ sym (byte_of-pow k x) in
     ap (bytes_high_first (suc k)) moved ∙ rw (first, bytes_above k (m * 256) x) refl
   where
     mod_shift : (y m : ℕ) → (y + m * 256) % 256 ≡ y % 256
@@ -95,9 +99,11 @@ bytes-of-number (suc k) (b ∷ bytes) fits h =
     let low = big_from-lt 0 k bytes rest_fits in
     let byte : b < 256 = fits 0 in
     let moved : b * 256 ^ k + big_from 1 k (b ∷ bytes) ≡ big_from 0 k bytes + b * 256 ^ k = omega (arith, big_from-cons 0 k b bytes) in
-    let top : (big_from 0 k bytes + b * 256 ^ k) / 256 ^ k ≡ b = add-mul-div_right (big_from 0 k bytes) b (some k) ∙ ap (λ (y : ℕ). y + b) (div-eq_of_lt low) ∙ zero-add b in
+    let top : (big_from 0 k bytes + b * 256 ^ k) / 256 ^ k ≡ b = add-mul-div_right (big_from 0 k bytes) b (some k)
+    ∙ ap (λ (y : ℕ). y + b) (div-eq_of_lt low) ∙ zero-add b in
     let first : byte_of k (big_from 0 k bytes + b * 256 ^ k) ≡ b = byte_of-pow k _ ∙ ap (λ (y : ℕ). y % 256) top ∙ mod-eq_of_lt byte in
-    let others : bytes_high_first k (big_from 0 k bytes + b * 256 ^ k) ≡ take k bytes = bytes_above k b (big_from 0 k bytes) ∙ bytes-of-number k bytes rest_fits (omega arith) in
+    let others : bytes_high_first k (big_from 0 k bytes + b * 256 ^ k) ≡ take k bytes = bytes_above k b (big_from 0 k bytes)
+    ∙ bytes-of-number k bytes rest_fits (omega arith) in
     ap (bytes_high_first (suc k)) moved ∙ rw (first, others) refl
 
 pub number_takes : (k : ℕ) (bytes : List ℕ) (x : ℕ × List ℕ) → IsBytes bytes → number_at k bytes ≡ Ok x → Takes bytes (number_bytes k x.0) x.1 × (x.0 < 256 ^ k)
@@ -140,7 +146,8 @@ pads_take k bytes rest fits e =
     let long : k ≤ length bytes = ltb-false _ _ g.0 in
     let h = kept_ok (list_all (λ b. b == 0) (take k bytes)) bad.Value (drop k bytes) rest g.1 in
     let front : take k bytes ≡ replicate k 0 = zeros (take k bytes) h.0 ∙ ap (λ (n : ℕ). replicate n 0) (length-take-le k bytes long) in
-    subst (λ (r : List ℕ). Takes bytes (replicate k 0) r) h.1 (record { parts = rw (← front) (sym (take-append-drop k bytes)); rest_fits = IsBytes-drop k bytes fits })
+    subst (λ (r : List ℕ). Takes bytes (replicate k 0) r) h.1
+    (record { parts = rw (← front) (sym (take-append-drop k bytes)); rest_fits = IsBytes-drop k bytes fits })
 
 zeros_len : (k : ℕ) → length {A = ℕ} (replicate {A = ℕ} k 0) ≡ k
 zeros_len k = length-replicate k 0
@@ -149,5 +156,6 @@ pub pads_again : (k : ℕ) (rest : List ℕ) → pads_at k (replicate k 0 ++ res
 unfolding pads_at
 pads_again k rest =
     let len = zeros_len k in
-    let long : ltb (length {A = ℕ} (replicate {A = ℕ} k 0 ++ rest)) k ≡ false = le-ltb _ _ (omega (arith, length-append (replicate {A = ℕ} k 0) rest, zeros_len k)) in
+    let long : ltb (length {A = ℕ} (replicate {A = ℕ} k 0 ++ rest)) k ≡ false =
+    le-ltb _ _ (omega (arith, length-append (replicate {A = ℕ} k 0) rest, zeros_len k)) in
     rw (long, take_at (replicate k 0) rest k len, drop_at (replicate k 0) rest k len, all_zero k) refl

@@ -1,5 +1,6 @@
 -- Records, groups and frames: what is read is spelled so, and what is spelled is read again.
-use Rattle.std.proofs.Common.{◌≡◌, ℕ, zero, suc, ◌+◌, ◌*◌, ◌^◌, ◌<◌, ◌≤◌, Bool, true, List, [], ◌∷◌, ◌++◌, length, Option, Result, Ok, Err, refl, sym, ap, subst, ◌∙◌, append_assoc, arith}
+use Rattle.std.proofs.Common.{◌≡◌, ℕ, zero, suc, ◌+◌, ◌*◌, ◌^◌, ◌<◌, ◌≤◌, Bool, true, List, [], ◌∷◌, ◌++◌, length, Option, Result, Ok, Err, refl, sym}
+use Rattle.std.proofs.Common.{ap, subst, ◌∙◌, append_assoc, arith}
 use Rattle.std.specs.Prelude.{◌==◌, ◌&&◌, nat_le, nat_lt}
 use Rattle.std.specs.List.{flat_map, AllByRecursion}
 use Rattle.std.specs.Option.{ok_or}
@@ -24,13 +25,16 @@ use Rattle.pfl_wire.specs.declared.fault.BadFrame.{BadFrame}
 use Rattle.pfl_wire.specs.declared.fault.BadFrame.TheVariants as bad
 use Rattle.pfl_wire.specs.Frames.{FitsMessage, IsGroup, action_of}
 use Rattle.pfl_wire.specs.Actions.{action_number, action_with, record_len}
-use Rattle.pfl_wire.specs.Spelling.{number_bytes, name_bytes, peer_bytes, address_bytes, end_bytes, key_bytes, keys_bytes, class_bytes, state_bytes, update_bytes, status_byte, record_bytes, group_bytes}
+use Rattle.pfl_wire.specs.Spelling.{number_bytes, name_bytes, peer_bytes, address_bytes, end_bytes, key_bytes, keys_bytes, class_bytes, state_bytes}
+use Rattle.pfl_wire.specs.Spelling.{update_bytes, status_byte, record_bytes, group_bytes}
 use Rattle.pfl_wire.specs.Fields.{Read, ◌>>=◌, wanted, byte_at, number_at, pads_at, name_at, status_of}
 use Rattle.pfl_wire.specs.Records.{state_at, update_at, clear_at, bulk_at, read_as, record_at}
 use Rattle.pfl_wire.specs.Reading.{records_at, is_counted, subheader_at, group_at, groups_at}
-use Rattle.pfl_wire.proofs.Fields.{IsBytes, bind_then, wanted_ok, both_true, ok_is, Takes, Takes-then, byte_takes, number_takes, number_again, length-number_bytes, pads_take, pads_again}
+use Rattle.pfl_wire.proofs.Fields.{IsBytes, bind_then, wanted_ok, both_true, ok_is, Takes, Takes-then, byte_takes, number_takes, number_again}
+use Rattle.pfl_wire.proofs.Fields.{length-number_bytes, pads_take, pads_again}
 use Rattle.pfl_wire.proofs.Values.{ok_or_ok, status_back, status_again, action_back, action_again}
-use Rattle.pfl_wire.proofs.RecordBytes.{bind_again, wanted_again, le_test, Takes-byte, name_takes, name_again, state_takes, state_again, update_takes, update_again}
+use Rattle.pfl_wire.proofs.RecordBytes.{bind_again, wanted_again, le_test, Takes-byte, name_takes, name_again, state_takes, state_again, update_takes}
+use Rattle.pfl_wire.proofs.RecordBytes.{update_again}
 
 -- what is read of a record
 pub record IsRead (a : Action) (bytes : List ℕ) (x : Message × List ℕ) : Type 0 where
@@ -38,7 +42,8 @@ pub record IsRead (a : Action) (bytes : List ℕ) (x : Message × List ℕ) : Ty
   pub fits : FitsMessage x.0
   pub action : action_of x.0 ≡ a
 
-read_as_ok : {X P : Type 0} (make : X → Message) (r : Read X) (x : Message × List ℕ) → read_as make r ≡ Ok x → ((y : X × List ℕ) → r ≡ Ok y → (make y.0, y.1) ≡ x → P) → P
+read_as_ok : {X P : Type 0} (make : X → Message) (r : Read X) (x : Message × List ℕ) → read_as make r ≡ Ok x
+    → ((y : X × List ℕ) → r ≡ Ok y → (make y.0, y.1) ≡ x → P) → P
 read_as_ok make (Ok y) x e next = next y refl (ok_is (make y.0, y.1) x e)
 read_as_ok make (Err f) x e next = absurd cc
 
@@ -106,7 +111,8 @@ record_again (UpdateRequest n) rest fits = ap (read_as UpdateRequest) (name_agai
 record_again (Delete s) rest fits = ap (read_as Delete) (state_again s rest fits)
 record_again (DeleteShort n) rest fits = ap (read_as DeleteShort) (name_again n rest fits)
 record_again (Bulk creator status) rest fits =
-    simp append_assoc (bind_again _ _ _ _ (number_again 4 creator _ fits) (bind_again _ _ _ _ (status_again status) (bind_again _ _ _ _ (pads_again 3 rest) refl)))
+    simp append_assoc (bind_again _ _ _ _ (number_again 4 creator _ fits)
+    (bind_again _ _ _ _ (status_again status) (bind_again _ _ _ _ (pads_again 3 rest) refl)))
 
 -- ---- lengths
 
@@ -161,7 +167,8 @@ pub record AreRead (a : Action) (n : ℕ) (bytes : List ℕ) (x : List Message �
 pub records_take : (a : Action) (n : ℕ) (bytes : List ℕ) (x : List Message × List ℕ) → IsBytes bytes → records_at a n bytes ≡ Ok x → AreRead a n bytes x
 unfolding records_at
 records_take a zero bytes x fits e =
-    subst (λ (y : List Message × List ℕ). AreRead a 0 bytes y) (ok_is ([], bytes) x e) (record { takes = record { parts = refl; rest_fits = fits }; count = refl; fit = tt; action = tt })
+    subst (λ (y : List Message × List ℕ). AreRead a 0 bytes y) (ok_is ([], bytes) x e)
+    (record { takes = record { parts = refl; rest_fits = fits }; count = refl; fit = tt; action = tt })
 records_take a (suc n) bytes x fits e =
     bind_then (record_at a bytes) _ x e (λ first first_is e1.
     bind_then (records_at a n first.1) _ x e1 (λ rest rest_is e2.
@@ -169,21 +176,31 @@ records_take a (suc n) bytes x fits e =
     let t1 = records_take a n first.1 rest t0.takes.rest_fits rest_is in
     let made : List Message × List ℕ = (first.0 ∷ rest.0, rest.1) in
     subst (λ (y : List Message × List ℕ). AreRead a (suc n) bytes y) (ok_is made x e2)
-    (record { takes = rw flat_map-cons (Takes-then _ _ _ _ _ t0.takes t1.takes); count = ap suc t1.count; fit = (t0.fits, t1.fit); action = (t0.action, t1.action) })))
+    (record {
+      takes = rw flat_map-cons (Takes-then _ _ _ _ _ t0.takes t1.takes);
+      count = ap suc t1.count;
+      fit = (t0.fits, t1.fit);
+      action = (t0.action, t1.action);
+    })))
 
-pub records_again : (a : Action) (ms : List Message) (rest : List ℕ) → AreOf a ms → AllByRecursion FitsMessage ms → records_at a (length ms) (flat_map record_bytes ms ++ rest) ≡ Ok (ms, rest)
+pub records_again : (a : Action) (ms : List Message) (rest : List ℕ) → AreOf a ms → AllByRecursion FitsMessage ms
+    → records_at a (length ms) (flat_map record_bytes ms ++ rest) ≡ Ok (ms, rest)
 unfolding records_at
 records_again a [] rest are fit = refl
 records_again a (m ∷ ms) rest are fit =
-    let regrouped : flat_map record_bytes (m ∷ ms) ++ rest ≡ record_bytes m ++ (flat_map record_bytes ms ++ rest) = ap (λ (x : List ℕ). x ++ rest) (flat_map-cons record_bytes m ms) ∙ append_assoc (record_bytes m) (flat_map record_bytes ms) rest in
-    let first : record_at a (record_bytes m ++ (flat_map record_bytes ms ++ rest)) ≡ Ok (m, flat_map record_bytes ms ++ rest) = subst (λ (b : Action). record_at b (record_bytes m ++ (flat_map record_bytes ms ++ rest)) ≡ Ok (m, flat_map record_bytes ms ++ rest)) are.0 (record_again m (flat_map record_bytes ms ++ rest) fit.0) in
+    let regrouped : flat_map record_bytes (m ∷ ms) ++ rest ≡ record_bytes m ++ (flat_map record_bytes ms ++ rest) =
+    ap (λ (x : List ℕ). x ++ rest) (flat_map-cons record_bytes m ms) ∙ append_assoc (record_bytes m) (flat_map record_bytes ms) rest in
+    let first : record_at a (record_bytes m ++ (flat_map record_bytes ms ++ rest)) ≡ Ok (m, flat_map record_bytes ms ++ rest) =
+    subst (λ (b : Action). record_at b (record_bytes m ++ (flat_map record_bytes ms ++ rest))
+    ≡ Ok (m, flat_map record_bytes ms ++ rest)) are.0 (record_again m (flat_map record_bytes ms ++ rest) fit.0) in
     ap (records_at a (suc (length ms))) regrouped ∙ bind_again _ _ _ _ first (bind_again _ _ _ _ (records_again a ms rest are.1 fit.1) refl)
 
 pub length-records : (a : Action) (ms : List Message) → AreOf a ms → length (flat_map record_bytes ms) ≡ length ms * record_len a
 length-records a [] are = omega arith
 length-records a (m ∷ ms) are =
     let one : length (record_bytes m) ≡ record_len a = length-record_bytes m ∙ ap record_len are.0 in
-    ap length (flat_map-cons record_bytes m ms) ∙ length-append (record_bytes m) (flat_map record_bytes ms) ∙ sum one (length-records a ms are.1) ∙ sym (suc-mul (length ms) (record_len a))
+    ap length (flat_map-cons record_bytes m ms) ∙ length-append (record_bytes m) (flat_map record_bytes ms)
+    ∙ sum one (length-records a ms are.1) ∙ sym (suc-mul (length ms) (record_len a))
   where
     sum : {p q r s : ℕ} → p ≡ r → q ≡ s → p + q ≡ s + r
     sum e f = omega (arith, e, f)
@@ -200,12 +217,14 @@ same_action a m [] is are = tt
 same_action a m (n ∷ ms) is are = (are.0 ∙ sym is, same_action a m ms is are.1)
 
 -- records with their four bytes in front are a group
-grouped : (a : Action) (count : ℕ) (bytes rest : List ℕ) (ms : List Message) → 0 < count → count < 2 ^ 16 → length ms ≡ count → AreOf a ms → AllByRecursion FitsMessage ms
+grouped : (a : Action) (count : ℕ) (bytes rest : List ℕ) (ms : List Message) → 0 < count → count < 2 ^ 16 → length ms ≡ count → AreOf a ms
+    → AllByRecursion FitsMessage ms
     → Takes bytes ((action_number a ∷ []) ++ (0 ∷ []) ++ number_bytes 2 count ++ flat_map record_bytes ms) rest → Takes bytes (group_bytes ms) rest × IsGroup ms
 unfolding group_bytes
 grouped a count bytes rest [] some few len are fit takes = absurd (omega arith)
 grouped a count bytes rest (m ∷ ms) some few len are fit takes = (
-  subst (λ (b : Action). Takes bytes ((action_number b ∷ []) ++ (0 ∷ []) ++ number_bytes 2 (length (m ∷ ms)) ++ flat_map record_bytes (m ∷ ms)) rest) (sym are.0)
+  subst (λ (b : Action). Takes bytes ((action_number b ∷ []) ++ (0 ∷ []) ++ number_bytes 2 (length (m ∷ ms))
+      ++ flat_map record_bytes (m ∷ ms)) rest) (sym are.0)
       (subst (λ (n : ℕ). Takes bytes ((action_number a ∷ []) ++ (0 ∷ []) ++ number_bytes 2 n ++ flat_map record_bytes (m ∷ ms)) rest) (sym len) takes),
   (omega arith, same_action a m ms are.0 are.1, fit),
 )
@@ -277,7 +296,8 @@ unfolding group_at group_bytes
 group_again [] rest is = absurd is
 group_again (m ∷ ms) rest is =
     let are : AreOf (action_of m) (m ∷ ms) = all_of_one m ms is.1 in
-    let regrouped : group_bytes (m ∷ ms) ++ rest ≡ action_number (action_of m) ∷ 0 ∷ (number_bytes 2 (length (m ∷ ms)) ++ (flat_map record_bytes (m ∷ ms) ++ rest)) =
+    let regrouped : group_bytes (m ∷ ms) ++ rest ≡ action_number (action_of m) ∷ 0
+    ∷ (number_bytes 2 (length (m ∷ ms)) ++ (flat_map record_bytes (m ∷ ms) ++ rest)) =
     ap (λ (t : List ℕ). action_number (action_of m) ∷ 0 ∷ t) (append_assoc (number_bytes 2 (length (m ∷ ms))) (flat_map record_bytes (m ∷ ms)) rest) in
     let room : length (m ∷ ms) * record_len (action_of m) ≤ length (flat_map record_bytes (m ∷ ms) ++ rest) =
     omega (arith, length-append (flat_map record_bytes (m ∷ ms)) rest, length-records (action_of m) (m ∷ ms) are) in
@@ -290,7 +310,13 @@ group_least : (g : List Message) (rest : List ℕ) → IsGroup g → length rest
 unfolding group_bytes
 group_least [] rest is = absurd is
 group_least (m ∷ ms) rest is =
-    omega (arith, length-append (number_bytes 2 (length (m ∷ ms)) ++ flat_map record_bytes (m ∷ ms)) rest, length-append (number_bytes 2 (length (m ∷ ms))) (flat_map record_bytes (m ∷ ms)), length-number_bytes 2 (length (m ∷ ms)))
+    omega (
+      arith,
+      length-append (number_bytes 2 (length (m ∷ ms)) ++ flat_map record_bytes (m ∷ ms)) rest,
+      length-append
+          (number_bytes 2 (length (m ∷ ms))) (flat_map record_bytes (m ∷ ms)),
+      length-number_bytes 2 (length (m ∷ ms)),
+    )
 
 pub group_shorter : (bytes : List ℕ) (x : List Message × List ℕ) → IsBytes bytes → group_at bytes ≡ Ok x → length x.1 + 4 ≤ length bytes
 group_shorter bytes x fits e =
@@ -315,7 +341,11 @@ groups_take (suc fuel) (b ∷ bytes) x fits e =
     let t1 = groups_take fuel first.1 rest t0.takes.rest_fits rest_is in
     let made : List (List Message) × List ℕ = (first.0 ∷ rest.0, rest.1) in
     subst (λ (y : List (List Message) × List ℕ). AreGroupsRead (b ∷ bytes) y) (ok_is made x e2)
-    (record { whole = t0.takes.parts ∙ ap (λ (t : List ℕ). group_bytes first.0 ++ t) t1.whole ∙ sym (flat_map-cons group_bytes first.0 rest.0); are = (t0.is, t1.are) })))
+    (record {
+      whole = t0.takes.parts ∙ ap (λ (t : List ℕ). group_bytes first.0 ++ t) t1.whole
+          ∙ sym (flat_map-cons group_bytes first.0 rest.0);
+      are = (t0.is, t1.are);
+    })))
 
 -- steps that go on alike from what was read
 pub bind_same : {A B : Type 0} (r : Result A BadFrame) (f g : A → Result B BadFrame) → ((x : A) → r ≡ Ok x → f x ≡ g x) → (r >>= f) ≡ (r >>= g)
@@ -332,7 +362,8 @@ groups_enough (suc f) (suc g) [] fits p q = refl
 groups_enough zero (suc g) (b ∷ bytes) fits p q = absurd (omega arith)
 groups_enough (suc f) zero (b ∷ bytes) fits p q = absurd (omega arith)
 groups_enough (suc f) (suc g) (b ∷ bytes) fits p q =
-    bind_same (group_at (b ∷ bytes)) (λ first. groups_at f first.1 >>= λ rest. Ok (first.0 ∷ rest.0, rest.1)) (λ first. groups_at g first.1 >>= λ rest. Ok (first.0 ∷ rest.0, rest.1))
+    bind_same (group_at (b ∷ bytes)) (λ first. groups_at f first.1 >>= λ rest. Ok (first.0 ∷ rest.0, rest.1))
+    (λ first. groups_at g first.1 >>= λ rest. Ok (first.0 ∷ rest.0, rest.1))
     (λ first is. let less = group_shorter (b ∷ bytes) first fits is in
     ap (λ (r : Read (List (List Message))). r >>= λ rest. Ok (first.0 ∷ rest.0, rest.1))
     (groups_enough f g first.1 (group_takes (b ∷ bytes) first fits is).takes.rest_fits (omega arith) (omega arith)))
@@ -344,7 +375,8 @@ unfolding groups_at
 groups_step fuel [] g rest some e = absurd (omega arith)
 groups_step fuel (b ∷ bytes) g rest some e = bind_again _ _ _ _ e refl
 
-pub groups_again : (fuel : ℕ) (gs : List (List Message)) → AllByRecursion IsGroup gs → length (flat_map group_bytes gs) ≤ fuel → groups_at fuel (flat_map group_bytes gs) ≡ Ok (gs, [])
+pub groups_again : (fuel : ℕ) (gs : List (List Message)) → AllByRecursion IsGroup gs → length (flat_map group_bytes gs) ≤ fuel
+    → groups_at fuel (flat_map group_bytes gs) ≡ Ok (gs, [])
 unfolding groups_at
 groups_again fuel [] are enough = refl
 groups_again zero (g ∷ gs) are enough =
@@ -352,5 +384,6 @@ groups_again zero (g ∷ gs) are enough =
 groups_again (suc fuel) (g ∷ gs) are enough =
     let least = group_least g (flat_map group_bytes gs) are.0 in
     let len = ap length (flat_map-cons group_bytes g gs) in
-    groups_step fuel (flat_map group_bytes (g ∷ gs)) g (flat_map group_bytes gs) (omega (arith, least, len)) (ap group_at (flat_map-cons group_bytes g gs) ∙ group_again g (flat_map group_bytes gs) are.0)
+    groups_step fuel (flat_map group_bytes (g ∷ gs)) g (flat_map group_bytes gs) (omega (arith, least, len))
+    (ap group_at (flat_map-cons group_bytes g gs) ∙ group_again g (flat_map group_bytes gs) are.0)
     ∙ bind_again _ _ _ _ (groups_again fuel gs are.1 (omega (arith, least, len))) refl

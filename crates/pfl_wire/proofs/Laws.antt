@@ -1,10 +1,12 @@
 -- The two laws of frames: what is read is spelled so, and what is spelled is read again.
-use Rattle.std.proofs.Common.{◌≡◌, ℕ, zero, suc, All, ◌*◌, ◌+◌, ◌^◌, ◌<◌, ◌≤◌, true, false, ltb, List, [], ◌∷◌, ◌++◌, length, get_or, take, drop, Some, Result, Ok, Err, refl, sym, ap, subst, ◌∙◌, append_assoc, arith, inl, inr}
+use Rattle.std.proofs.Common.{◌≡◌, ℕ, zero, suc, All, ◌*◌, ◌+◌, ◌^◌, ◌<◌, ◌≤◌, true, false, ltb, List, [], ◌∷◌, ◌++◌, length, get_or, take, drop}
+use Rattle.std.proofs.Common.{Some, Result, Ok, Err, refl, sym, ap, subst, ◌∙◌, append_assoc, arith, inl, inr}
 use Rattle.std.specs.Prelude.{◌==◌, nat_le, IfOk, OnOk, Vec, slice_get}
 use Rattle.std.specs.List.{flat_map, AllByRecursion, sum_by}
 use Rattle.std.proofs.lemmas.Bool.{eqb-true, ltb-false, le-ltb, cases_lt}
 use Rattle.std.proofs.lemmas.Bool.Decides.{nat_tests}
-use Rattle.std.proofs.lemmas.List.{append-nil, take_more, map_push, length-append, take-append-drop, length-take-le, length-take, take_at, drop_at, get_or-take, get_or_past}
+use Rattle.std.proofs.lemmas.List.{append-nil, take_more, map_push, length-append, take-append-drop, length-take-le, length-take, take_at, drop_at}
+use Rattle.std.proofs.lemmas.List.{get_or-take, get_or_past}
 use Rattle.std.proofs.lemmas.List.Concat.{flat_map-cons, flat_map-append}
 use Rattle.std.proofs.lemmas.List.Sums.{sum_by-cons}
 use Rattle.std.proofs.lemmas.List.Elements.{All-from_recursion, recursion_from_All, All-same, All-push}
@@ -21,7 +23,8 @@ use Rattle.pfl_wire.specs.Spelling.{number_bytes, record_bytes, group_bytes, spe
 use Rattle.pfl_wire.specs.Fields.{wanted, byte_at, number_at}
 use Rattle.pfl_wire.specs.Reading.{groups_at, print_at, header_at, reading}
 use Rattle.pfl_wire.specs.Answers.{Decodes}
-use Rattle.pfl_wire.proofs.Fields.{IsBytes, IsBytes-drop, IsBytes-rest, bind_then, guard_ok, wanted_ok, ok_is, Takes, Takes-then, byte_takes, number_takes, number_again, length-number_bytes}
+use Rattle.pfl_wire.proofs.Fields.{IsBytes, IsBytes-drop, IsBytes-rest, bind_then, guard_ok, wanted_ok, ok_is, Takes, Takes-then, byte_takes}
+use Rattle.pfl_wire.proofs.Fields.{number_takes, number_again, length-number_bytes}
 use Rattle.pfl_wire.proofs.RecordBytes.{bind_again, wanted_again, le_test, Takes-byte}
 use Rattle.pfl_wire.proofs.Groups.{length-record_bytes, length-records, groups_take, groups_again}
 
@@ -33,7 +36,8 @@ le_refl n = omega arith
 length-all_records : (ms : List Message) → length (flat_map record_bytes ms) ≡ sum_by (λ m. record_len (action_of m)) ms
 length-all_records [] = refl
 length-all_records (m ∷ ms) =
-    ap length (flat_map-cons record_bytes m ms) ∙ length-append (record_bytes m) (flat_map record_bytes ms) ∙ sums (length-record_bytes m) (length-all_records ms) ∙ sym (sum_by-cons (λ n. record_len (action_of n)) m ms)
+    ap length (flat_map-cons record_bytes m ms) ∙ length-append (record_bytes m) (flat_map record_bytes ms)
+    ∙ sums (length-record_bytes m) (length-all_records ms) ∙ sym (sum_by-cons (λ n. record_len (action_of n)) m ms)
   where
     sums : {p q r s : ℕ} → p ≡ q → r ≡ s → p + r ≡ q + s
     sums e f = omega (arith, e, f)
@@ -42,12 +46,19 @@ length-group_bytes : (g : List Message) → IsGroup g → length (group_bytes g)
 unfolding group_bytes
 length-group_bytes [] is = absurd is
 length-group_bytes (m ∷ ms) is =
-    omega (arith, length-append (number_bytes 2 (length (m ∷ ms))) (flat_map record_bytes (m ∷ ms)), length-number_bytes 2 (length (m ∷ ms)), length-all_records (m ∷ ms))
+    omega (
+      arith,
+      length-append (number_bytes 2 (length (m ∷ ms))) (flat_map record_bytes (m ∷ ms)),
+      length-number_bytes 2
+          (length (m ∷ ms)),
+      length-all_records (m ∷ ms),
+    )
 
 pub length-groups : (gs : List (List Message)) → AllByRecursion IsGroup gs → length (flat_map group_bytes gs) ≡ sum_by group_len gs
 length-groups [] are = refl
 length-groups (g ∷ gs) are =
-    ap length (flat_map-cons group_bytes g gs) ∙ length-append (group_bytes g) (flat_map group_bytes gs) ∙ sums (length-group_bytes g are.0) (length-groups gs are.1) ∙ sym (sum_by-cons group_len g gs)
+    ap length (flat_map-cons group_bytes g gs) ∙ length-append (group_bytes g) (flat_map group_bytes gs)
+    ∙ sums (length-group_bytes g are.0) (length-groups gs are.1) ∙ sym (sum_by-cons group_len g gs)
   where
     sums : {p q r s : ℕ} → p ≡ q → r ≡ s → p + r ≡ q + s
     sums e f = omega (arith, e, f)
@@ -59,7 +70,16 @@ spelled_len bytes f spells =
     let is = spells.is_frame in
     let body = flat_map group_bytes f.groups in
     let size = number_bytes 2 (20 + length body) in
-    omega (arith, ap length spells.spelled, length-append (size ++ f.print) body, length-append size f.print, length-number_bytes 2 (20 + length body), length-groups f.groups is.groups, is.print)
+    omega (
+      arith,
+      ap length spells.spelled,
+      length-append (size ++ f.print) body,
+      length-append size f.print,
+      length-number_bytes 2
+          (20 + length body),
+      length-groups f.groups is.groups,
+      is.print,
+    )
 
 -- ---- the checksum
 
@@ -85,7 +105,11 @@ print_takes bytes x fits e =
     let g = guard_ok (ltb (length bytes) 16) bad.Short (Ok (take 16 bytes, drop 16 bytes)) x e in
     let long : 16 ≤ length bytes = ltb-false _ _ g.0 in
     subst (λ (y : List ℕ × List ℕ). IsPrintRead bytes y) (ok_is (take 16 bytes, drop 16 bytes) x g.1)
-    (record { takes = record { parts = sym (take-append-drop 16 bytes); rest_fits = IsBytes-drop 16 bytes fits }; long = length-take-le 16 bytes long; in_range = all_bytes (take 16 bytes) (IsBytes-take 16 bytes fits) })
+    (record {
+      takes = record { parts = sym (take-append-drop 16 bytes); rest_fits = IsBytes-drop 16 bytes fits };
+      long = length-take-le 16 bytes long;
+      in_range = all_bytes (take 16 bytes) (IsBytes-take 16 bytes fits);
+    })
 
 print_again : (print rest : List ℕ) → length print ≡ 16 → print_at (print ++ rest) ≡ Ok (print, rest)
 unfolding print_at
@@ -144,7 +168,8 @@ header_again print rest n long is short =
     (bind_again _ _ _ _ (wanted_again _ bad.Length (eq_test _ _ (sym len)))
     (print_again print rest long)))
   where
-    counts : (number print rest : List ℕ) (n : ℕ) → length number ≡ 2 → length print ≡ 16 → n ≡ 20 + length rest → length (5 ∷ 0 ∷ (number ++ (print ++ rest))) ≡ n
+    counts : (number print rest : List ℕ) (n : ℕ) → length number ≡ 2 → length print ≡ 16 → n ≡ 20 + length rest
+        → length (5 ∷ 0 ∷ (number ++ (print ++ rest))) ≡ n
     counts number print rest n p q e = omega (arith, length-append number (print ++ rest), length-append print rest)
 
 pub reading_takes : (bytes : List ℕ) (f : Frame) → IsBytes bytes → reading bytes ≡ Ok f → Spells bytes f
@@ -156,15 +181,22 @@ reading_takes bytes f fits e =
     let t1 = groups_take (length print.1) print.1 groups t0.rest_fits groups_is in
     let whole : bytes ≡ (5 ∷ []) ++ (0 ∷ []) ++ number_bytes 2 (length bytes) ++ print.0 ++ flat_map group_bytes groups.0 =
     t0.parts ∙ ap (λ (t : List ℕ). (5 ∷ []) ++ (0 ∷ []) ++ number_bytes 2 (length bytes) ++ print.0 ++ t) t1.whole in
-    let counted : length bytes ≡ 20 + length (flat_map group_bytes groups.0) = counts bytes (number_bytes 2 (length bytes)) print.0 (flat_map group_bytes groups.0) (length-number_bytes 2 (length bytes)) t0.long whole in
+    let counted : length bytes ≡ 20 + length (flat_map group_bytes groups.0) =
+    counts bytes (number_bytes 2 (length bytes)) print.0 (flat_map group_bytes groups.0) (length-number_bytes 2 (length bytes)) t0.long whole in
     let made : Frame = record { print = print.0; groups = groups.0 } in
     subst (λ (g : Frame). Spells bytes g) (ok_is made f e2)
     (record {
-      is_frame = record { print = t0.long; print_bytes = t0.in_range; groups = t1.are; short = omega (arith, length-groups groups.0 t1.are, t0.short, counted) };
+      is_frame = record {
+        print = t0.long;
+        print_bytes = t0.in_range;
+        groups = t1.are;
+        short = omega (arith, length-groups groups.0 t1.are, t0.short, counted);
+      };
       spelled = whole ∙ ap (λ (n : ℕ). (5 ∷ []) ++ (0 ∷ []) ++ number_bytes 2 n ++ print.0 ++ flat_map group_bytes groups.0) counted;
     })))
   where
-    counts : (bytes number print body : List ℕ) → length number ≡ 2 → length print ≡ 16 → bytes ≡ (5 ∷ []) ++ (0 ∷ []) ++ number ++ print ++ body → length bytes ≡ 20 + length body
+    counts : (bytes number print body : List ℕ) → length number ≡ 2 → length print ≡ 16
+        → bytes ≡ (5 ∷ []) ++ (0 ∷ []) ++ number ++ print ++ body → length bytes ≡ 20 + length body
     counts bytes number print body p q e = omega (arith, ap length e, length-append (number ++ print) body, length-append number print)
 
 pub reading_again : (f : Frame) → IsFrame f → reading (spelling f) ≡ Ok f
@@ -173,7 +205,8 @@ reading_again f is =
     let regrouped : spelling f ≡ 5 ∷ 0 ∷ (number_bytes 2 (20 + length (flat_map group_bytes f.groups)) ++ (f.print ++ flat_map group_bytes f.groups)) =
     ap (λ (t : List ℕ). 5 ∷ 0 ∷ t) (append_assoc (number_bytes 2 (20 + length (flat_map group_bytes f.groups))) f.print (flat_map group_bytes f.groups)) in
     ap reading regrouped
-    ∙ bind_again _ _ _ _ (header_again f.print (flat_map group_bytes f.groups) (20 + length (flat_map group_bytes f.groups)) is.print refl (omega (arith, is.short, length-groups f.groups is.groups)))
+    ∙ bind_again _ _ _ _ (header_again f.print (flat_map group_bytes f.groups) (20 + length (flat_map group_bytes f.groups)) is.print refl
+    (omega (arith, is.short, length-groups f.groups is.groups)))
     (bind_again _ _ _ _ (groups_again (length (flat_map group_bytes f.groups)) f.groups is.groups (le_refl (length (flat_map group_bytes f.groups))))
     refl)
 
@@ -183,11 +216,13 @@ pub group_len-first : (a : Action) (ms : List Message) → AllByRecursion (λ n.
 group_len-first a ms are = omega (arith, length-all_records ms, length-records a ms are)
 
 -- the groups in vectors, one by one
-groups_are : {A : Type 0} (P : Message → Type 0) (gs : List (Vec Message A)) → AllByRecursion (IsGroupOf P) (lists gs) → AllByRecursion (λ (g : Vec Message A). IsGroupOf P g.items) gs
+groups_are : {A : Type 0} (P : Message → Type 0) (gs : List (Vec Message A)) → AllByRecursion (IsGroupOf P) (lists gs)
+    → AllByRecursion (λ (g : Vec Message A). IsGroupOf P g.items) gs
 groups_are P [] are = tt
 groups_are P (g ∷ gs) are = (are.0, groups_are P gs are.1)
 
-pub each_group : {A : Type 0} (P : Message → Type 0) (gs : List (Vec Message A)) → AllByRecursion (IsGroupOf P) (lists gs) → All (λ (g : Vec Message A). IsGroupOf P g.items) gs
+pub each_group : {A : Type 0} (P : Message → Type 0) (gs : List (Vec Message A)) → AllByRecursion (IsGroupOf P) (lists gs)
+    → All (λ (g : Vec Message A). IsGroupOf P g.items) gs
 each_group {A = A} P gs are = All-from_recursion (λ (g : Vec Message A). IsGroupOf P g.items) gs (groups_are P gs are)
 
 pub each_record : (P : Message → Type 0) (ms : List Message) → IsGroupOf P ms → All P ms
@@ -233,7 +268,8 @@ frame_sent f is = record { groups = groups_sent f.groups is.groups; short = is.s
 
 -- ---- one item more was written
 
-pub bytes_more : {X : Type 0} (f : X → List ℕ) (xs ys : List X) (y : X) (a b c : List ℕ) → ys ≡ xs ++ y ∷ [] → b ≡ a ++ flat_map f xs → c ≡ b ++ f y → c ≡ a ++ flat_map f ys
+pub bytes_more : {X : Type 0} (f : X → List ℕ) (xs ys : List X) (y : X) (a b c : List ℕ) → ys ≡ xs ++ y ∷ [] → b ≡ a ++ flat_map f xs
+    → c ≡ b ++ f y → c ≡ a ++ flat_map f ys
 bytes_more f xs ys y a b c more before after =
     after ∙ ap (λ (t : List ℕ). t ++ f y) before ∙ append_assoc a (flat_map f xs) (f y)
     ∙ ap (λ (t : List ℕ). a ++ t) (sym (ap (flat_map f) more ∙ flat_map-append f xs (y ∷ []) ∙ ap (λ (t : List ℕ). flat_map f xs ++ t) (append-nil (f y))))
@@ -244,7 +280,8 @@ all_more P xs ys y more are is = All-same P ys (xs ++ y ∷ []) more (All-push P
 pub record_more : (ms : List Message) (i : ℕ) (m : Message) → i < length ms → m ≡ get_or ms i m → take (i + 1) ms ≡ take i ms ++ m ∷ []
 record_more ms i m lt is = take_more ms i m lt ∙ ap (λ (n : Message). take i ms ++ n ∷ []) (sym is)
 
-pub group_more : {A : Type 0} (gs : List (Vec Message A)) (i : ℕ) (g : Vec Message A) (ms : List Message) → i < length gs → g ≡ get_or gs i g → ms ≡ g.items → lists (take (i + 1) gs) ≡ lists (take i gs) ++ ms ∷ []
+pub group_more : {A : Type 0} (gs : List (Vec Message A)) (i : ℕ) (g : Vec Message A) (ms : List Message) → i < length gs
+    → g ≡ get_or gs i g → ms ≡ g.items → lists (take (i + 1) gs) ≡ lists (take i gs) ++ ms ∷ []
 group_more {A = A} gs i g ms lt is e =
     ap lists (take_more gs i g lt ∙ ap (λ (h : Vec Message A). take i gs ++ h ∷ []) (sym is)) ∙ map_push (λ (h : Vec Message A). h.items) (take i gs) g
     ∙ ap (λ (ns : List Message). lists (take i gs) ++ ns ∷ []) (sym e)
@@ -259,18 +296,22 @@ fault_decodes view bad.Count read is = is
 fault_decodes view bad.Value read is = is
 
 -- what decoding returns is spelled by the bytes
-pub decodes_found : {Y : Type 0} (view : Y → Frame) (r : Result Y FrameFault) (bytes : List ℕ) → IsBytes bytes → Decodes view r (reading bytes) → IfOk r (λ y. Spells bytes (view y))
+pub decodes_found : {Y : Type 0} (view : Y → Frame) (r : Result Y FrameFault) (bytes : List ℕ) → IsBytes bytes
+    → Decodes view r (reading bytes) → IfOk r (λ y. Spells bytes (view y))
 decodes_found view (Ok y) bytes fits given = reading_takes bytes (view y) fits given
 decodes_found view (Err e) bytes fits given = tt
 
 -- what is spelled is what decoding returns, or memory is wanting
-pub decodes_only : {Y : Type 0} (view : Y → Frame) (r : Result Y FrameFault) (bytes : List ℕ) (f : Frame) → Spells bytes f → Decodes view r (reading bytes) → Decodes view r (Ok f)
-decodes_only view r bytes f spells given = subst (λ (read : Result Frame BadFrame). Decodes view r read) (ap reading spells.spelled ∙ reading_again f spells.is_frame) given
+pub decodes_only : {Y : Type 0} (view : Y → Frame) (r : Result Y FrameFault) (bytes : List ℕ) (f : Frame) → Spells bytes f
+    → Decodes view r (reading bytes) → Decodes view r (Ok f)
+decodes_only view r bytes f spells given =
+    subst (λ (read : Result Frame BadFrame). Decodes view r read) (ap reading spells.spelled ∙ reading_again f spells.is_frame) given
 
 pub sum_by-take_lists : {A : Type 0} (n : ℕ) (gs : List (Vec Message A)) → sum_by group_len (lists (take n gs)) ≤ sum_by group_len (lists gs)
 sum_by-take_lists zero gs = omega arith
 sum_by-take_lists (suc n) [] = omega arith
-sum_by-take_lists (suc n) (g ∷ gs) = omega (arith, sum_by-cons group_len g.items (lists (take n gs)), sum_by-cons group_len g.items (lists gs), sum_by-take_lists n gs)
+sum_by-take_lists (suc n) (g ∷ gs) =
+    omega (arith, sum_by-cons group_len g.items (lists (take n gs)), sum_by-cons group_len g.items (lists gs), sum_by-take_lists n gs)
 
 -- what was spelled is read again
 pub spelled_again : {A E : Type 0} (r : Result (Vec ℕ A) E) (f : Frame) → IfOk r (λ v. Spells v.items f) → IfOk r (λ v. reading v.items ≡ Ok f)
@@ -278,7 +319,8 @@ spelled_again (Ok v) f given = ap reading given.spelled ∙ reading_again f give
 spelled_again (Err e) f given = tt
 
 -- nothing else spells the frame
-pub spelled_only : {A E : Type 0} (r : Result (Vec ℕ A) E) (f : Frame) → IfOk r (λ v. Spells v.items f) → IfOk r (λ v. (bytes : List ℕ) → Spells bytes f → bytes ≡ v.items)
+pub spelled_only : {A E : Type 0} (r : Result (Vec ℕ A) E) (f : Frame) → IfOk r (λ v. Spells v.items f)
+    → IfOk r (λ v. (bytes : List ℕ) → Spells bytes f → bytes ≡ v.items)
 spelled_only (Ok v) f given = λ bytes spells. spells.spelled ∙ sym given.spelled
 spelled_only (Err e) f given = tt
 
@@ -292,14 +334,17 @@ pub spelled_as : (f : Frame) (out : List ℕ) (size : ℕ) → IsFrame f → siz
     → out ≡ ((((5 ∷ []) ++ (0 ∷ [])) ++ number_bytes 2 size) ++ f.print) ++ flat_map group_bytes f.groups → Spells out f
 unfolding spelling
 spelled_as f out size is e made =
-    let spelled : out ≡ spelling f = made ∙ ap (λ (n : ℕ). ((((5 ∷ []) ++ (0 ∷ [])) ++ number_bytes 2 n) ++ f.print) ++ flat_map group_bytes f.groups) (omega (arith, e, length-groups f.groups is.groups)) in
+    let spelled : out ≡ spelling f =
+    made ∙ ap (λ (n : ℕ). ((((5 ∷ []) ++ (0 ∷ [])) ++ number_bytes 2 n) ++ f.print) ++ flat_map group_bytes f.groups)
+    (omega (arith, e, length-groups f.groups is.groups)) in
     record { is_frame = is; spelled = spelled }
 
 some_same : {X : Type 0} (x y : X) → Some x ≡ Some y → x ≡ y
 some_same x y e = cc
 
 -- the size of a group, from its first record
-pub group_size_is : (P : Message → Type 0) (g : List Message) (first : Message) (a : Action) (size : ℕ) → IsGroupOf P g → Some first ≡ slice_get g 0 → a ≡ action_of first → size ≡ record_len a
+pub group_size_is : (P : Message → Type 0) (g : List Message) (first : Message) (a : Action) (size : ℕ) → IsGroupOf P g
+    → Some first ≡ slice_get g 0 → a ≡ action_of first → size ≡ record_len a
     → 4 + length g * size ≡ group_len g
 group_size_is P [] first a size is at e f = absurd is
 group_size_is P (m ∷ ms) first a size is at e f =

@@ -68,7 +68,9 @@ left_end group [] none at_end = left_between group [] none
 left_end group (b ∷ bytes) none at_end = absurd (omega arith)
 
 -- the next group's records, and those after it
-group_left : (group : List Message × List ℕ) → ((groups_in group.1 >>= λ rest. Ok (group.0 ∷ rest)) >>= λ groups. Ok (all_of groups)) ≡ (groups_in group.1 >>= λ rest. Ok (group.0 ++ all_of rest))
+group_left : (group : List Message × List ℕ)
+    → ((groups_in group.1 >>= λ rest. Ok (group.0 ∷ rest)) >>= λ groups. Ok (all_of groups))
+    ≡ (groups_in group.1 >>= λ rest. Ok (group.0 ++ all_of rest))
 group_left group =
     then_then (groups_in group.1) (λ rest. Ok (group.0 ∷ rest)) (λ groups. Ok (all_of groups))
     ∙ bind_same (groups_in group.1) (λ rest. Ok (all_of (group.0 ∷ rest))) (λ rest. Ok (group.0 ++ all_of rest))
@@ -82,18 +84,22 @@ left_begun group (b ∷ bytes) none more fits =
     left_between group (b ∷ bytes) none
     ∙ ap (λ (r : Result (List (List Message)) BadFrame). r >>= λ groups. Ok (all_of groups)) (groups_in_more b bytes fits)
     ∙ then_then (group_at (b ∷ bytes)) (λ first. groups_in first.1 >>= λ rest. Ok (first.0 ∷ rest)) (λ groups. Ok (all_of groups))
-    ∙ bind_same (group_at (b ∷ bytes)) (λ first. (groups_in first.1 >>= λ rest. Ok (first.0 ∷ rest)) >>= λ groups. Ok (all_of groups)) (λ first. groups_in first.1 >>= λ rest. Ok (first.0 ++ all_of rest)) (λ first is. group_left first)
-    ∙ then_then (subheader_at (b ∷ bytes)) (λ next. records_at next.0.action next.0.count next.1) (λ first. groups_in first.1 >>= λ rest. Ok (first.0 ++ all_of rest))
+    ∙ bind_same (group_at (b ∷ bytes)) (λ first. (groups_in first.1 >>= λ rest. Ok (first.0 ∷ rest)) >>= λ groups. Ok (all_of groups))
+    (λ first. groups_in first.1 >>= λ rest. Ok (first.0 ++ all_of rest)) (λ first is. group_left first)
+    ∙ then_then (subheader_at (b ∷ bytes)) (λ next. records_at next.0.action next.0.count next.1)
+    (λ first. groups_in first.1 >>= λ rest. Ok (first.0 ++ all_of rest))
 
 -- the next group has a record, and what is left begins with it
-pub next_group : (group : Subheader) (bytes : List ℕ) (next : Subheader × List ℕ) → group.count ≡ 0 → 0 < length bytes → IsBytes bytes → subheader_at bytes ≡ Ok next
+pub next_group : (group : Subheader) (bytes : List ℕ) (next : Subheader × List ℕ) → group.count ≡ 0 → 0 < length bytes → IsBytes bytes
+    → subheader_at bytes ≡ Ok next
     → (0 < next.0.count) × (left_at next.0 next.1 ≡ left_at group bytes)
 next_group group bytes next none more fits is = (
   (subheader_takes bytes next fits is).some,
   sym (left_begun group bytes none more fits ∙ ap (λ (r : Read Subheader). r >>= λ next. left_at next.0 next.1) is),
 )
 
-pub group_stands : (group : Subheader) (bytes : List ℕ) (e : BadFrame) → group.count ≡ 0 → 0 < length bytes → IsBytes bytes → subheader_at bytes ≡ Err e → IsOk (left_at group bytes) → ⊥
+pub group_stands : (group : Subheader) (bytes : List ℕ) (e : BadFrame) → group.count ≡ 0 → 0 < length bytes → IsBytes bytes
+    → subheader_at bytes ≡ Err e → IsOk (left_at group bytes) → ⊥
 group_stands group bytes e none more fits is ok =
     no_fault (left_at group bytes) e (left_begun group bytes none more fits ∙ ap (λ (r : Read Subheader). r >>= λ next. left_at next.0 next.1) is) ok
 
@@ -131,13 +137,15 @@ unfolding left_at
 left_first group bytes more =
     ap (λ (r : Read (List Message)). r >>= with_groups) (records_first group.action group.count (group.count - 1) bytes (omega arith))
     ∙ then_then (record_at group.action bytes) (with_records group.action (group.count - 1)) with_groups
-    ∙ bind_same (record_at group.action bytes) (λ first. with_records group.action (group.count - 1) first >>= with_groups) (with_left (behind group)) (λ first is. led_in first.0 (records_at group.action (group.count - 1) first.1))
+    ∙ bind_same (record_at group.action bytes) (λ first. with_records group.action (group.count - 1) first >>= with_groups)
+    (with_left (behind group)) (λ first is. led_in first.0 (records_at group.action (group.count - 1) first.1))
 
 pub first_left : (group : Subheader) (bytes : List ℕ) (first : Message × List ℕ) → 0 < group.count → record_at group.action bytes ≡ Ok first
     → left_at group bytes ≡ led_by first.0 (left_at (behind group) first.1)
 first_left group bytes first more is = left_first group bytes more ∙ ap (λ (r : Read Message). r >>= with_left (behind group)) is
 
-pub record_stands : (group : Subheader) (bytes : List ℕ) (e : BadFrame) → 0 < group.count → record_at group.action bytes ≡ Err e → IsOk (left_at group bytes) → ⊥
+pub record_stands : (group : Subheader) (bytes : List ℕ) (e : BadFrame) → 0 < group.count → record_at group.action bytes ≡ Err e
+    → IsOk (left_at group bytes) → ⊥
 record_stands group bytes e more is ok =
     no_fault (left_at group bytes) e (left_first group bytes more ∙ ap (λ (r : Read Message). r >>= with_left (behind group)) is) ok
 
@@ -172,7 +180,8 @@ unfolding reading groups_in
 frame_read bytes print is ok =
     ap (λ (r : Read (List ℕ)). r >>= after_header) is ∙ whole (groups_at (length print.1) print.1) ok
   where
-    whole : (r : Read (List (List Message))) → IsOk (r >>= only_groups) → (r >>= framed print.0) ≡ Ok (record { print = print.0; groups = listed (r >>= only_groups) })
+    whole : (r : Read (List (List Message))) → IsOk (r >>= only_groups)
+        → (r >>= framed print.0) ≡ Ok (record { print = print.0; groups = listed (r >>= only_groups) })
     whole (Ok x) ok = refl
     whole (Err e) ok = absurd cc
 
@@ -180,7 +189,8 @@ pub header_fault : (bytes : List ℕ) (e : BadFrame) → header_at bytes ≡ Err
 unfolding reading
 header_fault bytes e is = ap (λ (r : Read (List ℕ)). r >>= after_header) is
 
-pub groups_fault : (bytes : List ℕ) (print : List ℕ × List ℕ) (e : BadFrame) → header_at bytes ≡ Ok print → groups_at (length print.1) print.1 ≡ Err e → reading bytes ≡ Err e
+pub groups_fault : (bytes : List ℕ) (print : List ℕ × List ℕ) (e : BadFrame) → header_at bytes ≡ Ok print
+    → groups_at (length print.1) print.1 ≡ Err e → reading bytes ≡ Err e
 unfolding reading
 groups_fault bytes print e is fault = ap (λ (r : Read (List ℕ)). r >>= after_header) is ∙ ap (λ (r : Read (List (List Message))). r >>= framed print.0) fault
 
@@ -219,7 +229,15 @@ few_in_group (m ∷ ms) = omega (arith, record_least (action_of m), few_in_group
 few_in_groups : (groups : List (List Message)) → 8 * length (all_of groups) ≤ sum_by group_len groups
 few_in_groups [] = omega arith
 few_in_groups (g ∷ gs) =
-    omega (arith, few_in_group g, few_in_groups gs, sum_by-cons group_len g gs, ap length (flat_map-cons (λ (h : List Message). h) g gs), length-append g (all_of gs))
+    omega (
+      arith,
+      few_in_group g,
+      few_in_groups gs,
+      sum_by-cons group_len g gs,
+      ap length
+          (flat_map-cons (λ (h : List Message). h) g gs),
+      length-append g (all_of gs),
+    )
 
 -- a record takes eight bytes of a frame at least, and the header twenty
 pub few_records : (f : Frame) → 8 * length (records_of f) + 20 ≤ frame_len f.groups

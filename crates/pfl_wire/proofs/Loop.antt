@@ -1,5 +1,6 @@
 -- Reading one item after the other, as a loop does that keeps what it reads while there is memory.
-use Rattle.std.proofs.Common.{◌≡◌, ℕ, suc, ◌-◌, ◌+◌, ◌≤◌, ◌<◌, List, [], ◌∷◌, ◌++◌, length, Option, Some, None, Result, Ok, Err, refl, sym, ap, ◌∙◌, append_assoc, arith}
+use Rattle.std.proofs.Common.{◌≡◌, ℕ, suc, ◌-◌, ◌+◌, ◌≤◌, ◌<◌, List, [], ◌∷◌, ◌++◌, length, Option, Some, None, Result, Ok, Err, refl, sym, ap, ◌∙◌}
+use Rattle.std.proofs.Common.{append_assoc, arith}
 use Rattle.std.specs.Prelude.{Vec}
 use Rattle.std.proofs.lemmas.List.{append-nil, map_push}
 use Rattle.pfl_wire.specs.Frames.{lists}
@@ -113,17 +114,20 @@ Joins-lists (Some xs) None (Some ys) joins = absurd joins
 Joins-lists {A = A} (Some xs) (Some v) (Some ys) joins = ap lists joins ∙ map_push (λ (g : Vec Message A). g.items) xs.items v
 
 -- the group that was kept, if it was, and the bytes after it, are those that were read
-group_was : {P : Type 0} (group : Option (List Message)) (after bytes : List ℕ) → Keeps group after (group_at bytes) → ((g : List Message) → group_at bytes ≡ Ok (g, after) → IsItem group g → P) → P
+group_was : {P : Type 0} (group : Option (List Message)) (after bytes : List ℕ) → Keeps group after (group_at bytes)
+    → ((g : List Message) → group_at bytes ≡ Ok (g, after) → IsItem group g → P) → P
 group_was (Some g) after bytes keeps next = next g keeps refl
 group_was None after bytes keeps next = left_ok (group_at bytes) after keeps (λ g is. next g is tt)
 
-pub groups_shrink : (group : Option (List Message)) (after bytes : List ℕ) → IsBytes bytes → Keeps group after (group_at bytes) → length after + 4 ≤ length bytes
+pub groups_shrink : (group : Option (List Message)) (after bytes : List ℕ) → IsBytes bytes → Keeps group after (group_at bytes)
+    → length after + 4 ≤ length bytes
 groups_shrink group after bytes fits keeps = group_was group after bytes keeps (λ g is _. group_shorter bytes (g, after) fits is)
 
 pub groups_after : (group : Option (List Message)) (after bytes : List ℕ) → IsBytes bytes → Keeps group after (group_at bytes) → IsBytes after
 groups_after group after bytes fits keeps = group_was group after bytes keeps (λ g is _. (group_takes bytes (g, after) fits is).takes.rest_fits)
 
-pub groups_go_on : (old : Option (List (List Message))) (group : Option (List Message)) (new : Option (List (List Message))) (bytes after : List ℕ) (total : Read (List (List Message)))
+pub groups_go_on : (old : Option (List (List Message))) (group : Option (List Message)) (new : Option (List (List Message)))
+    (bytes after : List ℕ) (total : Read (List (List Message)))
     → IsBytes bytes → 0 < length bytes → Keeps group after (group_at bytes) → Joins old group new
     → Goes old (groups_at (length bytes) bytes) total → Goes new (groups_at (length after) after) total
 groups_go_on old group new [] after total fits some keeps joins so_far = absurd (omega arith)
@@ -131,7 +135,8 @@ groups_go_on old group new (b ∷ bytes) after total fits some keeps joins so_fa
     group_was group after (b ∷ bytes) keeps (λ g is item.
     let shorter = group_shorter (b ∷ bytes) (g, after) fits is in
     let after_fits = (group_takes (b ∷ bytes) (g, after) fits is).takes.rest_fits in
-    let same : groups_at (length bytes) after ≡ groups_at (length after) after = groups_enough (length bytes) (length after) after after_fits (omega arith) (omega arith) in
+    let same : groups_at (length bytes) after ≡ groups_at (length after) after =
+    groups_enough (length bytes) (length after) after after_fits (omega arith) (omega arith) in
     let one : groups_at (suc (length bytes)) (b ∷ bytes) ≡ with_first g (groups_at (length after) after) =
     groups_step (length bytes) (b ∷ bytes) g after (omega arith) is ∙ ap (with_first g) same in
     goes_on old group new g (groups_at (length after) after) total joins item (rw one at so_far))
@@ -141,7 +146,8 @@ pub groups_end : (kept : Option (List (List Message))) (bytes : List ℕ) (e : B
 unfolding groups_at
 groups_end kept [] e total some h so_far = absurd (omega arith)
 groups_end kept (b ∷ bytes) e total some h so_far =
-    ends kept (groups_at (suc (length bytes)) (b ∷ bytes)) total e (ap (λ (r : Read (List Message)). r >>= λ first. groups_at (length bytes) first.1 >>= λ rest. Ok (first.0 ∷ rest.0, rest.1)) h) so_far
+    ends kept (groups_at (suc (length bytes)) (b ∷ bytes)) total e
+    (ap (λ (r : Read (List Message)). r >>= λ first. groups_at (length bytes) first.1 >>= λ rest. Ok (first.0 ∷ rest.0, rest.1)) h) so_far
 
 pub groups_done : (kept : Option (List (List Message))) (bytes : List ℕ) (total : Read (List (List Message)))
     → length bytes ≡ 0 → Goes kept (groups_at (length bytes) bytes) total → Keeps kept [] total

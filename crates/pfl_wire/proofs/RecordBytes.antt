@@ -1,5 +1,6 @@
 -- Each record that is read is spelled by the bytes that were taken, and what is spelled is read again.
-use Rattle.std.proofs.Common.{◌≡◌, ℕ, ◌^◌, ◌<◌, ◌≤◌, Bool, true, false, List, [], ◌∷◌, ◌++◌, Option, Some, None, Result, Ok, refl, sym, ap, subst, ◌∙◌, append_assoc, arith}
+use Rattle.std.proofs.Common.{◌≡◌, ℕ, ◌^◌, ◌<◌, ◌≤◌, Bool, true, false, List, [], ◌∷◌, ◌++◌, Option, Some, None, Result, Ok, refl, sym, ap, subst}
+use Rattle.std.proofs.Common.{◌∙◌, append_assoc, arith}
 use Rattle.std.specs.Prelude.{IfSome, nat_le, ◌-◌, unwrap_or}
 use Rattle.std.specs.Option.{ok_or}
 use Rattle.std.proofs.lemmas.Bool.Decides.{nat_tests}
@@ -19,11 +20,14 @@ use Rattle.pfl_track.specs.Keys.{AreKeys}
 use Rattle.pfl_wire.specs.declared.fault.BadFrame.{BadFrame}
 use Rattle.pfl_wire.specs.declared.fault.BadFrame.TheVariants as bad
 use Rattle.pfl_wire.specs.Frames.{FitsName, FitsPeer, FitsAddr, FitsEnd, FitsKey, FitsKeys, FitsUpdate, FitsState}
-use Rattle.pfl_wire.specs.Spelling.{number_bytes, name_bytes, scale_byte, peer_bytes, address_bytes, end_bytes, key_bytes, keys_bytes, class_bytes, update_bytes, state_bytes, family_byte, dir_byte, flags_byte, rule_bytes}
-use Rattle.pfl_wire.specs.Fields.{◌>>=◌, wanted, byte_at, number_at, pads_at, name_at, scale_of, peer_at, address_at, end_at, ends_at, class_at, is_v4_of, dir_of, ack_wanted_of, rule_of}
+use Rattle.pfl_wire.specs.Spelling.{number_bytes, name_bytes, scale_byte, peer_bytes, address_bytes, end_bytes, key_bytes, keys_bytes, class_bytes}
+use Rattle.pfl_wire.specs.Spelling.{update_bytes, state_bytes, family_byte, dir_byte, flags_byte, rule_bytes}
+use Rattle.pfl_wire.specs.Fields.{◌>>=◌, wanted, byte_at, number_at, pads_at, name_at, scale_of, peer_at, address_at, end_at, ends_at, class_at}
+use Rattle.pfl_wire.specs.Fields.{is_v4_of, dir_of, ack_wanted_of, rule_of}
 use Rattle.pfl_wire.specs.Records.{key_with, keys_at, update_at, state_at}
 use Rattle.pfl_wire.proofs.Fields.{IsBytes, bind_then, wanted_ok, ok_is, Takes, Takes-then, byte_takes, number_takes, number_again, pads_take, pads_again}
-use Rattle.pfl_wire.proofs.Values.{scale_back, scale_again, class_back, class_again, ok_or_ok, family_back, family_again, dir_back, dir_again, flags_back, flags_again, proto_back, rule_back, rule_again, one_family, family_same}
+use Rattle.pfl_wire.proofs.Values.{scale_back, scale_again, class_back, class_again, ok_or_ok, family_back, family_again, dir_back, dir_again}
+use Rattle.pfl_wire.proofs.Values.{flags_back, flags_again, proto_back, rule_back, rule_again, one_family, family_same}
 
 pub name_takes : (bytes : List ℕ) (x : StateName × List ℕ) → IsBytes bytes → name_at bytes ≡ Ok x → Takes bytes (name_bytes x.0) x.1 × FitsName x.0
 unfolding name_at name_bytes
@@ -100,7 +104,8 @@ pub record IsAddrOf (v4 : Bool) (a : Addr) : Type 0 where
   pub fits : FitsAddr a
   pub family : is_v4 a ≡ v4
 
-pub address_takes : (v4 : Bool) (bytes : List ℕ) (x : Addr × List ℕ) → IsBytes bytes → address_at v4 bytes ≡ Ok x → Takes bytes (address_bytes x.0) x.1 × IsAddrOf v4 x.0
+pub address_takes : (v4 : Bool) (bytes : List ℕ) (x : Addr × List ℕ) → IsBytes bytes → address_at v4 bytes ≡ Ok x
+    → Takes bytes (address_bytes x.0) x.1 × IsAddrOf v4 x.0
 unfolding address_at
 address_takes true bytes x fits e =
     bind_then (number_at 4 bytes) _ x e (λ number number_is e1.
@@ -151,7 +156,8 @@ pub record IsKeyOf (v4 : Bool) (k : Key) : Type 0 where
   pub far : is_v4 k.far.addr ≡ v4
   pub near : is_v4 k.near.addr ≡ v4
 
-pub ends_take : (n : ℕ) (v4 : Bool) (bytes : List ℕ) (x : (End × End) × List ℕ) → IsBytes bytes → ends_at v4 bytes ≡ Ok x → Takes bytes (key_bytes (key_with n x.0)) x.1 × IsKeyOf v4 (key_with n x.0)
+pub ends_take : (n : ℕ) (v4 : Bool) (bytes : List ℕ) (x : (End × End) × List ℕ) → IsBytes bytes → ends_at v4 bytes ≡ Ok x
+    → Takes bytes (key_bytes (key_with n x.0)) x.1 × IsKeyOf v4 (key_with n x.0)
 unfolding ends_at key_bytes
 ends_take n v4 bytes x fits e =
     bind_then (end_at v4 bytes) _ x e (λ far far_is e1.
@@ -168,7 +174,8 @@ ends_take n v4 bytes x fits e =
       },
     )))
 
-pub ends_again : (v4 : Bool) (k : Key) (rest : List ℕ) → FitsKey k → is_v4 k.far.addr ≡ v4 → is_v4 k.near.addr ≡ v4 → ends_at v4 (key_bytes k ++ rest) ≡ Ok ((k.far, k.near), rest)
+pub ends_again : (v4 : Bool) (k : Key) (rest : List ℕ) → FitsKey k → is_v4 k.far.addr ≡ v4 → is_v4 k.near.addr ≡ v4
+    → ends_at v4 (key_bytes k ++ rest) ≡ Ok ((k.far, k.near), rest)
 unfolding ends_at key_bytes
 ends_again v4 k rest fits far near =
     simp append_assoc (bind_again _ _ _ _ (end_again v4 k.far _ fits.far far) (bind_again _ _ _ _ (end_again v4 k.near rest fits.near near) refl))
@@ -179,7 +186,8 @@ pub record IsKeysOf (n : ℕ) (v4 : Bool) (k : KeyPair) : Type 0 where
   pub number : proto_number k.wire.proto ≡ n
   pub family : is_v4 k.wire.far.addr ≡ v4
 
-pub keys_take : (n : ℕ) (v4 : Bool) (bytes : List ℕ) (x : KeyPair × List ℕ) → IsBytes bytes → keys_at n v4 bytes ≡ Ok x → Takes bytes (keys_bytes x.0) x.1 × IsKeysOf n v4 x.0
+pub keys_take : (n : ℕ) (v4 : Bool) (bytes : List ℕ) (x : KeyPair × List ℕ) → IsBytes bytes → keys_at n v4 bytes ≡ Ok x
+    → Takes bytes (keys_bytes x.0) x.1 × IsKeysOf n v4 x.0
 unfolding keys_at keys_bytes
 keys_take n v4 bytes x fits e =
     bind_then (ends_at v4 bytes) _ x e (λ wire wire_is e1.
@@ -194,10 +202,17 @@ keys_take n v4 bytes x fits e =
       one_family = one_family wire.0.0.addr stack.0.0.addr v4 t0.1.far t1.1.far;
     } in
     let made : KeyPair × List ℕ = (record { wire = key_with n wire.0; stack = key_with n stack.0 }, stack.1) in
-    subst (λ (y : KeyPair × List ℕ). Takes bytes (keys_bytes y.0) y.1 × IsKeysOf n v4 y.0) (ok_is made x e2)
-    (Takes-then bytes _ wire.1 _ stack.1 t0.0 t1.0, record { fits = record { are = are; wire = t0.1.fits; stack = t1.1.fits }; number = proto_back n; family = t0.1.far })))
+    subst (λ (y : KeyPair × List ℕ). Takes bytes (keys_bytes y.0) y.1 × IsKeysOf n v4 y.0) (ok_is made x e2) (
+      Takes-then bytes _ wire.1 _ stack.1 t0.0 t1.0,
+      record {
+        fits = record { are = are; wire = t0.1.fits; stack = t1.1.fits };
+        number = proto_back n;
+        family = t0.1.far;
+      },
+    )))
 
-pub keys_again : (v4 : Bool) (k : KeyPair) (rest : List ℕ) → FitsKeys k → is_v4 k.wire.far.addr ≡ v4 → keys_at (proto_number k.wire.proto) v4 (keys_bytes k ++ rest) ≡ Ok (k, rest)
+pub keys_again : (v4 : Bool) (k : KeyPair) (rest : List ℕ) → FitsKeys k → is_v4 k.wire.far.addr ≡ v4
+    → keys_at (proto_number k.wire.proto) v4 (keys_bytes k ++ rest) ≡ Ok (k, rest)
 unfolding keys_at keys_bytes
 keys_again v4 k rest fits family =
     let are = fits.are in
@@ -250,7 +265,8 @@ pub update_again : (u : UpdateRecord) (rest : List ℕ) → FitsUpdate u → upd
 unfolding update_at update_bytes
 update_again u rest fits =
     simp append_assoc (bind_again _ _ _ _ (name_again u.name _ fits.name) (bind_again _ _ _ _ (peer_again u.src _ fits.src)
-    (bind_again _ _ _ _ (peer_again u.dst _ fits.dst) (bind_again _ _ _ _ (class_again_at u.class _) (bind_again _ _ _ _ (number_again 4 u.remaining rest fits.remaining) refl)))))
+    (bind_again _ _ _ _ (peer_again u.dst _ fits.dst)
+    (bind_again _ _ _ _ (class_again_at u.class _) (bind_again _ _ _ _ (number_again 4 u.remaining rest fits.remaining) refl)))))
 
 pub state_takes : (bytes : List ℕ) (x : StateRecord × List ℕ) → IsBytes bytes → state_at bytes ≡ Ok x → Takes bytes (state_bytes x.0) x.1 × FitsState x.0
 unfolding state_at state_bytes

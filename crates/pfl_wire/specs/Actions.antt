@@ -17,7 +17,8 @@ action_number action.Bulk = 10
 
 -- all actions that are taken (this project's profile)
 abbrev pub actions : List Action
-actions = action.Clear ∷ action.Insert ∷ action.InsertAck ∷ action.Update ∷ action.UpdateShort ∷ action.UpdateRequest ∷ action.Delete ∷ action.DeleteShort ∷ action.Bulk ∷ []
+actions = action.Clear ∷ action.Insert ∷ action.InsertAck ∷ action.Update ∷ action.UpdateShort ∷ action.UpdateRequest ∷ action.Delete
+    ∷ action.DeleteShort ∷ action.Bulk ∷ []
 
 -- the action with the number, if there is one (this project's profile)
 abbrev pub action_with : ℕ → Option Action

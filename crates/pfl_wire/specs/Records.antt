@@ -10,7 +10,8 @@ use Rattle.pfl_wire.specs.declared.message.StateRecord.{StateRecord}
 use Rattle.pfl_wire.specs.declared.message.UpdateRecord.{UpdateRecord}
 use Rattle.pfl_wire.specs.declared.message.Message.{Message}
 use Rattle.pfl_wire.specs.declared.message.Message.TheVariants.{Clear, Insert, InsertAck, Update, UpdateShort, UpdateRequest, Delete, DeleteShort, Bulk}
-use Rattle.pfl_wire.specs.Fields.{◌>>=◌, Read, byte_at, number_at, pads_at, name_at, peer_at, ends_at, is_v4_of, dir_of, ack_wanted_of, status_of, class_at, rule_of}
+use Rattle.pfl_wire.specs.Fields.{◌>>=◌, Read, byte_at, number_at, pads_at, name_at, peer_at, ends_at, is_v4_of, dir_of, ack_wanted_of, status_of}
+use Rattle.pfl_wire.specs.Fields.{class_at, rule_of}
 
 -- the key of the protocol with the number, between a far end and a near end
 abbrev pub key_with : ℕ → End × End → Key

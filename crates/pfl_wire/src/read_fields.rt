@@ -7,7 +7,8 @@ ghost use Rattle.pfl_base.specs.Ends.{is_v4 as is_ipv4};
 ghost use Rattle.pfl_base.specs.Packets.{scale_too_large};
 ghost use Rattle.pfl_track.specs.Peers.{is_peer};
 ghost use Rattle.pfl_wire.specs.inner.Answers.{Gives};
-ghost use Rattle.pfl_wire.specs.Fields.{byte_at, number_at, pads_at, name_at, scale_of, peer_at, address_at, end_at, ends_at, is_v4_of, dir_of, ack_wanted_of, status_of, class_at, rule_of};
+ghost use Rattle.pfl_wire.specs.Fields.{byte_at, number_at, pads_at, name_at, scale_of, peer_at, address_at, end_at, ends_at, is_v4_of, dir_of};
+ghost use Rattle.pfl_wire.specs.Fields.{ack_wanted_of, status_of, class_at, rule_of};
 
 use crate::fault::BadFrame;
 use crate::message::BulkStatus;

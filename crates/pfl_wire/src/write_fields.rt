@@ -3,7 +3,8 @@
 
 ghost use Rattle.std.specs.Prelude.{◌≡◌, ◌<◌, ◌^◌, [], ◌∷◌, ◌++◌, OnOk};
 ghost use Rattle.pfl_wire.specs.Frames.{FitsName, FitsPeer, FitsAddr, FitsEnd, FitsKey, FitsKeys};
-ghost use Rattle.pfl_wire.specs.Spelling.{number_bytes, name_bytes, peer_bytes, address_bytes, end_bytes, key_bytes, keys_bytes, family_byte, dir_byte, flags_byte, class_bytes, rule_bytes};
+ghost use Rattle.pfl_wire.specs.Spelling.{number_bytes, name_bytes, peer_bytes, address_bytes, end_bytes, key_bytes, keys_bytes, family_byte};
+ghost use Rattle.pfl_wire.specs.Spelling.{dir_byte, flags_byte, class_bytes, rule_bytes};
 
 use byteorder::{BigEndian, ByteOrder};
 use pfl_base::{Addr, Class, Dir, End, Key, StateName};

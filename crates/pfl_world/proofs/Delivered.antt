@@ -5,7 +5,7 @@ use Rattle.std.proofs.Common.{◌∙◌, ap, sym, subst, arith}
 use Rattle.pfl_base.specs.declared.node_id.NodeId.{NodeId}
 use Rattle.pfl_base.specs.declared.node_id.NodeId.TheVariants.{A, B}
 use Rattle.pfl_base.specs.declared.refusal.Refusal.{Refusal}
-use Rattle.pfl_base.specs.declared.refusal.Refusal.TheVariants.{NoSuchFrame, NoMemory}
+use Rattle.pfl_base.specs.declared.refusal.Refusal.TheVariants.{NoSuchFrame}
 use Rattle.pfl_edits.specs.Maps as maps
 use Rattle.pfl_wire.specs.declared.fault.BadFrame.{BadFrame}
 use Rattle.pfl_wire.specs.Frames.{Frame}
@@ -17,7 +17,7 @@ use Rattle.pfl_link.specs.declared.fault.LinkFault.{LinkFault}
 use Rattle.pfl_link.specs.declared.fault.LinkFault.TheVariants as link_fault
 use Rattle.pfl_link.specs.Faults.{missing_fault}
 use Rattle.pfl_link.specs.Links.{Link, InFlight}
-use Rattle.pfl_world.specs.inner.Delivering.{arrived, arrival}
+use Rattle.pfl_world.specs.inner.Delivering.{arrived, arrival, arrival_edits}
 use Rattle.pfl_world.specs.Delivering.{read_taken, deliver_step, frame_points, read_work, deliver_work}
 use Rattle.pfl_world.specs.Events.{IsRefusalOf}
 use Rattle.pfl_world.specs.Meanings.{Stepped}
@@ -25,7 +25,6 @@ use Rattle.pfl_world.specs.Tickets.{without_ticket}
 use Rattle.pfl_world.specs.Worlds.{World, IsWorld, node_at, with_node}
 use Rattle.pfl_world.proofs.Sending.{link_kept, node_mtu}
 use Rattle.pfl_world.proofs.Stepping.{accepted, refusal_of}
-use Rattle.pfl_world.proofs.Tickets.{wanted_memory}
 
 -- ---- the step
 
@@ -40,13 +39,15 @@ abbrev arrives : World → ℕ → NodeId → Node → Result Frame BadFrame →
 arrives w ticket to n read = unless_refused (points_refusal (frame_points n read)) (gone_to w ticket to n read)
 
 -- which is the same in either order
-either_order : (w : World) (ticket : ℕ) (to : NodeId) (n : Node) (read : Result Frame BadFrame) → read_taken (without_ticket w ticket) to n read ≡ arrives w ticket to n read
+either_order : (w : World) (ticket : ℕ) (to : NodeId) (n : Node) (read : Result Frame BadFrame)
+    → read_taken (without_ticket w ticket) to n read ≡ arrives w ticket to n read
 either_order w ticket A n (Ok f) = refl
 either_order w ticket A n (Err why) = refl
 either_order w ticket B n (Ok f) = refl
 either_order w ticket B n (Err why) = refl
 
-deliver_step-found : (w : World) (ticket : ℕ) (f : InFlight) → maps.get w.link.frames ticket ≡ Some f → deliver_step w ticket ≡ arrives w ticket f.to (node_at w f.to) (reading f.bytes)
+deliver_step-found : (w : World) (ticket : ℕ) (f : InFlight) → maps.get w.link.frames ticket ≡ Some f
+    → deliver_step w ticket ≡ arrives w ticket f.to (node_at w f.to) (reading f.bytes)
 unfolding deliver_step
 deliver_step-found w ticket f at =
     ap (λ (o : Option InFlight). option_map_or (delivered w ticket) o (Err NoSuchFrame)) at ∙ either_order w ticket f.to (node_at w f.to) (reading f.bytes)
@@ -59,6 +60,12 @@ pub deliver_missing : (w old : World) (ticket : ℕ) → w ≡ old → maps.get 
 deliver_missing w old ticket view at =
     subst (λ (v : World). IsRefusalOf (deliver_step v ticket) NoSuchFrame) view
     (subst (λ (v : Result Stepped Refusal). IsRefusalOf v NoSuchFrame) (sym (deliver_step-missing w ticket at)) refl)
+
+-- ---- the edits of the receiver
+
+few_arrive : (n : Node) (read : Result Frame BadFrame) → arrival_edits n read ≤ 11 + 12 * read_work n read
+few_arrive n (Ok f) = omega arith
+few_arrive n (Err why) = omega arith
 
 -- ---- the frame of the ticket, and the node that it goes to
 
@@ -112,7 +119,8 @@ module _ {w : World} {ticket : ℕ} {to : NodeId} {bytes : List ℕ} {was : Node
         (refusal_of (points_refusal (frame_points was (reading bytes))) (gone_to w ticket to was (reading bytes)) r why)
 
     -- the receiver takes it, and it leaves the link
-    pub deliver_accepted : (mid new : World) (n : Node) (o : Outcome) → points_refusal (frame_points was (reading bytes)) ≡ None → n ≡ arrived was (reading bytes) → o ≡ arrival (reading bytes)
+    pub deliver_accepted : (mid new : World) (n : Node) (o : Outcome) → points_refusal (frame_points was (reading bytes)) ≡ None
+        → n ≡ arrived was (reading bytes) → o ≡ arrival (reading bytes)
         → mid ≡ with_node w to n → new ≡ without_ticket mid ticket → deliver_step old ticket ≡ accepted new o
     deliver_accepted mid new n o none is out made gone =
         step_here
@@ -122,16 +130,13 @@ module _ {w : World} {ticket : ℕ} {to : NodeId} {bytes : List ℕ} {was : Node
         ∙ ap (λ (v : World). accepted v (arrival (reading bytes))) (sym gone)
         ∙ ap (λ (a : Outcome). accepted new a) (sym out)
 
-    -- memory is wanting for what it changed
-    pub deliver_wanted : (mid : World) (n : Node) (r : Refusal) → points_refusal (frame_points was (reading bytes)) ≡ None → n ≡ arrived was (reading bytes) → mid ≡ with_node w to n
-        → r ≡ NoMemory → IsRefusalOf (deliver_step old ticket) r
-    deliver_wanted mid n r none is made wants =
-        wanted_memory (deliver_step old ticket) _ r (deliver_accepted mid (without_ticket mid ticket) n (arrival (reading bytes)) none is refl made refl) wants
-
     -- one edit more than those of the receiver
-    pub deliver_few : (few before mid after : ℕ) → few ≤ 11 + 12 * read_work was (reading bytes) → mid ≤ before + few → after ≡ mid + 1 → after ≤ before + edits_for (deliver_work old ticket)
-    deliver_few few before mid after least most one =
-        let work : deliver_work old ticket ≡ read_work was (reading bytes) = subst (λ (v : World). deliver_work v ticket ≡ read_work was (reading bytes)) view work_here in
+    pub deliver_few : (before mid after : ℕ) → mid ≤ before + arrival_edits was (reading bytes) → after ≡ mid + 1
+        → after ≤ before + edits_for (deliver_work old ticket)
+    deliver_few before mid after most one =
+        let work : deliver_work old ticket ≡ read_work was (reading bytes) =
+        subst (λ (v : World). deliver_work v ticket ≡ read_work was (reading bytes)) view work_here in
+        let least = few_arrive was (reading bytes) in
         omega (arith, least, most, one, work)
 
 -- ---- the frame leaves the link

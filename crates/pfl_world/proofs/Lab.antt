@@ -179,10 +179,12 @@ abbrev pub into : NodeId → Packet → Event
 into at p = packet at Inbound p
 
 abbrev pub tcp_out : ℕ → ℕ → ℕ → ℕ → Event
-tcp_out flags seq ack window = out A (record { proto = Tcp; src = inside 1000; dst = outside 80; flags = flags; seq = seq; ack = ack; window = window; len = 0; scale = None })
+tcp_out flags seq ack window =
+    out A (record { proto = Tcp; src = inside 1000; dst = outside 80; flags = flags; seq = seq; ack = ack; window = window; len = 0; scale = None })
 
 abbrev pub tcp_in : ℕ → ℕ → ℕ → ℕ → Event
-tcp_in flags seq ack window = into A (record { proto = Tcp; src = outside 80; dst = inside 1000; flags = flags; seq = seq; ack = ack; window = window; len = 0; scale = None })
+tcp_in flags seq ack window =
+    into A (record { proto = Tcp; src = outside 80; dst = inside 1000; flags = flags; seq = seq; ack = ack; window = window; len = 0; scale = None })
 
 abbrev pub name : ℕ → ℕ → StateName
 name creator id = record { creator = creator; id = id }
@@ -238,7 +240,13 @@ final w (e ∷ es) = final (world_after w (step w e)) es
 
 -- what a run needs to compute on literals
 unfoldable pub computing : ℕ
-unfolding answers final map_lemmas.computing spelling.number_bytes spelling.name_bytes spelling.peer_bytes spelling.end_bytes spelling.key_bytes spelling.keys_bytes spelling.class_bytes spelling.state_bytes spelling.update_bytes spelling.record_bytes spelling.group_bytes spelling.spelling reading.computing taking.next_frame changes.changed changes.deleted changes.forgotten translating.new_keys starting.started starting.judged packets.handled packets.packet_points receiving.taken flushing.frame_of flushing.flushed purging.purged purging.purge_points releasing.released_due clearing.cleared events.restarted turning.turn_of turning.turned retrying.retried_client flushes.flush_step deliveries.deliver_step tickets.lose_step tickets.repeat_step tickets.cut_step restarts.restart_step one.step runs.run delivering.cleared_by delivering.records_work
+unfolding answers final map_lemmas.computing spelling.number_bytes spelling.name_bytes spelling.peer_bytes spelling.end_bytes
+    spelling.key_bytes spelling.keys_bytes spelling.class_bytes spelling.state_bytes spelling.update_bytes spelling.record_bytes
+    spelling.group_bytes spelling.spelling reading.computing taking.next_frame changes.changed changes.deleted changes.forgotten
+    translating.new_keys starting.started starting.judged packets.handled packets.packet_points receiving.taken flushing.frame_of
+    flushing.flushed purging.purged purging.purge_points releasing.released_due clearing.cleared events.restarted turning.turn_of
+    turning.turned retrying.retried_client flushes.flush_step deliveries.deliver_step tickets.lose_step tickets.repeat_step
+    tickets.cut_step restarts.restart_step one.step runs.run delivering.cleared_by delivering.records_work
 computing = 0
 
 -- what is pending at a node
@@ -266,7 +274,8 @@ names_at w node = maps.keys (node_at w node).states
 
 -- the seven counters
 abbrev pub counts : ℕ → ℕ → ℕ → ℕ → ℕ → ℕ → ℕ → Counters
-counts passed blocked freed lost bad stale broken = record { passed = passed; blocked = blocked; freed = freed; lost = lost; bad = bad; stale = stale; broken = broken }
+counts passed blocked freed lost bad stale broken =
+    record { passed = passed; blocked = blocked; freed = freed; lost = lost; bad = bad; stale = stale; broken = broken }
 
 -- a mark as it is shown
 abbrev pub queued : Kind → ℕ → StateName → Entry

@@ -61,14 +61,29 @@ world_with : (w : World) → IsWorld w → (id : NodeId) (n : Node) → IsNode n
 world_with w is A n at same = record { a = at; b = is.b; link = is.link; parts = agrees_with w is.parts A n same }
 world_with w is B n at same = record { a = is.a; b = at; link = is.link; parts = agrees_with w is.parts B n same }
 
--- what leads a node of a world back leads the world back
-pub lifted : {M : Type 0} (w : World) → IsWorld w → (id : NodeId) (es : List NodeEdit) → Fits nodes.Finds IsNode nodes.put_back es (node_at w id) → WorldLeadsBack {M = M} (of_node id es) (before_node w id es) w
-lifted w is A es f =
+-- what leads a node back leads a world back in which it stands
+embedded : {M : Type 0} (w : World) → IsWorld w → (id : NodeId) (es : List NodeEdit) (was n : Node) → n.limits ≡ (node_at w id).limits
+    → NodeLeadsBack es was n → WorldLeadsBack {M = M} (of_node id es) (with_node w id was) (with_node w id n)
+embedded w is A es was n same l =
     LeadsBack-embedded nodes.Finds (HasLimits w.a.limits) nodes.put_back Finds IsWorld put_back (OfNode A) (with_node w A)
-    (λ e s h. h) (λ s h. world_with w is A s h.0 h.1) (λ e s. refl) es (back nodes.put_back es w.a) w.a (record { fits = fits_limits es w.a f; back = refl })
-lifted w is B es f =
+    (λ e s h. h) (λ s h. world_with w is A s h.0 h.1) (λ e s. refl) es was n
+    (record { fits = subst (λ (k : Limits). Fits nodes.Finds (HasLimits k) nodes.put_back es n) same (fits_limits es n l.fits); back = l.back })
+embedded w is B es was n same l =
     LeadsBack-embedded nodes.Finds (HasLimits w.b.limits) nodes.put_back Finds IsWorld put_back (OfNode B) (with_node w B)
-    (λ e s h. h) (λ s h. world_with w is B s h.0 h.1) (λ e s. refl) es (back nodes.put_back es w.b) w.b (record { fits = fits_limits es w.b f; back = refl })
+    (λ e s h. h) (λ s h. world_with w is B s h.0 h.1) (λ e s. refl) es was n
+    (record { fits = subst (λ (k : Limits). Fits nodes.Finds (HasLimits k) nodes.put_back es n) same (fits_limits es n l.fits); back = l.back })
+
+-- what leads a node of a world back leads the world back
+pub lifted : {M : Type 0} (w : World) → IsWorld w → (id : NodeId) (es : List NodeEdit)
+    → Fits nodes.Finds IsNode nodes.put_back es (node_at w id) → WorldLeadsBack {M = M} (of_node id es) (before_node w id es) w
+lifted w is A es f = embedded w is A es (back nodes.put_back es w.a) w.a refl (record { fits = f; back = refl })
+lifted w is B es f = embedded w is B es (back nodes.put_back es w.b) w.b refl (record { fits = f; back = refl })
+
+-- what leads a node back to one of a world leads back to the world
+pub leads_from : {M : Type 0} (w : World) → IsWorld w → (id : NodeId) (es : List NodeEdit) (n : Node) → NodeLeadsBack es (node_at w id) n
+    → WorldLeadsBack {M = M} (of_node id es) w (with_node w id n)
+leads_from w is A es n l = embedded w is A es w.a n (same_limits es w.a n l) l
+leads_from w is B es n l = embedded w is B es w.b n (same_limits es w.b n l) l
 
 -- the node is in its place
 node_at-with : (w : World) (id : NodeId) (n : Node) → node_at (with_node w id n) id ≡ n

@@ -13,7 +13,8 @@ use Rattle.pfl_link.specs.declared.change.LinkChange.TheVariants.{Sent, Taken, C
 use Rattle.pfl_link.specs.Links.{InFlight}
 use Rattle.pfl_world.specs.declared.edit.WorldEdit.TheVariants.{OfNode, OfLink}
 use Rattle.pfl_world.specs.inner.WorldEdits as edits
-use Rattle.pfl_world.specs.Values.{Thing, AState, AMark, ARequest, AStatus, AClear, APacket, ANumber, Values, things, link_values, is_part, is_small, HoldsLittle}
+use Rattle.pfl_world.specs.Values.{Thing, AState, AMark, ARequest, AStatus, AClear, APacket, ANumber, Values, things, link_values, is_part, is_small}
+use Rattle.pfl_world.specs.Values.{HoldsLittle}
 
 few : {X : Type 0} (thing : X → Thing) → ((x : X) → is_part (thing x) ≡ true) → (x : Option X) → is_small (things thing x) ≡ true
 few thing part None = refl
@@ -35,7 +36,8 @@ of_link (Cut n) ticket f = (refl, refl)
 pub of_node-little : {M : Type 0} (id : NodeId) (e : NodeEdit) → HoldsLittle {M = M} (OfNode id e)
 of_node-little id (OfState e) = record { former = few AState (λ x. refl) e.before; present = few AState (λ x. refl) e.after }
 of_node-little id (Moved e) = record { former = refl; present = refl }
-of_node-little id (OfQueue (OfMark name before after next_before next_after)) = record { former = numbered before next_before; present = numbered after next_after }
+of_node-little id (OfQueue (OfMark name before after next_before next_after)) =
+    record { former = numbered before next_before; present = numbered after next_after }
 of_node-little id (OfQueue (OfName name before after)) = record { former = few AMark (λ x. refl) before; present = few AMark (λ x. refl) after }
 of_node-little id (OfQueue (OfRequest position before after)) = record { former = few ARequest (λ x. refl) before; present = few ARequest (λ x. refl) after }
 of_node-little id (OfQueue (OfStatus position before after)) = record { former = few AStatus (λ x. refl) before; present = few AStatus (λ x. refl) after }

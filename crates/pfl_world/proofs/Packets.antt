@@ -21,7 +21,9 @@ use Rattle.pfl_language.specs.declared.event.Event.{Event}
 use Rattle.pfl_language.specs.declared.node_event.NodeOutcome.TheVariants as given
 use Rattle.pfl_language.specs.declared.fate.Fate.TheVariants as fate
 use Rattle.pfl_world.specs.Worlds.{World, new_world}
-use Rattle.pfl_world.proofs.Lab.{limits, rules, opening, pass_out, host, inside, outside, plain, u1, u2, v1, out, into, tcp_out, tcp_in, name, answers, final, computing, queue_at, queued, states_at, names_at, seen, ends, both, tick, kill, purge, passed, clock, flush, counts, NodeShot, shot, dropped, did}
+use Rattle.pfl_world.proofs.Lab.{limits, rules, opening, pass_out, host, inside, outside, plain, u1, u2, v1, out, into, tcp_out, tcp_in, name}
+use Rattle.pfl_world.proofs.Lab.{answers, final, computing, queue_at, queued, states_at, names_at, seen, ends, both, tick, kill, purge, passed, clock}
+use Rattle.pfl_world.proofs.Lab.{flush, counts, NodeShot, shot, dropped, did}
 
 abbrev s : World
 s = opening limits
@@ -97,7 +99,8 @@ lookup_alone : map seen (states_at (final (s) (out A u1 ∷ out A u1 ∷ [])) A)
 unfolding computing
 lookup_alone = refl
 
-purge_at_expiry : answers (s) (out A u1 ∷ tick A 59999 ∷ purge A ∷ tick A 1 ∷ purge A ∷ []) ≡ passed 1 1 ∷ clock 59999 ∷ did (given.Purged 0) ∷ clock 60000 ∷ did (given.Purged 1) ∷ []
+purge_at_expiry : answers (s) (out A u1 ∷ tick A 59999 ∷ purge A ∷ tick A 1 ∷ purge A ∷ []) ≡ passed 1 1 ∷ clock 59999
+    ∷ did (given.Purged 0) ∷ clock 60000 ∷ did (given.Purged 1) ∷ []
 unfolding computing
 purge_at_expiry = refl
 
@@ -106,13 +109,27 @@ unfolding computing
 nothing_queued = refl
 
 abbrev connection : List Event
-connection = tcp_out 2 100 0 1000 ∷ tcp_in 18 500 101 2000 ∷ tcp_out 16 101 501 1000 ∷ tcp_in 16 5000 101 2000 ∷ tcp_out 17 101 501 1000 ∷ tcp_in 17 501 102 2000 ∷ tcp_out 16 102 502 1000 ∷ []
+connection = tcp_out 2 100 0 1000 ∷ tcp_in 18 500 101 2000 ∷ tcp_out 16 101 501 1000 ∷ tcp_in 16 5000 101 2000 ∷ tcp_out 17 101 501 1000
+    ∷ tcp_in 17 501 102 2000 ∷ tcp_out 16 102 502 1000 ∷ []
 
-connection_and_reuse : answers (s) (tcp_out 2 100 0 1000 ∷ tcp_in 18 500 101 2000 ∷ tcp_out 16 101 501 1000 ∷ tcp_in 16 5000 101 2000 ∷ tcp_out 17 101 501 1000 ∷ tcp_in 17 501 102 2000 ∷ tcp_out 16 102 502 1000 ∷ tcp_out 2 9000 0 1000 ∷ []) ≡ passed 1 1 ∷ passed 1 1 ∷ passed 1 1 ∷ dropped reason.Window ∷ passed 1 1 ∷ passed 1 1 ∷ passed 1 1 ∷ passed 1 2 ∷ []
+connection_and_reuse : answers (s) (tcp_out 2 100 0 1000 ∷ tcp_in 18 500 101 2000 ∷ tcp_out 16 101 501 1000 ∷ tcp_in 16 5000 101 2000
+    ∷ tcp_out 17 101 501 1000 ∷ tcp_in 17 501 102 2000 ∷ tcp_out 16 102 502 1000 ∷ tcp_out 2 9000 0 1000 ∷ []) ≡ passed 1 1 ∷ passed 1 1
+    ∷ passed 1 1 ∷ dropped reason.Window ∷ passed 1 1 ∷ passed 1 1 ∷ passed 1 1 ∷ passed 1 2 ∷ []
 unfolding computing
 connection_and_reuse = refl
 
-three_packets : map ends (states_at (final (s) (tcp_out 2 100 0 1000 ∷ tcp_in 18 500 101 2000 ∷ tcp_out 16 101 501 1000 ∷ [])) A) ≡ (record { level = 4; scale = None; window = 1000; lo = 101; hi = 2101 }, record { level = 4; scale = None; window = 2000; lo = 501; hi = 1501 }, 2) ∷ []
+three_packets : map ends (states_at (final (s) (tcp_out 2 100 0 1000 ∷ tcp_in 18 500 101 2000 ∷ tcp_out 16 101 501 1000 ∷ [])) A)
+    ≡ (
+      record { level = 4; scale = None; window = 1000; lo = 101; hi = 2101 },
+      record {
+        level = 4;
+        scale = None;
+        window = 2000;
+        lo = 501;
+        hi = 1501;
+      },
+      2,
+    ) ∷ []
 unfolding computing
 three_packets = refl
 
@@ -120,7 +137,8 @@ closed : both (map seen (states_at (final s connection) A)) (queue_at (final s c
 unfolding computing
 closed = refl
 
-reused : both (names_at (final s (connection ++ tcp_out 2 9000 0 1000 ∷ [])) A) (queue_at (final s (connection ++ tcp_out 2 9000 0 1000 ∷ [])) A) ≡ both (name 1 2 ∷ []) (queued Insert 2 (name 1 2) ∷ [])
+reused : both (names_at (final s (connection ++ tcp_out 2 9000 0 1000 ∷ [])) A)
+    (queue_at (final s (connection ++ tcp_out 2 9000 0 1000 ∷ [])) A) ≡ both (name 1 2 ∷ []) (queued Insert 2 (name 1 2) ∷ [])
 unfolding computing
 reused = refl
 
@@ -139,7 +157,8 @@ filtered = new_world limits (rules (any_block ∷ web ∷ not_there ∷ [])) (ru
 abbrev request : ℕ → ℕ → ℕ → Event
 request port to flags = out A (record (plain Tcp (inside port) (host to 80) 0) { flags = flags; seq = 100; window = 1000 })
 
-rules_in_order : answers (filtered) (out A u1 ∷ request 1000 0xc6336407 2 ∷ request 1001 0xc6336407 16 ∷ request 1000 0xc0000209 2 ∷ []) ≡ dropped reason.Block ∷ passed 1 1 ∷ dropped reason.Block ∷ dropped reason.Block ∷ []
+rules_in_order : answers (filtered) (out A u1 ∷ request 1000 0xc6336407 2 ∷ request 1001 0xc6336407 16 ∷ request 1000 0xc0000209 2 ∷ [])
+    ≡ dropped reason.Block ∷ passed 1 1 ∷ dropped reason.Block ∷ dropped reason.Block ∷ []
 unfolding computing
 rules_in_order = refl
 
@@ -147,14 +166,20 @@ no_rules : answers (new_world limits (rules []) (rules [])) (out A u1 ∷ []) �
 unfolding computing
 no_rules = refl
 
-at_most_one : answers (new_world limits (rules (record pass_out { max = Some 1 } ∷ [])) (rules [])) (out A u1 ∷ out A u2 ∷ []) ≡ passed 1 1 ∷ dropped reason.Max ∷ []
+at_most_one : answers (new_world limits (rules (record pass_out { max = Some 1 } ∷ [])) (rules [])) (out A u1 ∷ out A u2 ∷ []) ≡ passed 1 1
+    ∷ dropped reason.Max ∷ []
 unfolding computing
 at_most_one = refl
 
 abbrev natting : World
-natting = new_world limits (rules (record pass_out { proto = Some Udp; nat = Some (record { addr = V4 0xc6336401; ports = record { first = 4000; last = 4000 } }) } ∷ [])) (rules [])
+natting = new_world limits
+    (rules (record pass_out {
+      proto = Some Udp;
+      nat = Some (record { addr = V4 0xc6336401; ports = record { first = 4000; last = 4000 } });
+    } ∷ [])) (rules [])
 
-translation : answers (natting) (out A u1 ∷ into A (plain Udp (outside 53) (host 0xc6336401 4000) 80) ∷ out A (plain Udp (host 0x0a000002 1000) (outside 53) 40) ∷ []) ≡ passed 1 1 ∷ passed 1 1 ∷ dropped reason.Key ∷ []
+translation : answers (natting) (out A u1 ∷ into A (plain Udp (outside 53) (host 0xc6336401 4000) 80)
+    ∷ out A (plain Udp (host 0x0a000002 1000) (outside 53) 40) ∷ []) ≡ passed 1 1 ∷ passed 1 1 ∷ dropped reason.Key ∷ []
 unfolding computing
 translation = refl
 
@@ -165,7 +190,11 @@ translated = refl
 -- ---- a range of ports: the first free one is taken
 
 abbrev pooled : World
-pooled = new_world limits (rules (record pass_out { proto = Some Udp; nat = Some (record { addr = V4 0xc6336401; ports = record { first = 4000; last = 4001 } }) } ∷ [])) (rules [])
+pooled = new_world limits
+    (rules (record pass_out {
+      proto = Some Udp;
+      nat = Some (record { addr = V4 0xc6336401; ports = record { first = 4000; last = 4001 } });
+    } ∷ [])) (rules [])
 
 abbrev from_second : Event
 from_second = out A (plain Udp (host 0x0a000002 1000) (outside 53) 40)
@@ -173,7 +202,8 @@ from_second = out A (plain Udp (host 0x0a000002 1000) (outside 53) 40)
 abbrev from_third : ℕ → Event
 from_third to = out A (plain Udp (host 0x0a000003 1000) (host to 53) 40)
 
-pool_used_up : answers pooled (out A u1 ∷ from_second ∷ from_third 0xc0000209 ∷ from_third 0xc6336407 ∷ []) ≡ passed 1 1 ∷ passed 1 2 ∷ dropped reason.Key ∷ passed 1 3 ∷ []
+pool_used_up : answers pooled (out A u1 ∷ from_second ∷ from_third 0xc0000209 ∷ from_third 0xc6336407 ∷ []) ≡ passed 1 1 ∷ passed 1 2
+    ∷ dropped reason.Key ∷ passed 1 3 ∷ []
 unfolding computing
 pool_used_up = refl
 
@@ -182,14 +212,20 @@ ports_taken : map (λ t. t.wire.near.port) (states_at (final pooled (out A u1 �
 unfolding computing
 ports_taken = refl
 
-port_free_again : map (λ t. t.wire.near.port) (states_at (final pooled (out A u1 ∷ from_second ∷ kill A (name 1 1) ∷ from_third 0xc0000209 ∷ [])) A) ≡ 4001 ∷ 4000 ∷ []
+port_free_again : map (λ t. t.wire.near.port)
+    (states_at (final pooled (out A u1 ∷ from_second ∷ kill A (name 1 1) ∷ from_third 0xc0000209 ∷ [])) A) ≡ 4001 ∷ 4000 ∷ []
 unfolding computing
 port_free_again = refl
 
 -- ---- a redirection: of the way in, on the stack
 
 abbrev redirecting : World
-redirecting = new_world limits (rules (record pass_out { direction = In; proto = Some Udp; rdr = Some (record { addr = V4 0x0a000005; ports = record { first = 8080; last = 8080 } }) } ∷ [])) (rules [])
+redirecting = new_world limits
+    (rules (record pass_out {
+      direction = In;
+      proto = Some Udp;
+      rdr = Some (record { addr = V4 0x0a000005; ports = record { first = 8080; last = 8080 } });
+    } ∷ [])) (rules [])
 
 abbrev to_public : Event
 to_public = into A (plain Udp (outside 5555) (host 0xc6336409 80) 40)
@@ -206,7 +242,8 @@ redirected : map near_ends (states_at (final redirecting (to_public ∷ [])) A) 
 unfolding computing
 redirected = refl
 
-echo : answers (s) (out A (plain Icmp (inside 7) (outside 7) 64) ∷ into A (plain Icmp (outside 7) (inside 7) 64) ∷ tick A 10000 ∷ purge A ∷ []) ≡ passed 1 1 ∷ passed 1 1 ∷ clock 10000 ∷ did (given.Purged 1) ∷ []
+echo : answers (s) (out A (plain Icmp (inside 7) (outside 7) 64) ∷ into A (plain Icmp (outside 7) (inside 7) 64) ∷ tick A 10000 ∷ purge A
+    ∷ []) ≡ passed 1 1 ∷ passed 1 1 ∷ clock 10000 ∷ did (given.Purged 1) ∷ []
 unfolding computing
 echo = refl
 
@@ -214,7 +251,8 @@ echo_first : map seen (states_at (final (s) (out A (plain Icmp (inside 7) (outsi
 unfolding computing
 echo_first = refl
 
-echo_answered : map seen (states_at (final (s) (out A (plain Icmp (inside 7) (outside 7) 64) ∷ into A (plain Icmp (outside 7) (inside 7) 64) ∷ [])) A) ≡ (2, 1, IcmpError) ∷ []
+echo_answered : map seen (states_at
+    (final (s) (out A (plain Icmp (inside 7) (outside 7) 64) ∷ into A (plain Icmp (outside 7) (inside 7) 64) ∷ [])) A) ≡ (2, 1, IcmpError) ∷ []
 unfolding computing
 echo_answered = refl
 
@@ -246,6 +284,8 @@ unfolding computing
 reuse_of_told = refl
 
 -- the deletion stays where the packet is then dropped
-reuse_dropped : names_at (final (record (final (opening limits) connection) { a = record (final (opening limits) connection).a { rules = rules (any_block ∷ []) } }) (tcp_out 2 9000 0 1000 ∷ [])) A ≡ []
+reuse_dropped : names_at (final
+    (record (final (opening limits) connection) { a = record (final (opening limits) connection).a { rules = rules (any_block ∷ []) } })
+    (tcp_out 2 9000 0 1000 ∷ [])) A ≡ []
 unfolding computing
 reuse_dropped = refl

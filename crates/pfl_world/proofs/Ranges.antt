@@ -19,7 +19,8 @@ both false b e = (refl, e)
 not_below : (x y : ℕ) → nat_lt x y ≡ false → y ≤ x
 not_below x y e = grind (arith, nat_tests)
 
-all_within : (rs : List (ℕ × ℕ × ℕ)) → list_any (λ r. nat_lt r.0 r.1) rs ≡ false → list_any (λ r. nat_lt r.2 r.0) rs ≡ false → AllByRecursion (λ r. (r.1 ≤ r.0) × (r.0 ≤ r.2)) rs
+all_within : (rs : List (ℕ × ℕ × ℕ)) → list_any (λ r. nat_lt r.0 r.1) rs ≡ false → list_any (λ r. nat_lt r.2 r.0) rs ≡ false
+    → AllByRecursion (λ r. (r.1 ≤ r.0) × (r.0 ≤ r.2)) rs
 all_within [] low high = tt
 all_within (r ∷ rs) low high =
     let small = both (nat_lt r.0 r.1) (list_any (λ r. nat_lt r.0 r.1) rs) low in

@@ -22,7 +22,8 @@ same_kept k m e = cc
 
 -- The link of a world w, which is the old one, and what was kept of an edit of the link.
 module _ {M : Type 0} (w old : World) (view : w ≡ old) (k : LinkUndone) (was : WorldUndone M) (of_link : was ≡ kept.OfLink k) where
-  asked_of : (e : WorldEdit M) → undone e ≡ kept.OfLink k → FindsFormer e w → IsWorld (redone e w) → (l : LinkEdit) × (links_undone.undone l ≡ k) × links.FindsFormer l w.link × IsLink (links.redone l w.link)
+  asked_of : (e : WorldEdit M) → undone e ≡ kept.OfLink k → FindsFormer e w → IsWorld (redone e w)
+      → (l : LinkEdit) × (links_undone.undone l ≡ k) × links.FindsFormer l w.link × IsLink (links.redone l w.link)
   asked_of (OfNode id n) is found allowed = absurd cc
   asked_of (OfLink l) is found allowed = (l, same_kept {M = M} _ _ is, found, allowed.link)
   asked_of (OfRestart r) is found allowed = absurd cc
@@ -33,7 +34,8 @@ module _ {M : Type 0} (w old : World) (view : w ≡ old) (k : LinkUndone) (was :
       let here : IsAsked was w = subst (IsAsked was) (sym view) asked in
       asked_of here.0 (here.1 ∙ of_link) here.2 here.3
 
-  module _ (new : Link) (made : LinkEdit) (ensured : (l : LinkEdit) → links_undone.undone l ≡ k → links.FindsFormer l w.link → (new ≡ links.redone l w.link) × (made ≡ l)) where
+  module _ (new : Link) (made : LinkEdit) (ensured : (l : LinkEdit) → links_undone.undone l ≡ k → links.FindsFormer l w.link
+      → (new ≡ links.redone l w.link) × (made ≡ l)) where
     redone_of : (e : WorldEdit M) → undone e ≡ kept.OfLink k → FindsFormer e w → (with_link w new ≡ redone e w) × ◌≡◌ {A = WorldEdit M} (OfLink made) e
     redone_of (OfNode id n) is found = absurd cc
     redone_of (OfLink l) is found = let r = ensured l (same_kept {M = M} _ _ is) found in (ap (with_link w) r.0, ap OfLink r.1)

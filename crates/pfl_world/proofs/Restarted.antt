@@ -1,12 +1,11 @@
 -- A restart in words of what is put in place.
-use Rattle.std.specs.Prelude.{◌≡◌, ◌<◌, ◌+◌, ℕ, Bool, true, false, nat_le, [], ◌∷◌, ◌++◌, Result, Err, refl}
+use Rattle.std.specs.Prelude.{◌≡◌, ◌<◌, ◌+◌, ℕ, Bool, true, false, nat_le, List, [], ◌∷◌, ◌++◌, Result, Err, refl}
 use Rattle.std.proofs.Common.{ap, sym, subst, arith}
 use Rattle.std.proofs.lemmas.Bool.Decides.{nat_tests}
 use Rattle.pfl_base.specs.declared.node_id.NodeId.{NodeId}
 use Rattle.pfl_base.specs.declared.refusal.Refusal.{Refusal}
 use Rattle.pfl_base.specs.declared.refusal.Refusal.TheVariants.{CountFull}
 use Rattle.pfl_base.specs.Numbers.{greatest}
-use Rattle.pfl_edits.specs.Changes.{Edits}
 use Rattle.pfl_edits.proofs.ForCallers.{LeadsBack-one}
 use Rattle.pfl_language.specs.declared.event.Event.{Event}
 use Rattle.pfl_language.specs.declared.event.Event.TheVariants as event
@@ -61,13 +60,15 @@ pub begun-leads_back : {M : Type 0} (w : World) → IsWorld w → (id : NodeId) 
 begun-leads_back {M = M} w is id =
     let e : WorldEdit M = OfRestart (edit_of w id) in
     let both = edit-both_ways e in
-    LeadsBack-one Finds IsWorld put_back e w (begun w id) (both.redone_finds w (record { node = refl; next = refl })) is (both.put_back_redone w (record { node = refl; next = refl }))
+    LeadsBack-one Finds IsWorld put_back e w (begun w id) (both.redone_finds w (record { node = refl; next = refl })) is
+    (both.put_back_redone w (record { node = refl; next = refl }))
 
 pub whole : {M : Type 0} (e : RestartEdit) → HoldsNode {M = M} (OfRestart e)
 whole e = record { former = refl; present = refl }
 
 -- what a restart recorded
-pub recorded_restart : {M : Type 0} (before after : Edits (WorldEdit M)) (w : World) → IsWorld w → (id : NodeId) (e : RestartEdit) → e ≡ edit_of w id → after.list ≡ before.list ++ OfRestart e ∷ []
+pub recorded_restart : {M : Type 0} (before after : List (WorldEdit M)) (w : World) → IsWorld w → (id : NodeId) (e : RestartEdit)
+    → e ≡ edit_of w id → after ≡ before ++ OfRestart e ∷ []
     → Recorded HoldsNode w (begun w id) before after
 recorded_restart {M = M} before after w is id e same list = record {
   edits = OfRestart e ∷ [];

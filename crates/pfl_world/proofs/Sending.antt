@@ -1,5 +1,6 @@
 -- A flush in words of what the node and the link answer.
-use Rattle.std.specs.Prelude.{◌≡◌, ◌≤◌, ◌+◌, ◌*◌, length, ℕ, Bool, true, false, List, [], ◌∷◌, Option, Some, None, Result, Ok, Err, IfOk, IfErr, OnOk, refl, cond, if◌then◌else◌}
+use Rattle.std.specs.Prelude.{◌≡◌, ◌≤◌, ◌+◌, ◌*◌, length, ℕ, Bool, true, false, List, [], ◌∷◌, Option, Some, None, Result, Ok, Err, IfOk, IfErr, OnOk}
+use Rattle.std.specs.Prelude.{refl, cond, if◌then◌else◌}
 use Rattle.std.proofs.Common.{◌∙◌, ap, sym, subst, arith}
 use Rattle.pfl_base.specs.declared.refusal.Refusal.{Refusal}
 use Rattle.pfl_base.specs.declared.refusal.Refusal.TheVariants as refusal
@@ -42,7 +43,8 @@ node_first true full counted r is = is
 node_first false full counted r is = absurd (cc)
 
 -- or else the link takes no frame
-pub link_next : (none full counted : Bool) (fault : LinkFault) → None ≡ nothing none → Some fault ≡ no_room full counted → Some (links.refusal_of fault) ≡ none_goes_out none full counted
+pub link_next : (none full counted : Bool) (fault : LinkFault) → None ≡ nothing none → Some fault ≡ no_room full counted
+    → Some (links.refusal_of fault) ≡ none_goes_out none full counted
 link_next true full counted fault first is = absurd (cc)
 link_next false true counted fault first is = let same : fault ≡ LinkFull = cc in ap (λ (f : LinkFault). Some (links.refusal_of f)) same
 link_next false false true fault first is = let same : fault ≡ CountFull = cc in ap (λ (f : LinkFault). Some (links.refusal_of f)) same
@@ -78,7 +80,8 @@ step_flush : (w : World) (e : Event) (id : NodeId) → e ≡ event.Flush id → 
 unfolding step flush_step
 step_flush w e id is = ap (step w) is
 
-pub flush_refused : {X : Type 0} (w : World) (e : Event) (id : NodeId) → e ≡ event.Flush id → (result : Result X Refusal) → IfErr result (IsRefusal (flush_refusal w id)) → IfErr result (IsRefusalOf (step w e))
+pub flush_refused : {X : Type 0} (w : World) (e : Event) (id : NodeId) → e ≡ event.Flush id → (result : Result X Refusal)
+    → IfErr result (IsRefusal (flush_refusal w id)) → IfErr result (IsRefusalOf (step w e))
 flush_refused w e id is result r = refused_as (flush_refusal w id) (flushed_to w id) (step w e) (step_flush w e id is) result r
 
 pub flush_accepted : (old new : World) (e : Event) (id : NodeId) → e ≡ event.Flush id → (result : Result Outcome Refusal)
@@ -94,7 +97,8 @@ flush_accepted old new e id at (Ok r) none made is =
     ∙ ap (λ (a : Outcome). accepted new a) (sym is)
 
 -- two edits for each entry at most, one of the push and one of the link
-pub flush_weight : {T : Type 0} (w : World) (e : Event) (id : NodeId) (before after : ℕ) → e ≡ event.Flush id → (result : Result T Refusal) → OnOk result (after ≤ before + (2 + 2 * flush_work w id)) → OnOk result (after ≤ before + weight w e)
+pub flush_weight : {T : Type 0} (w : World) (e : Event) (id : NodeId) (before after : ℕ) → e ≡ event.Flush id → (result : Result T Refusal)
+    → OnOk result (after ≤ before + (2 + 2 * flush_work w id)) → OnOk result (after ≤ before + weight w e)
 flush_weight w e id before after is (Err r) few = tt
 flush_weight w e id before after is (Ok x) few =
     let most : after ≤ before + weight w (event.Flush id) = omega (arith, few) in
@@ -113,7 +117,8 @@ node_mtu w is A = sym is.mtu
 node_mtu w is B = ap (λ (l : Limits). l.mtu) is.nodes ∙ sym is.mtu
 
 -- the node was lent, and its frame fits the link beside the node after it
-pub sent_short : (w mid : World) → PartsAgree w → (id : NodeId) (was n : Node) (bytes : List ℕ) → was ≡ node_at w id → mid ≡ with_node w id n → length bytes ≤ was.limits.mtu → length bytes ≤ mid.link.mtu
+pub sent_short : (w mid : World) → PartsAgree w → (id : NodeId) (was n : Node) (bytes : List ℕ) → was ≡ node_at w id
+    → mid ≡ with_node w id n → length bytes ≤ was.limits.mtu → length bytes ≤ mid.link.mtu
 sent_short w mid is id was n bytes at made short =
     let node : was.limits.mtu ≡ w.link.mtu = ap (λ (m : Node). m.limits.mtu) at ∙ node_mtu w is id in
     let link : mid.link.mtu ≡ w.link.mtu = ap (λ (v : World). v.link.mtu) made ∙ ap (λ (l : Link). l.mtu) (link_kept w id n) in
@@ -121,14 +126,16 @@ sent_short w mid is id was n bytes at made short =
 
 -- the frame on its way is the node's, to the other node
 pub sent_is : (old mid new : World) (id : NodeId) (n : Node) (bytes : List ℕ) → mid ≡ with_node old id n → bytes ≡ spelling (frame_of (node_at old id))
-    → new ≡ with_link mid (sent mid.link (record { to = other_node id; bytes = bytes })) → new ≡ with_link (with_node old id n) (sent old.link (sent_frame old id))
+    → new ≡ with_link mid (sent mid.link (record { to = other_node id; bytes = bytes }))
+    → new ≡ with_link (with_node old id n) (sent old.link (sent_frame old id))
 sent_is old mid new id n bytes made spelt is =
     is
     ∙ ap (λ (w : World). with_link w (sent w.link (record { to = other_node id; bytes = bytes }))) made
     ∙ ap (λ (l : Link). with_link (with_node old id n) (sent l (record { to = other_node id; bytes = bytes }))) (link_kept old id n)
     ∙ ap (λ (bs : List ℕ). with_link (with_node old id n) (sent old.link (record { to = other_node id; bytes = bs }))) spelt
 
-pub outcome_is : (old mid : World) (id : NodeId) (n : Node) (bytes : List ℕ) (out : Outcome) → mid ≡ with_node old id n → bytes ≡ spelling (frame_of (node_at old id))
+pub outcome_is : (old mid : World) (id : NodeId) (n : Node) (bytes : List ℕ) (out : Outcome) → mid ≡ with_node old id n
+    → bytes ≡ spelling (frame_of (node_at old id))
     → out ≡ outcome.Sent mid.link.next (length bytes) → out ≡ outcome.Sent old.link.next (length (spelling (frame_of (node_at old id))))
 outcome_is old mid id n bytes out made spelt is =
     is

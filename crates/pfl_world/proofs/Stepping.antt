@@ -1,6 +1,6 @@
 -- The steps of the pair, and why they are refused.
 use Rattle.std.specs.Prelude.{◌≡◌, ℕ, Option, Some, None, Result, Ok, Err, IfErr, refl}
-use Rattle.std.proofs.Common.{◌∙◌, ap, sym, subst}
+use Rattle.std.proofs.Common.{ap, sym, subst}
 use Rattle.pfl_base.specs.declared.refusal.Refusal.{Refusal}
 use Rattle.pfl_base.specs.declared.refusal.Refusal.TheVariants.{NoMemory}
 use Rattle.pfl_base.specs.declared.node_id.NodeId.{NodeId}
@@ -9,13 +9,12 @@ use Rattle.pfl_language.specs.declared.event.Event.{Event}
 use Rattle.pfl_language.specs.declared.event.Event.TheVariants as event
 use Rattle.pfl_language.specs.declared.event.FrameEvent.{FrameEvent}
 use Rattle.pfl_language.specs.declared.outcome.Outcome.{Outcome}
-use Rattle.pfl_language.specs.declared.outcome.Outcome.TheVariants as outcome
 use Rattle.pfl_node.specs.desk.Nodes.{Node, IsRefusal, unless_refused}
-use Rattle.pfl_node.specs.Stepping.{NodeStepped, node_refusal, node_after, node_step}
+use Rattle.pfl_node.specs.Stepping.{NodeStepped, node_refusal, node_after}
 use Rattle.pfl_world.specs.Events.{step, IsRefusalOf, IsEventRefusal, frame_event}
 use Rattle.pfl_world.specs.Meanings.{Stepped}
 use Rattle.pfl_world.specs.AtNodes.{from_node, node_event}
-use Rattle.pfl_world.specs.Worlds.{World, node_at, with_node}
+use Rattle.pfl_world.specs.Worlds.{World, node_at}
 
 -- what is accepted
 abbrev pub accepted : World → Outcome → Result Stepped Refusal
@@ -26,7 +25,8 @@ pub refusal_of : (o : Option Refusal) (s : Stepped) (r : Refusal) → IsRefusal 
 refusal_of (Some first) s r is = is
 refusal_of None s r is = is
 
-pub refused_as : {X : Type 0} (o : Option Refusal) (s : Stepped) (at : Result Stepped Refusal) → at ≡ unless_refused o s → (result : Result X Refusal) → IfErr result (IsRefusal o) → IfErr result (IsRefusalOf at)
+pub refused_as : {X : Type 0} (o : Option Refusal) (s : Stepped) (at : Result Stepped Refusal) → at ≡ unless_refused o s
+    → (result : Result X Refusal) → IfErr result (IsRefusal o) → IfErr result (IsRefusalOf at)
 refused_as o s at is (Ok x) r = tt
 refused_as o s at is (Err given) r = subst (λ (v : Result Stepped Refusal). IsRefusalOf v given) (sym is) (refusal_of o s given r)
 
@@ -34,27 +34,19 @@ refused_as o s at is (Err given) r = subst (λ (v : Result Stepped Refusal). IsR
 pub event_wants : (w : World) (e : Event) (s : Stepped) → step w e ≡ Ok s → IsEventRefusal w e NoMemory
 event_wants w e s is = subst (λ (v : Result Stepped Refusal). IsRefusalOf v NoMemory) (sym is) refl
 
--- ---- what a node returns, at the pair
+-- ---- what a node refuses, at the pair
 
-pub refused_at : (w : World) (id : NodeId) (o : Option Refusal) (s : NodeStepped) (r : Refusal) → IsRefusal o r → IsRefusalOf (from_node w id (unless_refused o s)) r
+refused_at : (w : World) (id : NodeId) (o : Option Refusal) (s : NodeStepped) (r : Refusal) → IsRefusal o r
+    → IsRefusalOf (from_node w id (unless_refused o s)) r
 refused_at w id (Some first) s r is = is
 refused_at w id None s r is = is
 
 -- the node was lent, and its refusal is that of the pair
-pub refused_from : {X : Type 0} (w old : World) (id : NodeId) (e : NodeEvent) (was : Node) (result : Result X Refusal)
-    → was ≡ node_at w id → w ≡ old → IfErr result (IsRefusal (node_refusal was e)) → IfErr result (IsRefusalOf (node_event old id e))
-refused_from w old id e was (Ok x) at view is = tt
-refused_from w old id e was (Err r) at view is =
+pub refused_from : (w old : World) (id : NodeId) (e : NodeEvent) (was : Node) (r : Refusal) → was ≡ node_at w id → w ≡ old
+    → IsRefusal (node_refusal was e) r → IsRefusalOf (node_event old id e) r
+refused_from w old id e was r at view is =
     subst (λ (v : World). IsRefusalOf (node_event v id e) r) view
     (refused_at w id (node_refusal (node_at w id) e) (node_after (node_at w id) e) r (subst (λ (n : Node). IsRefusal (node_refusal n e) r) at is))
-
--- the node was lent, and what the event made of it stands in its place
-pub stepped_from : (w old new : World) (id : NodeId) (e : NodeEvent) (was : Node) (t : NodeStepped)
-    → was ≡ node_at w id → w ≡ old → new ≡ with_node w id t.node → node_step was e ≡ Ok t → node_event old id e ≡ accepted new (outcome.At t.outcome)
-stepped_from w old new id e was t at view made is =
-    subst (λ (v : World). node_event v id e ≡ accepted new (outcome.At t.outcome)) view
-    (ap (from_node w id) (subst (λ (n : Node). node_step n e ≡ Ok t) at is)
-    ∙ rw made refl)
 
 -- ---- by the parts of the event
 

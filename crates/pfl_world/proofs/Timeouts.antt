@@ -8,7 +8,8 @@ use Rattle.pfl_language.specs.declared.event.Event.{Event}
 use Rattle.pfl_language.specs.declared.node_event.NodeOutcome.TheVariants as given
 use Rattle.pfl_rules.specs.Rules.{timed}
 use Rattle.pfl_world.specs.Worlds.{World, new_world}
-use Rattle.pfl_world.proofs.Lab.{Answer, limits, opening, pass_out, rules, inside, outside, plain, u1, u2, u3, out, name, answers, final, computing, queue_at, queued, states_at, times, flush, deliver, tick, purge, passed, sent, taken, clock, did}
+use Rattle.pfl_world.proofs.Lab.{Answer, limits, opening, pass_out, rules, inside, outside, plain, u1, u2, u3, out, name, answers, final, computing}
+use Rattle.pfl_world.proofs.Lab.{queue_at, queued, states_at, times, flush, deliver, tick, purge, passed, sent, taken, clock, did}
 
 -- a pair with these limits, whose timeouts shrink between these numbers of states
 abbrev between : ℕ → ℕ → World
@@ -36,7 +37,8 @@ unfolding computing purged
 set_timeout = refl
 
 -- of three between two and four, half of the timeout is left
-half_is_left : answers (between 2 4) (three ++ tick A 29999 ∷ purge A ∷ tick A 1 ∷ purge A ∷ []) ≡ three_passed ++ clock 29999 ∷ purged 0 ∷ clock 30000 ∷ purged 3 ∷ []
+half_is_left : answers (between 2 4) (three ++ tick A 29999 ∷ purge A ∷ tick A 1 ∷ purge A ∷ []) ≡ three_passed ++ clock 29999 ∷ purged 0
+    ∷ clock 30000 ∷ purged 3 ∷ []
 unfolding computing purged
 half_is_left = refl
 
@@ -46,21 +48,25 @@ unfolding computing purged u4
 nothing_is_left = refl
 
 -- at the start all of it is
-all_is_left : answers (between 3 4) (three ++ tick A 59999 ∷ purge A ∷ tick A 1 ∷ purge A ∷ []) ≡ three_passed ++ clock 59999 ∷ purged 0 ∷ clock 60000 ∷ purged 3 ∷ []
+all_is_left : answers (between 3 4) (three ++ tick A 59999 ∷ purge A ∷ tick A 1 ∷ purge A ∷ []) ≡ three_passed ++ clock 59999 ∷ purged 0
+    ∷ clock 60000 ∷ purged 3 ∷ []
 unfolding computing purged
 all_is_left = refl
 
 -- 60 * 4 / 7 seconds, truncated
-truncated : answers (between 0 7) (three ++ tick A 33999 ∷ purge A ∷ tick A 1 ∷ purge A ∷ []) ≡ three_passed ++ clock 33999 ∷ purged 0 ∷ clock 34000 ∷ purged 3 ∷ []
+truncated : answers (between 0 7) (three ++ tick A 33999 ∷ purge A ∷ tick A 1 ∷ purge A ∷ []) ≡ three_passed ++ clock 33999 ∷ purged 0
+    ∷ clock 34000 ∷ purged 3 ∷ []
 unfolding computing purged
 truncated = refl
 
-turned_off : answers (between 0 0) (three ++ tick A 59999 ∷ purge A ∷ tick A 1 ∷ purge A ∷ []) ≡ three_passed ++ clock 59999 ∷ purged 0 ∷ clock 60000 ∷ purged 3 ∷ []
+turned_off : answers (between 0 0) (three ++ tick A 59999 ∷ purge A ∷ tick A 1 ∷ purge A ∷ []) ≡ three_passed ++ clock 59999 ∷ purged 0
+    ∷ clock 60000 ∷ purged 3 ∷ []
 unfolding computing purged
 turned_off = refl
 
 -- where six states are the limit, timeouts shrink from three on up to seven: 60 * 3 / 4 seconds
-by_the_limit : answers (opening (record limits { states = 6 })) (three ++ out A u4 ∷ tick A 44999 ∷ purge A ∷ tick A 1 ∷ purge A ∷ []) ≡ three_passed ++ passed 1 4 ∷ clock 44999 ∷ purged 0 ∷ clock 45000 ∷ purged 4 ∷ []
+by_the_limit : answers (opening (record limits { states = 6 })) (three ++ out A u4 ∷ tick A 44999 ∷ purge A ∷ tick A 1 ∷ purge A ∷ [])
+    ≡ three_passed ++ passed 1 4 ∷ clock 44999 ∷ purged 0 ∷ clock 45000 ∷ purged 4 ∷ []
 unfolding computing purged u4
 by_the_limit = refl
 
@@ -81,6 +87,7 @@ purged_at_b : answers (between 2 4) (told ++ purge B ∷ []) ≡ three_passed ++
 unfolding computing purged
 purged_at_b = refl
 
-deleted_at_b : queue_at (final (between 2 4) (told ++ purge B ∷ [])) B ≡ queued Delete 1 (name 1 1) ∷ queued Delete 2 (name 1 2) ∷ queued Delete 3 (name 1 3) ∷ []
+deleted_at_b : queue_at (final (between 2 4) (told ++ purge B ∷ [])) B ≡ queued Delete 1 (name 1 1) ∷ queued Delete 2 (name 1 2)
+    ∷ queued Delete 3 (name 1 3) ∷ []
 unfolding computing
 deleted_at_b = refl

@@ -10,4 +10,5 @@ abbrev pub coded_nodes : Coded Nodes
 coded_nodes = code_by (Node × Node) (coded× coded_node coded_node) (λ ns. (ns.a, ns.b)) (λ p. record { a = p.0; b = p.1 }) (λ _. refl)
 
 abbrev pub coded_world : Coded World
-coded_world = code_by (Node × (Node × (Link × ℕ))) (coded× coded_node (coded× coded_node (coded× coded_link coded_ℕ))) (λ w. (w.a, (w.b, (w.link, w.next_boot)))) (λ p. record { a = p.0; b = p.1.0; link = p.1.1.0; next_boot = p.1.1.1 }) (λ _. refl)
+coded_world = code_by (Node × (Node × (Link × ℕ))) (coded× coded_node (coded× coded_node (coded× coded_link coded_ℕ)))
+    (λ w. (w.a, (w.b, (w.link, w.next_boot)))) (λ p. record { a = p.0; b = p.1.0; link = p.1.1.0; next_boot = p.1.1.1 }) (λ _. refl)

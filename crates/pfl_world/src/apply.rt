@@ -7,14 +7,13 @@ ghost use Rattle.pfl_world.specs.Events.{step, IsEventRefusal, IsRefusalOf, fram
 ghost use Rattle.pfl_world.specs.Values.{HoldsLittle, MayHold};
 ghost use Rattle.pfl_world.specs.Weights.{weight};
 ghost use Rattle.pfl_world.specs.WorldEdits.{Finds, put_back};
-ghost use Rattle.pfl_world.specs.inner.Recording.{Recorded, count, room};
+ghost use Rattle.pfl_world.specs.inner.Recording.{Recorded};
 ghost use Rattle.pfl_world.specs.Worlds.{IsWorld};
 
 use crate::edit::{WorldChange, WorldEdit};
-use crate::recorder::Recorder;
 use crate::world::World;
 use pfl_base::Refusal;
-use pfl_edits::Change;
+use pfl_edits::{Change, Recorder};
 use pfl_language::{Event, FrameEvent, Outcome};
 use std::alloc::Allocator;
 
@@ -42,11 +41,11 @@ impl<A: Allocator + Copy> World<A> {
     ) -> Result<Outcome, Refusal>
         ensures refused { IfErr result (IsEventRefusal self.old event.now) }
         ensures unchanged { OnErr result (self.new ≡ self.old) }
-        ensures unrecorded { OnErr result ((R.edits to.new).list ≡ (R.edits to.old).list) }
+        ensures unrecorded { OnErr result (R.list to.new ≡ R.list to.old) }
         ensures step { IfOk result (λ outcome. step self.old event.now ≡ Ok (record { world = self.new; outcome = outcome })) }
-        ensures recorded { OnOk result (Recorded (MayHold event.now) self.old self.new (R.edits to.old) (R.edits to.new)) }
-        ensures few { OnOk result (count (R.edits to.new) ≤ count (R.edits to.old) + weight self.old event.now) }
-        ensures room { room (R.edits to.old) ≤ room (R.edits to.new) }
+        ensures recorded { OnOk result (Recorded (MayHold event.now) self.old self.new (R.list to.old) (R.list to.new)) }
+        ensures few { OnOk result (length (R.list to.new) ≤ length (R.list to.old) + weight self.old event.now) }
+        ensures room { R.spare to.old + length (R.list to.old) ≤ R.spare to.new + length (R.list to.new) }
     {
         match event {
             Event::At { node, event } => self.at_node(*node, event, to),
@@ -65,11 +64,11 @@ impl<A: Allocator + Copy> World<A> {
     ) -> Result<Outcome, Refusal>
         ensures refused { IfErr result (IsRefusalOf (frame_event self.old ticket event.now)) }
         ensures unchanged { OnErr result (self.new ≡ self.old) }
-        ensures unrecorded { OnErr result ((R.edits to.new).list ≡ (R.edits to.old).list) }
+        ensures unrecorded { OnErr result (R.list to.new ≡ R.list to.old) }
         ensures step { IfOk result (λ outcome. frame_event self.old ticket event.now ≡ Ok (record { world = self.new; outcome = outcome })) }
-        ensures recorded { OnOk result (Recorded HoldsLittle self.old self.new (R.edits to.old) (R.edits to.new)) }
-        ensures few { OnOk result (count (R.edits to.new) ≤ count (R.edits to.old) + weight self.old (Event.Of ticket event.now)) }
-        ensures room { room (R.edits to.old) ≤ room (R.edits to.new) }
+        ensures recorded { OnOk result (Recorded HoldsLittle self.old self.new (R.list to.old) (R.list to.new)) }
+        ensures few { OnOk result (length (R.list to.new) ≤ length (R.list to.old) + weight self.old (Event.Of ticket event.now)) }
+        ensures room { R.spare to.old + length (R.list to.old) ≤ R.spare to.new + length (R.list to.new) }
     {
         match event {
             FrameEvent::Deliver => self.deliver(ticket, to),

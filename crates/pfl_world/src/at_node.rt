@@ -1,17 +1,17 @@
 //! What happens at one node by itself.
 
-ghost use Rattle.std.specs.Prelude.{◌≡◌, ◌≤◌, ◌+◌, Ok, IfOk, IfErr, OnOk, OnErr};
+ghost use Rattle.std.specs.Prelude.{◌≡◌, ◌≤◌, ◌+◌, Ok, IfOk, IfErr, OnOk, OnErr, length};
 ghost use Rattle.pfl_node.specs.Stepping.{node_weight};
 ghost use Rattle.pfl_world.specs.Events.{IsRefusalOf};
 ghost use Rattle.pfl_world.specs.AtNodes.{node_event};
 ghost use Rattle.pfl_world.specs.Values.{HoldsLittle};
-ghost use Rattle.pfl_world.specs.inner.Recording.{Recorded, count, room};
+ghost use Rattle.pfl_world.specs.inner.Recording.{Recorded};
 ghost use Rattle.pfl_world.specs.Worlds.{node_at};
 
 use crate::edit::WorldEdit;
-use crate::recorder::Recorder;
 use crate::world::World;
 use pfl_base::{NodeId, Refusal};
+use pfl_edits::Recorder;
 use pfl_language::{NodeEvent, Outcome};
 use std::alloc::Allocator;
 
@@ -25,14 +25,14 @@ impl<A: Allocator + Copy> World<A> {
     ) -> Result<Outcome, Refusal>
         ensures refused { IfErr result (IsRefusalOf (node_event self.old node event.now)) }
         ensures unchanged { OnErr result (self.new ≡ self.old) }
-        ensures unrecorded { OnErr result ((R.edits to.new).list ≡ (R.edits to.old).list) }
+        ensures unrecorded { OnErr result (R.list to.new ≡ R.list to.old) }
         ensures step { IfOk result (λ outcome. node_event self.old node event.now ≡ Ok (record { world = self.new; outcome = outcome })) }
-        ensures recorded { OnOk result (Recorded HoldsLittle self.old self.new (R.edits to.old) (R.edits to.new)) }
-        ensures few { OnOk result (count (R.edits to.new) ≤ count (R.edits to.old) + node_weight (node_at self.old node) event.now) }
-        ensures room { room (R.edits to.old) ≤ room (R.edits to.new) }
+        ensures recorded { OnOk result (Recorded HoldsLittle self.old self.new (R.list to.old) (R.list to.new)) }
+        ensures few { OnOk result (length (R.list to.new) ≤ length (R.list to.old) + node_weight (node_at self.old node) event.now) }
+        ensures room { R.spare to.old + length (R.list to.old) ≤ R.spare to.new + length (R.list to.new) }
     {
-        let (outcome, change) = self.nodes.at_mut(node).step(event)?;
-        self.lift(node, change, to)?;
+        self.known();
+        let outcome = self.nodes.at_mut(node).step_on(event, node, to)?;
         Ok(Outcome::At(outcome))
     }
 }

@@ -1,25 +1,24 @@
 //! A frame comes to its receiver, which takes its records one after another (if_pfsync.c).
 
-ghost use Rattle.std.specs.Prelude.{◌≡◌, ◌<◌, ◌≤◌, ◌+◌, ◌*◌, IsTrue, None, Ok, IfOk, IfErr, OnOk, OnErr, length, is_some};
+ghost use Rattle.std.specs.Prelude.{◌≡◌, ◌<◌, ◌≤◌, ◌+◌, IsTrue, None, Ok, IfOk, IfErr, OnOk, OnErr, length, is_some};
 ghost use Rattle.pfl_edits.specs.Maps as maps;
 ghost use Rattle.pfl_wire.specs.Reading.{reading};
-ghost use Rattle.pfl_node.specs.desk.Edits.{NodeLeadsBack};
+ghost use Rattle.pfl_node.specs.desk.Edits.{NodeRecorded};
 ghost use Rattle.pfl_node.specs.desk.Nodes.{IsRefusal, points_refusal};
 ghost use Rattle.pfl_node.specs.Weights.{edits_for};
 ghost use Rattle.pfl_world.specs.inner.Delivering as delivering;
-ghost use Rattle.pfl_world.specs.inner.Recording.{Recorded, count, room};
+ghost use Rattle.pfl_world.specs.inner.Recording.{Recorded};
 ghost use Rattle.pfl_world.specs.Events.{IsRefusalOf};
-ghost use Rattle.pfl_world.specs.Delivering.{deliver_step, deliver_work, frame_points, read_work};
+ghost use Rattle.pfl_world.specs.Delivering.{deliver_step, deliver_work, frame_points};
 ghost use Rattle.pfl_world.specs.Tickets.{without_ticket};
 ghost use Rattle.pfl_world.specs.Values.{HoldsLittle};
 
 use crate::edit::WorldEdit;
-use crate::recorder::Recorder;
 use crate::world::World;
-use pfl_base::Refusal;
-use pfl_edits::Change;
+use pfl_base::{NodeId, Refusal};
+use pfl_edits::Recorder;
 use pfl_language::Outcome;
-use pfl_node::{Node, NodeEdit};
+use pfl_node::Node;
 use pfl_wire::FrameBytes;
 use std::alloc::Allocator;
 
@@ -32,11 +31,11 @@ impl<A: Allocator + Copy> World<A> {
     ) -> Result<Outcome, Refusal>
         ensures refused { IfErr result (IsRefusalOf (deliver_step self.old ticket)) }
         ensures unchanged { OnErr result (self.new ≡ self.old) }
-        ensures unrecorded { OnErr result ((R.edits to.new).list ≡ (R.edits to.old).list) }
+        ensures unrecorded { OnErr result (R.list to.new ≡ R.list to.old) }
         ensures step { IfOk result (λ outcome. deliver_step self.old ticket ≡ Ok (record { world = self.new; outcome = outcome })) }
-        ensures recorded { OnOk result (Recorded HoldsLittle self.old self.new (R.edits to.old) (R.edits to.new)) }
-        ensures few { OnOk result (count (R.edits to.new) ≤ count (R.edits to.old) + edits_for (deliver_work self.old ticket)) }
-        ensures room { room (R.edits to.old) ≤ room (R.edits to.new) }
+        ensures recorded { OnOk result (Recorded HoldsLittle self.old self.new (R.list to.old) (R.list to.new)) }
+        ensures few { OnOk result (length (R.list to.new) ≤ length (R.list to.old) + edits_for (deliver_work self.old ticket)) }
+        ensures room { R.spare to.old + length (R.list to.old) ≤ R.spare to.new + length (R.list to.new) }
     {
         self.known();
         let Some(frame) = self.link.get(ticket) else {
@@ -44,8 +43,7 @@ impl<A: Allocator + Copy> World<A> {
         };
         let (receiver, bytes) = (frame.to(), frame.bytes().as_slice());
         // The receiver reads the frame where it lies: it stays on the link until its records are taken.
-        let (outcome, change) = arrive(self.nodes.at_mut(receiver), bytes)?;
-        self.lift(receiver, change, to)?;
+        let outcome = arrive(self.nodes.at_mut(receiver), bytes, receiver, to)?;
         self.take_off(ticket, to);
         Ok(outcome)
     }
@@ -53,11 +51,11 @@ impl<A: Allocator + Copy> World<A> {
     /// A frame leaves the link, and its edit is recorded, in room that was made.
     fn take_off<R: Recorder<WorldEdit<A>>>(&mut self, ticket: u32, to: &mut R)
         requires there { IsTrue (is_some (maps.get self.old.link.frames ticket)) }
-        requires spare { 0 < (R.edits to.old).spare }
+        requires spare { 0 < R.spare to.old }
         ensures world { self.new ≡ without_ticket self.old ticket }
-        ensures recorded { Recorded HoldsLittle self.old self.new (R.edits to.old) (R.edits to.new) }
-        ensures one { count (R.edits to.new) ≡ count (R.edits to.old) + 1 }
-        ensures room { room (R.edits to.new) ≡ room (R.edits to.old) }
+        ensures recorded { Recorded HoldsLittle self.old self.new (R.list to.old) (R.list to.new) }
+        ensures one { length (R.list to.new) ≡ length (R.list to.old) + 1 }
+        ensures room { R.spare to.new + length (R.list to.new) ≡ R.spare to.old + length (R.list to.old) }
     {
         self.known();
         let Ok(edit) = self.link.take(ticket) else {
@@ -67,28 +65,31 @@ impl<A: Allocator + Copy> World<A> {
     }
 }
 
-/// A frame comes to a node, which takes its records, or counts it where it cannot be read.
-fn arrive<A: Allocator + Copy>(
+/// A frame comes to a node, which takes its records, or counts it where it cannot be read. What it changed is recorded as edits of the
+/// node of the name, and there is room for one edit more.
+fn arrive<A: Allocator + Copy, R: Recorder<WorldEdit<A>>>(
     node: &mut Node<A>,
     bytes: &[u8],
-) -> Result<(Outcome, Change<NodeEdit, A>), Refusal>
+    part: NodeId,
+    to: &mut R,
+) -> Result<Outcome, Refusal>
     requires short { length bytes.now ≤ node.old.limits.mtu }
     ensures refused { IfErr result (IsRefusal (points_refusal (frame_points node.old (reading bytes.now)))) }
     ensures unchanged { OnErr result (node.new ≡ node.old) }
+    ensures unrecorded { OnErr result (R.list to.new ≡ R.list to.old) }
     ensures not_refused { OnOk result (points_refusal (frame_points node.old (reading bytes.now)) ≡ None) }
     ensures node { OnOk result (node.new ≡ delivering.arrived node.old (reading bytes.now)) }
-    ensures outcome { IfOk result (λ r. r.0 ≡ delivering.arrival (reading bytes.now)) }
-    ensures leads_back { IfOk result (λ r. NodeLeadsBack r.1.list node.old node.new) }
-    ensures weight { IfOk result (λ r. length r.1.list ≤ 11 + 12 * read_work node.old (reading bytes.now)) }
+    ensures outcome { IfOk result (λ outcome. outcome ≡ delivering.arrival (reading bytes.now)) }
+    ensures recorded { OnOk result (NodeRecorded (WorldEdit.OfNode part)
+        (delivering.arrival_edits node.old (reading bytes.now)) node.old node.new (R.list to.old) (R.list to.new)) }
+    ensures one_more { OnOk result (0 < R.spare to.new) }
+    ensures room { R.spare to.old + length (R.list to.old) ≤ R.spare to.new + length (R.list to.new) }
 {
     match FrameBytes::read(bytes) {
-        Ok(frame) => {
-            let (count, change) = node.receive(&frame)?;
-            Ok((Outcome::Taken(count), change))
-        }
+        Ok(frame) => Ok(Outcome::Taken(node.receive_on(&frame, part, to)?)),
         Err(why) => {
-            let (_, change) = node.count_broken()?;
-            Ok((Outcome::Broken(why), change))
+            node.count_broken_on(part, to)?;
+            Ok(Outcome::Broken(why))
         }
     }
 }

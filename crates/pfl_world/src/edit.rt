@@ -4,7 +4,7 @@ ghost use Rattle.std.specs.Prelude.{◌≡◌, IfOk};
 
 use crate::restart_edit::RestartEdit;
 use pfl_base::NodeId;
-use pfl_edits::{Change, Copied, NoMemory, Tape};
+use pfl_edits::{Change, Copied, NoMemory, OfPart, Tape};
 use pfl_link::LinkEdit;
 use pfl_node::NodeEdit;
 use std::alloc::Allocator;
@@ -28,6 +28,19 @@ impl<A: Allocator + Copy> Copied for WorldEdit<A> {
             WorldEdit::OfLink(edit) => Ok(WorldEdit::OfLink(edit.copy()?)),
             WorldEdit::OfRestart(edit) => Ok(WorldEdit::OfRestart(edit.copy()?)),
         }
+    }
+}
+
+/// An edit of a node is recorded with the node's name.
+impl<A: Allocator> OfPart<NodeEdit> for WorldEdit<A> {
+    ghost use Rattle.pfl_world.specs.declared.edit.WorldEdit.TheVariants.{OfNode};
+
+    type Part = NodeId;
+
+    ghost of = { λ id edit. OfNode id edit };
+
+    fn of_part(node: NodeId, edit: NodeEdit) -> WorldEdit<A> {
+        WorldEdit::OfNode(node, edit)
     }
 }
 

@@ -1,6 +1,6 @@
 //! A node's frame goes out to the other node (if_pfsync.c).
 
-ghost use Rattle.std.specs.Prelude.{◌≡◌, ◌≤◌, ◌+◌, ◌*◌, None, IfOk, IfErr, OnOk, OnErr, length};
+ghost use Rattle.std.specs.Prelude.{◌≡◌, ◌<◌, ◌≤◌, ◌+◌, ◌*◌, None, IfOk, IfErr, OnOk, OnErr, length};
 ghost use Rattle.pfl_base.specs.Nodes.{other_node};
 ghost use Rattle.pfl_edits.specs.Changes.{Fits};
 ghost use Rattle.pfl_node.specs.Flushing as flushing;
@@ -10,16 +10,14 @@ ghost use Rattle.pfl_link.specs.Faults.{room_fault};
 ghost use Rattle.pfl_link.specs.Links.{sent};
 ghost use Rattle.pfl_world.specs.Flushing.{flush_refusal, sent_frame, flush_work};
 ghost use Rattle.pfl_world.specs.Values.{HoldsLittle};
-ghost use Rattle.pfl_world.specs.inner.Recording.{Recorded, count, room};
+ghost use Rattle.pfl_world.specs.inner.Recording.{Recorded};
 ghost use Rattle.pfl_world.specs.inner.WorldEdits.{before_node};
 ghost use Rattle.pfl_world.specs.Worlds.{node_at, with_node, with_link};
 
 use crate::edit::WorldEdit;
-use crate::lift::record_all;
-use crate::recorder::Recorder;
 use crate::world::World;
 use pfl_base::{NodeId, Refusal};
-use pfl_edits::{Change, NoMemory};
+use pfl_edits::{Change, NoMemory, Recorder, undo_all};
 use pfl_language::Outcome;
 use pfl_link::Bytes;
 use pfl_node::NodeEdit;
@@ -49,13 +47,14 @@ impl<A: Allocator + Copy> World<A> {
     ) -> Result<Outcome, Refusal>
         ensures refused { IfErr result (IsRefusal (flush_refusal self.old node)) }
         ensures unchanged { OnErr result (self.new ≡ self.old) }
-        ensures unrecorded { OnErr result ((R.edits to.new).list ≡ (R.edits to.old).list) }
+        ensures unrecorded { OnErr result (R.list to.new ≡ R.list to.old) }
         ensures not_refused { OnOk result (flush_refusal self.old node ≡ None) }
-        ensures world { OnOk result (self.new ≡ with_link (with_node self.old node (flushing.flushed (node_at self.old node))) (sent self.old.link (sent_frame self.old node))) }
+        ensures world { OnOk result (self.new ≡ with_link (with_node self.old node (flushing.flushed (node_at self.old node)))
+            (sent self.old.link (sent_frame self.old node))) }
         ensures outcome { IfOk result (λ outcome. outcome ≡ Outcome.Sent self.old.link.next (length (sent_frame self.old node).bytes)) }
-        ensures recorded { OnOk result (Recorded HoldsLittle self.old self.new (R.edits to.old) (R.edits to.new)) }
-        ensures few { OnOk result (count (R.edits to.new) ≤ count (R.edits to.old) + (2 + 2 * flush_work self.old node)) }
-        ensures room { room (R.edits to.old) ≤ room (R.edits to.new) }
+        ensures recorded { OnOk result (Recorded HoldsLittle self.old self.new (R.list to.old) (R.list to.new)) }
+        ensures few { OnOk result (length (R.list to.new) ≤ length (R.list to.old) + (2 + 2 * flush_work self.old node)) }
+        ensures room { R.spare to.old + length (R.list to.old) ≤ R.spare to.new + length (R.list to.new) }
     {
         if let Some(refusal) = self.flush_refusal(node) {
             return Err(refusal);
@@ -80,15 +79,15 @@ impl<A: Allocator + Copy> World<A> {
         requires room { room_fault self.old.link ≡ None }
         requires short { length bytes ≤ self.old.link.mtu }
         ensures undone { OnErr result (self.new ≡ before_node self.old node change.list) }
-        ensures unrecorded { OnErr result ((R.edits to.new).list ≡ (R.edits to.old).list) }
+        ensures unrecorded { OnErr result (R.list to.new ≡ R.list to.old) }
         ensures world { OnOk result (self.new ≡ with_link self.old (sent self.old.link (record { to = other_node node; bytes = bytes }))) }
         ensures outcome { IfOk result (λ outcome. outcome ≡ Outcome.Sent self.old.link.next (length bytes)) }
-        ensures recorded { OnOk result (Recorded HoldsLittle (before_node self.old node change.list) self.new (R.edits to.old) (R.edits to.new)) }
-        ensures few { OnOk result (count (R.edits to.new) ≤ count (R.edits to.old) + (length change.list + 1)) }
-        ensures room { room (R.edits to.old) ≤ room (R.edits to.new) }
+        ensures recorded { OnOk result (Recorded HoldsLittle (before_node self.old node change.list) self.new (R.list to.old) (R.list to.new)) }
+        ensures few { OnOk result (length (R.list to.new) ≤ length (R.list to.old) + (length change.list + 1)) }
+        ensures room { R.spare to.old + length (R.list to.old) ≤ R.spare to.new + length (R.list to.new) }
     {
         self.known();
-        if to.reserve_one_more(change.len()).is_err() {
+        if reserve_one_more(to, change.len()).is_err() {
             self.undo_at(node, change);
             return Err(NoMemory);
         }
@@ -97,8 +96,28 @@ impl<A: Allocator + Copy> World<A> {
             self.undo_at(node, change);
             return Err(NoMemory);
         };
-        record_all(node, change, to);
+        change.record_in(node, to);
         to.push(WorldEdit::OfLink(edit));
         Ok(Outcome::Sent { ticket, len })
+    }
+
+    /// Takes what a node changed back, without memory.
+    fn undo_at(&mut self, node: NodeId, change: Change<NodeEdit, A>)
+        requires fits { Fits nodes.Finds IsNode nodes.put_back change.list (node_at self.old node) }
+        ensures undone { self.new ≡ before_node self.old node change.list }
+    {
+        undo_all(self.nodes.at_mut(node), change);
+    }
+}
+
+/// Makes room for `n` edits and one more. Where that is no number, there is no memory for them either.
+fn reserve_one_more<E, R: Recorder<E>>(to: &mut R, n: usize) -> Result<(), NoMemory>
+    ensures list { R.list to.new ≡ R.list to.old }
+    ensures room { OnOk result (n < R.spare to.new) }
+    ensures kept { R.spare to.old ≤ R.spare to.new }
+{
+    match n.checked_add(1) {
+        Some(more) => to.reserve(more),
+        None => Err(NoMemory),
     }
 }

@@ -12,7 +12,6 @@ mod laws;
 mod lift;
 mod nodes;
 mod record;
-mod recorder;
 mod restart;
 mod restart_edit;
 mod restart_undone;

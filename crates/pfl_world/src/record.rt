@@ -1,10 +1,12 @@
 //! One record of the peer's comes to a node by itself, and its edits go onto a tape (if_pfsync.c).
 
-ghost use Rattle.std.specs.Prelude.{◌≡◌, None, IfErr, OnOk, OnErr, length};
+ghost use Rattle.std.specs.Prelude.{◌≡◌, ◌+◌, ◌≤◌, None, IfErr, OnOk, OnErr, length};
+ghost use Rattle.std.specs.List.{AllByRecursion};
 ghost use Rattle.pfl_edits.specs.Changes.{Fits, back};
 ghost use Rattle.pfl_edits.specs.Tapes.{above, below};
 ghost use Rattle.pfl_node.specs.Delivering.{message_refusal, message_taken};
 ghost use Rattle.pfl_node.specs.desk.Nodes.{IsRefusal};
+ghost use Rattle.pfl_world.specs.Values.{HoldsLittle};
 ghost use Rattle.pfl_world.specs.WorldEdits.{Finds, put_back};
 ghost use Rattle.pfl_world.specs.Worlds.{IsWorld, node_at, with_node};
 
@@ -32,8 +34,12 @@ impl<A: Allocator + Copy> World<A> {
         ensures taped { below (length tape.old.list) tape.new.list ≡ tape.old.list }
         ensures fits { OnOk result (Fits Finds IsWorld put_back (above (length tape.old.list) tape.new.list) self.new) }
         ensures back { OnOk result (back put_back (above (length tape.old.list) tape.new.list) self.new ≡ self.old) }
+        ensures small { OnOk result (AllByRecursion HoldsLittle (above (length tape.old.list) tape.new.list)) }
+        ensures room { tape.old.spare + length tape.old.list ≤ tape.new.spare + length tape.new.list }
     {
-        let (_, change) = self.nodes.at_mut(to).take_message(message, print)?;
-        self.lift(to, change, tape)
+        self.known();
+        self.nodes
+            .at_mut(to)
+            .take_message_on(message, print, to, tape)
     }
 }

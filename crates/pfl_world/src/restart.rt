@@ -1,21 +1,20 @@
 //! A node begins anew (this project's profile).
 
-ghost use Rattle.std.specs.Prelude.{◌≡◌, ◌≤◌, ◌<◌, ◌+◌, Ok, IfOk, IfErr, OnOk, OnErr, nat_le};
+ghost use Rattle.std.specs.Prelude.{◌≡◌, ◌≤◌, ◌<◌, ◌+◌, Ok, IfOk, IfErr, OnOk, OnErr, nat_le, length};
 ghost use Rattle.pfl_base.specs.Numbers.{greatest};
 ghost use Rattle.pfl_node.specs.Events.{restarted};
 ghost use Rattle.pfl_world.specs.Events.{IsRefusalOf};
 ghost use Rattle.pfl_world.specs.Restarting.{restart_step};
 ghost use Rattle.pfl_world.specs.Values.{HoldsNode};
 ghost use Rattle.pfl_world.specs.WorldEdits.{with_boot};
-ghost use Rattle.pfl_world.specs.inner.Recording.{Recorded, count, room};
+ghost use Rattle.pfl_world.specs.inner.Recording.{Recorded};
 ghost use Rattle.pfl_world.specs.Worlds.{IsWorld, node_at};
 
 use crate::edit::WorldEdit;
-use crate::recorder::Recorder;
 use crate::restart_edit::{RestartEdit, boxed};
 use crate::world::World;
 use pfl_base::{NodeId, Refusal};
-use pfl_edits::NoMemory;
+use pfl_edits::{NoMemory, Recorder};
 use pfl_language::Outcome;
 use std::alloc::Allocator;
 use std::mem::{replace, swap};
@@ -29,11 +28,11 @@ impl<A: Allocator + Copy> World<A> {
     ) -> Result<Outcome, Refusal>
         ensures refused { IfErr result (IsRefusalOf (restart_step self.old node)) }
         ensures unchanged { OnErr result (self.new ≡ self.old) }
-        ensures unrecorded { OnErr result ((R.edits to.new).list ≡ (R.edits to.old).list) }
+        ensures unrecorded { OnErr result (R.list to.new ≡ R.list to.old) }
         ensures step { IfOk result (λ outcome. restart_step self.old node ≡ Ok (record { world = self.new; outcome = outcome })) }
-        ensures recorded { OnOk result (Recorded HoldsNode self.old self.new (R.edits to.old) (R.edits to.new)) }
-        ensures few { OnOk result (count (R.edits to.new) ≤ count (R.edits to.old) + 1) }
-        ensures room { room (R.edits to.old) ≤ room (R.edits to.new) }
+        ensures recorded { OnOk result (Recorded HoldsNode self.old self.new (R.list to.old) (R.list to.new)) }
+        ensures few { OnOk result (length (R.list to.new) ≤ length (R.list to.old) + 1) }
+        ensures room { R.spare to.old + length (R.list to.old) ≤ R.spare to.new + length (R.list to.new) }
     {
         if self.is_booted_out() {
             return Err(Refusal::CountFull);
@@ -53,11 +52,11 @@ impl<A: Allocator + Copy> World<A> {
     ) -> Result<(), NoMemory>
         requires countable { self.old.next_boot < greatest }
         ensures unchanged { OnErr result (self.new ≡ self.old) }
-        ensures unrecorded { OnErr result ((R.edits to.new).list ≡ (R.edits to.old).list) }
+        ensures unrecorded { OnErr result (R.list to.new ≡ R.list to.old) }
         ensures world { OnOk result (self.new ≡ with_boot self.old node (restarted (node_at self.old node) self.old.next_boot) (self.old.next_boot + 1)) }
-        ensures recorded { OnOk result (Recorded HoldsNode self.old self.new (R.edits to.old) (R.edits to.new)) }
-        ensures few { OnOk result (count (R.edits to.new) ≤ count (R.edits to.old) + 1) }
-        ensures room { room (R.edits to.old) ≤ room (R.edits to.new) }
+        ensures recorded { OnOk result (Recorded HoldsNode self.old self.new (R.list to.old) (R.list to.new)) }
+        ensures few { OnOk result (length (R.list to.new) ≤ length (R.list to.old) + 1) }
+        ensures room { R.spare to.old + length (R.list to.old) ≤ R.spare to.new + length (R.list to.new) }
     {
         self.known();
         let boot = self.next_boot;

@@ -5,8 +5,8 @@ ghost use Rattle.std.specs.Prelude.{◌≡◌};
 use pfl_base::{Input, Output};
 use pfl_edits::NoMemory;
 use pfl_run::{
-    LabFault, LineReader, Setup, Timeline, World, WorldFault, read_setup, run_lab, run_lines,
-    set_up, tell,
+    LineReader, RunFault, Setup, Timeline, World, WorldFault, read_setup, report_fault, run_lab,
+    run_lines, set_up,
 };
 use std::alloc::Allocator;
 
@@ -27,7 +27,7 @@ fn set_up_late<A: Allocator + Copy, R: Input>(
     alloc: A,
     reader: &mut LineReader<R>,
     start: u32,
-) -> Result<Timeline<A>, LabFault> {
+) -> Result<Timeline<A>, RunFault> {
     let Setup {
         limits,
         rules_a,
@@ -38,10 +38,10 @@ fn set_up_late<A: Allocator + Copy, R: Input>(
     match World::new_at(alloc, limits, rules_a, rules_b, start.max(3)) {
         Ok(world) => match Timeline::new(alloc, world) {
             Ok(timeline) => Ok(timeline),
-            Err(NoMemory) => Err(LabFault::NoMemory),
+            Err(NoMemory) => Err(RunFault::NoMemory),
         },
-        Err(WorldFault::NoMemory) => Err(LabFault::NoMemory),
-        Err(fault) => Err(LabFault::World(line, fault)),
+        Err(WorldFault::NoMemory) => Err(RunFault::NoMemory),
+        Err(fault) => Err(RunFault::World(line, fault)),
     }
 }
 
@@ -60,7 +60,7 @@ impl Opening {
         self,
         alloc: A,
         reader: &mut LineReader<R>,
-    ) -> Result<Timeline<A>, LabFault>
+    ) -> Result<Timeline<A>, RunFault>
         requires fresh { reader.old.lines ≡ 0 }
     {
         match self {
@@ -84,9 +84,9 @@ impl Opening {
         match set_up_late(alloc, &mut lines, start) {
             Ok(mut timeline) => match run_lines(alloc, &mut lines, writer, &mut timeline) {
                 Ok(ended) => u8::from(ended.bad > 0),
-                Err(fault) => tell(LabFault::from(fault), faults),
+                Err(fault) => report_fault(RunFault::from(fault), faults),
             },
-            Err(fault) => tell(fault, faults),
+            Err(fault) => report_fault(fault, faults),
         }
     }
 }

@@ -30,11 +30,16 @@ module _ (keys : List (Option ℕ)) (tags : Map nat_cmp ℕ) (filed : AreFiled k
   filed-set slot row within = record {
     at = λ q.
         get-set_at nat_cmp_total exact_unsigned tags slot (option_map tag_in row) q
-        ∙ elim (eq_by_cmp nat_cmp q slot) as (λ b. eq_by_cmp nat_cmp q slot ≡ b → cond b (option_map tag_in row) (maps.get tags q) ≡ option_map tag_in (slice_index_or (set keys slot row) q None)) [
+        ∙ elim (eq_by_cmp nat_cmp q slot) as (λ b. eq_by_cmp nat_cmp q slot ≡ b
+        → cond b (option_map tag_in row) (maps.get tags q) ≡ option_map tag_in (slice_index_or (set keys slot row) q None)) [
           | true ↦ λ same.
-              sym (ap (option_map tag_in) (ap (λ k. slice_index_or (set keys slot row) k None) (same_key nat_cmp_total exact_unsigned (λ k. k) q slot same) ∙ get_or-set_same keys slot row None within))
+              sym (ap (option_map tag_in)
+              (ap (λ k. slice_index_or (set keys slot row) k None) (same_key nat_cmp_total exact_unsigned (λ k. k) q slot same)
+              ∙ get_or-set_same keys slot row None within))
           | false ↦ λ other.
               filed.at q
-              ∙ ap (option_map tag_in) (sym (get_or-set_other keys slot q row None (λ same. false≢true (sym other ∙ (ap (λ k. eq_by_cmp nat_cmp k slot) same ∙ own_key nat_cmp_total exact_unsigned (λ k. k) slot)))))
+              ∙ ap (option_map tag_in) (sym
+              (get_or-set_other keys slot q row None
+              (λ same. false≢true (sym other ∙ (ap (λ k. eq_by_cmp nat_cmp k slot) same ∙ own_key nat_cmp_total exact_unsigned (λ k. k) slot)))))
         ] refl;
   }

@@ -82,7 +82,8 @@ module _ {K V : Type 0} where
 
   -- and where its right tree is the one at `right` now
   pub record TakesRight (nodes new : List (Node K V)) (place right was link : ℕ) : Type 0 where
-    pub joins : (node : Node K V) → slice_get nodes place ≡ Some node → Joins nodes new place (record node { right = right }) (BalancesRight was node.height) link
+    pub joins : (node : Node K V) → slice_get nodes place ≡ Some node
+        → Joins nodes new place (record node { right = right }) (BalancesRight was node.height) link
 
   -- u, which is t with an entry more, is balanced, and may be one deeper
   pub record Grows (t u : Tree K V) : Type 0 where

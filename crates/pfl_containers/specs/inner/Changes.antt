@@ -78,4 +78,5 @@ module _ {K V : Type 0} where
 
   -- and so does the tree at a link
   pub record Removes (R : K → K → Ordering) (nodes new : List (Node K V)) (from : ℕ) (q : K) (steps : ℕ) (left : Remaining V) : Type 0 where
-    pub makes : (t : Tree K V) → Holds nodes t from → ((j : ℕ) → uses t j ≤ 1) → T (is_sorted R (entries t)) → length (entries t) ≤ steps → LacksKey R nodes new q t left
+    pub makes : (t : Tree K V) → Holds nodes t from → ((j : ℕ) → uses t j ≤ 1) → T (is_sorted R (entries t)) → length (entries t) ≤ steps
+        → LacksKey R nodes new q t left

@@ -1,7 +1,8 @@
 -- How chains are kept: rings of nodes, in which each node has the number of the node before it and of the one after it.
 -- Ring 0 has the slots that were given back, and ring n + 1 is list n. Ring r begins and ends at its head, the node limit + r, which is no slot.
 -- This project's profile.
-use Rattle.std.specs.Prelude.{◌≡◌, ◌≢◌, ℕ, zero, suc, ◌+◌, ◌-◌, ◌<◌, ◌≤◌, ◌^◌, List, [], ◌∷◌, length, get_or, slice_get, Option, Some, None, cond, ltb, vec_capacity}
+use Rattle.std.specs.Prelude.{◌≡◌, ◌≢◌, ℕ, zero, suc, ◌+◌, ◌-◌, ◌<◌, ◌≤◌, ◌^◌, List, [], ◌∷◌, length, get_or, slice_get, Option, Some, None, cond}
+use Rattle.std.specs.Prelude.{ltb, vec_capacity}
 use Rattle.pfl_edits.specs.declared.in_order.Node.{Node}
 use Rattle.pfl_edits.specs.Linked.{no_node}
 use Rattle.pfl_containers.specs.declared.chains.rings.Rings.{Rings}

@@ -48,8 +48,10 @@ pub record CanJoin {K V : Type 0} (nodes : List (Node K V)) (l r : Tree K V) (pl
   pub apart : (j : ℕ) → uses l j + (once place j + uses r j) ≤ 1
 
 -- the node and the trees that it names become one tree, and `Says` holds of those two and of it
-pub record Joins {K V : Type 0} (nodes new : List (Node K V)) (place : ℕ) (node : Node K V) (Says : Tree K V → Tree K V → Tree K V → Type 0) (link : ℕ) : Type 0 where
-  pub makes : (l r : Tree K V) → CanJoin nodes l r place node → Makes nodes new (entries l ++ (node.key, node.value) ∷ entries r) (λ j. uses l j + (once place j + uses r j)) (Says l r) link
+pub record Joins {K V : Type 0} (nodes new : List (Node K V)) (place : ℕ) (node : Node K V)
+    (Says : Tree K V → Tree K V → Tree K V → Type 0) (link : ℕ) : Type 0 where
+  pub makes : (l r : Tree K V) → CanJoin nodes l r place node
+      → Makes nodes new (entries l ++ (node.key, node.value) ∷ entries r) (λ j. uses l j + (once place j + uses r j)) (Says l r) link
 
 -- the tree at the link is made one with the same entries at the same places, and `Says` holds of it and of that
 pub record Steadies {K V : Type 0} (nodes new : List (Node K V)) (from : ℕ) (Says : Tree K V → Tree K V → Type 0) (link : ℕ) : Type 0 where

@@ -1,6 +1,7 @@
 //! Rings of nodes, each of which has the number of the node before it and of the one after it.
 ghost use Rattle.std.specs.Prelude.{◌≡◌, ◌≢◌, ◌+◌, ◌<◌, ◌≤◌, ◌^◌, IfOk, [], length, vec_capacity};
-ghost use Rattle.pfl_containers.specs.inner.Rings.{node_of, next_of, previous_of, IsNode, IsSlot, AreSized, SetsNext, SetsPrevious, Grows, Unlinks, Inserts, AreAlone};
+ghost use Rattle.pfl_containers.specs.inner.Rings.{node_of, next_of, previous_of, IsNode, IsSlot, AreSized, SetsNext, SetsPrevious, Grows, Unlinks};
+ghost use Rattle.pfl_containers.specs.inner.Rings.{Inserts, AreAlone};
 
 use pfl_edits::Node;
 use std::alloc::{AllocError, Allocator};

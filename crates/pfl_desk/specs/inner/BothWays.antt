@@ -32,14 +32,23 @@ both_ways-with l = record {
 }
 
 -- one number of the counters leads both ways
-count-both_ways : (counter : Counter) (former new : ℕ) → LeadsBothWays (λ (c : Counters). count_of counter c ≡ former) (λ c. count_of counter c ≡ new) (λ c. with_count counter c former) (λ c. with_count counter c new)
-count-both_ways Passed former new = part-both_ways (λ (c : Counters). c.passed) (λ c k. record c { passed = k }) (λ c k. refl) (λ c. refl) (λ c k l. refl) _ _ _ _ (value-both_ways former new)
-count-both_ways Blocked former new = part-both_ways (λ (c : Counters). c.blocked) (λ c k. record c { blocked = k }) (λ c k. refl) (λ c. refl) (λ c k l. refl) _ _ _ _ (value-both_ways former new)
-count-both_ways Freed former new = part-both_ways (λ (c : Counters). c.freed) (λ c k. record c { freed = k }) (λ c k. refl) (λ c. refl) (λ c k l. refl) _ _ _ _ (value-both_ways former new)
-count-both_ways Lost former new = part-both_ways (λ (c : Counters). c.lost) (λ c k. record c { lost = k }) (λ c k. refl) (λ c. refl) (λ c k l. refl) _ _ _ _ (value-both_ways former new)
-count-both_ways Bad former new = part-both_ways (λ (c : Counters). c.bad) (λ c k. record c { bad = k }) (λ c k. refl) (λ c. refl) (λ c k l. refl) _ _ _ _ (value-both_ways former new)
-count-both_ways Stale former new = part-both_ways (λ (c : Counters). c.stale) (λ c k. record c { stale = k }) (λ c k. refl) (λ c. refl) (λ c k l. refl) _ _ _ _ (value-both_ways former new)
-count-both_ways Broken former new = part-both_ways (λ (c : Counters). c.broken) (λ c k. record c { broken = k }) (λ c k. refl) (λ c. refl) (λ c k l. refl) _ _ _ _ (value-both_ways former new)
+count-both_ways : (counter : Counter) (former new : ℕ)
+    → LeadsBothWays (λ (c : Counters). count_of counter c ≡ former) (λ c. count_of counter c ≡ new) (λ c. with_count counter c former)
+    (λ c. with_count counter c new)
+count-both_ways Passed former new = part-both_ways (λ (c : Counters). c.passed) (λ c k. record c { passed = k }) (λ c k. refl) (λ c. refl)
+    (λ c k l. refl) _ _ _ _ (value-both_ways former new)
+count-both_ways Blocked former new = part-both_ways (λ (c : Counters). c.blocked) (λ c k. record c { blocked = k }) (λ c k. refl)
+    (λ c. refl) (λ c k l. refl) _ _ _ _ (value-both_ways former new)
+count-both_ways Freed former new = part-both_ways (λ (c : Counters). c.freed) (λ c k. record c { freed = k }) (λ c k. refl) (λ c. refl)
+    (λ c k l. refl) _ _ _ _ (value-both_ways former new)
+count-both_ways Lost former new = part-both_ways (λ (c : Counters). c.lost) (λ c k. record c { lost = k }) (λ c k. refl) (λ c. refl)
+    (λ c k l. refl) _ _ _ _ (value-both_ways former new)
+count-both_ways Bad former new = part-both_ways (λ (c : Counters). c.bad) (λ c k. record c { bad = k }) (λ c k. refl) (λ c. refl)
+    (λ c k l. refl) _ _ _ _ (value-both_ways former new)
+count-both_ways Stale former new = part-both_ways (λ (c : Counters). c.stale) (λ c k. record c { stale = k }) (λ c k. refl) (λ c. refl)
+    (λ c k l. refl) _ _ _ _ (value-both_ways former new)
+count-both_ways Broken former new = part-both_ways (λ (c : Counters). c.broken) (λ c k. record c { broken = k }) (λ c k. refl) (λ c. refl)
+    (λ c k l. refl) _ _ _ _ (value-both_ways former new)
 
 -- what is put back of a motion undoes what is redone, where a state moved so
 moved_back : (was new : Motion) (at : Option State) → option_map motion at ≡ Some was → option_map (with_motion was) (option_map (with_motion new) at) ≡ at
@@ -53,7 +62,8 @@ moved_finds was new (Some s) is = refl
 
 -- the motion of the state of a name leads both ways
 motion-both_ways : (name : StateName) (former new : Motion)
-    → LeadsBothWays (λ (m : States). option_map motion (maps.get m name) ≡ Some former) (λ (m : States). option_map motion (maps.get m name) ≡ Some new) (λ m. moved_at m name former) (λ m. moved_at m name new)
+    → LeadsBothWays (λ (m : States). option_map motion (maps.get m name) ≡ Some former)
+    (λ (m : States). option_map motion (maps.get m name) ≡ Some new) (λ m. moved_at m name former) (λ m. moved_at m name new)
 motion-both_ways name former new =
     part-both_ways (λ (m : States). maps.get m name) (λ m at. set_at m name at) (λ m at. get-set_at_same names_total names_exact m name at)
     (λ m. set_at-same names_total names_exact m name (maps.get m name) refl) (λ m at to. set_at-set_at names_total names_exact m name at to) _ _ _ _
@@ -66,13 +76,26 @@ motion-both_ways name former new =
 
 -- each edit leads both ways
 pub edit-both_ways : (e : NodeEdit) → LeadsBothWays (FindsFormer e) (Finds e) (put_back e) (redone e)
-edit-both_ways (OfState e) = part-both_ways (λ (n : Node). n.states) (λ n m. record n { states = m }) (λ n m. refl) (λ n. refl) (λ n m l. refl) _ _ _ _ (key-both_ways names_total names_exact e.name e.before e.after)
-edit-both_ways (Moved e) = part-both_ways (λ (n : Node). n.states) (λ n m. record n { states = m }) (λ n m. refl) (λ n. refl) (λ n m l. refl) _ _ _ _ (motion-both_ways e.name e.before e.after)
-edit-both_ways (OfQueue e) = both_ways-with (part-both_ways (λ (n : Node). n.queue) (λ n q. record n { queue = q }) (λ n q. refl) (λ n. refl) (λ n q r. refl) _ _ _ _ (queues.edit-both_ways e))
-edit-both_ways (OfHeld e) = part-both_ways (λ (n : Node). n.held) (λ n d. record n { held = d }) (λ n d. refl) (λ n. refl) (λ n d k. refl) _ _ _ _ (deferrals.edit-both_ways e)
-edit-both_ways (Server before after) = part-both_ways (λ (n : Node). n.server) (λ n s. record n { server = s }) (λ n s. refl) (λ n. refl) (λ n s t. refl) _ _ _ _ (value-both_ways before after)
-edit-both_ways (Client before after) = part-both_ways (λ (n : Node). n.client) (λ n c. record n { client = c }) (λ n c. refl) (λ n. refl) (λ n c k. refl) _ _ _ _ (value-both_ways before after)
-edit-both_ways (Clock before after) = part-both_ways (λ (n : Node). n.clock) (λ n c. record n { clock = c }) (λ n c. refl) (λ n. refl) (λ n c k. refl) _ _ _ _ (value-both_ways before after)
-edit-both_ways (NextId before after) = both_ways-with (part-both_ways (λ (n : Node). n.next_id) (λ n i. record n { next_id = i }) (λ n i. refl) (λ n. refl) (λ n i k. refl) _ _ _ _ (value-both_ways before after))
-edit-both_ways (Push before after) = part-both_ways (λ (n : Node). n.push) (λ n p. record n { push = p }) (λ n p. refl) (λ n. refl) (λ n p q. refl) _ _ _ _ (value-both_ways before after)
-edit-both_ways (Count counter before after) = both_ways-with (part-both_ways (λ (n : Node). n.counters) (λ n c. record n { counters = c }) (λ n c. refl) (λ n. refl) (λ n c k. refl) _ _ _ _ (count-both_ways counter before after))
+edit-both_ways (OfState e) = part-both_ways (λ (n : Node). n.states) (λ n m. record n { states = m }) (λ n m. refl) (λ n. refl)
+    (λ n m l. refl) _ _ _ _ (key-both_ways names_total names_exact e.name e.before e.after)
+edit-both_ways (Moved e) = part-both_ways (λ (n : Node). n.states) (λ n m. record n { states = m }) (λ n m. refl) (λ n. refl)
+    (λ n m l. refl) _ _ _ _ (motion-both_ways e.name e.before e.after)
+edit-both_ways (OfQueue e) =
+    both_ways-with (part-both_ways (λ (n : Node). n.queue) (λ n q. record n { queue = q }) (λ n q. refl) (λ n. refl)
+    (λ n q r. refl) _ _ _ _ (queues.edit-both_ways e))
+edit-both_ways (OfHeld e) = part-both_ways (λ (n : Node). n.held) (λ n d. record n { held = d }) (λ n d. refl) (λ n. refl)
+    (λ n d k. refl) _ _ _ _ (deferrals.edit-both_ways e)
+edit-both_ways (Server before after) = part-both_ways (λ (n : Node). n.server) (λ n s. record n { server = s }) (λ n s. refl) (λ n. refl)
+    (λ n s t. refl) _ _ _ _ (value-both_ways before after)
+edit-both_ways (Client before after) = part-both_ways (λ (n : Node). n.client) (λ n c. record n { client = c }) (λ n c. refl) (λ n. refl)
+    (λ n c k. refl) _ _ _ _ (value-both_ways before after)
+edit-both_ways (Clock before after) = part-both_ways (λ (n : Node). n.clock) (λ n c. record n { clock = c }) (λ n c. refl) (λ n. refl)
+    (λ n c k. refl) _ _ _ _ (value-both_ways before after)
+edit-both_ways (NextId before after) =
+    both_ways-with (part-both_ways (λ (n : Node). n.next_id) (λ n i. record n { next_id = i }) (λ n i. refl) (λ n. refl)
+    (λ n i k. refl) _ _ _ _ (value-both_ways before after))
+edit-both_ways (Push before after) = part-both_ways (λ (n : Node). n.push) (λ n p. record n { push = p }) (λ n p. refl) (λ n. refl)
+    (λ n p q. refl) _ _ _ _ (value-both_ways before after)
+edit-both_ways (Count counter before after) =
+    both_ways-with (part-both_ways (λ (n : Node). n.counters) (λ n c. record n { counters = c }) (λ n c. refl) (λ n. refl)
+    (λ n c k. refl) _ _ _ _ (count-both_ways counter before after))

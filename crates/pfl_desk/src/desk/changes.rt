@@ -78,13 +78,13 @@ impl<A: Allocator> Desk<A> {
             self.replace_state(slot, state);
             return Ok(());
         }
-        self.tell(slot, state)?;
+        self.announce(slot, state)?;
         self.push_if(recent);
         Ok(())
     }
 
     /// Puts a state in the place of one, and announces it to the peer by an update.
-    fn tell(&mut self, slot: Slot, state: State) -> Result<(), Overfull>
+    fn announce(&mut self, slot: Slot, state: State) -> Result<(), Overfull>
         requires room { 2 ≤ self.old.edits.spare }
         requires known { MayReplace self.old.node state }
         requires told { state.no_sync ≡ false }
@@ -93,7 +93,7 @@ impl<A: Allocator> Desk<A> {
         ensures writes { Writes 2 self.old self.new }
     {
         let name = state.name();
-        if self.is_untold(name) {
+        if self.is_unannounced(name) {
             self.replace_state(slot, state.with_updates(0));
             return self.mark(name, Kind::UpdateShort);
         }
@@ -120,8 +120,8 @@ impl<A: Allocator> Desk<A> {
     }
 
     /// The name is on no queue, or only to be acknowledged.
-    fn is_untold(&self, name: StateName) -> bool
-        ensures untold { result ≡ to.is_untold (kind_of self.now.node.queue name) }
+    fn is_unannounced(&self, name: StateName) -> bool
+        ensures unannounced { result ≡ to.is_unannounced (kind_of self.now.node.queue name) }
     {
         match self.queue().kind_of(name) {
             None | Some(Kind::InsertAck) => true,
@@ -149,19 +149,19 @@ impl<A: Allocator> Desk<A> {
         ensures writes { Writes deleted_edits self.old self.new }
     {
         self.drop_held(state.name());
-        self.tell_deletion(slot, state)
+        self.announce_deletion(slot, state)
     }
 
     /// Takes the state out, and announces it to the peer.
-    fn tell_deletion(&mut self, slot: Slot, state: &State) -> Result<(), Overfull>
+    fn announce_deletion(&mut self, slot: Slot, state: &State) -> Result<(), Overfull>
         requires room { 3 ≤ self.old.edits.spare }
         requires stands { maps.get self.old.node.states state.now.name ≡ Some state.now }
-        ensures full { OnErr result (is_overfull (to.deletion_told (to.without_state self.old.node state.now.name) state.now) ≡ true) }
-        ensures node { OnOk result (self.new.node ≡ to.deletion_told (to.without_state self.old.node state.now.name) state.now) }
+        ensures full { OnErr result (is_overfull (to.deletion_announced (to.without_state self.old.node state.now.name) state.now) ≡ true) }
+        ensures node { OnOk result (self.new.node ≡ to.deletion_announced (to.without_state self.old.node state.now.name) state.now) }
         ensures writes { Writes 3 self.old self.new }
     {
         let name = state.name();
-        let told = self.is_deletion_told(state);
+        let told = self.is_deletion_announced(state);
         self.take_out(slot, name);
         if !told {
             return Ok(());
@@ -190,7 +190,7 @@ impl<A: Allocator> Desk<A> {
     }
 
     /// The deletion of the state is announced to the peer.
-    fn is_deletion_told(&self, state: &State) -> bool
+    fn is_deletion_announced(&self, state: &State) -> bool
         ensures told { result ≡ (not (to.is_insert (kind_of self.now.node.queue state.now.name)) && not state.now.no_sync) }
         ensures parts { AreParts self.now.node }
     {

@@ -1,9 +1,7 @@
-//! What ends an event that was carried out: its edits are handed out, or it is taken back.
+//! What ends an event that was carried out: its edits are recorded where they are kept, or it is taken back.
 
-ghost use Rattle.std.specs.Prelude.{◌≡◌, ◌+◌, false, [], Ok, IfOk, IfErr, OnOk, OnErr, length};
-ghost use Rattle.pfl_edits.specs.Changes.{LeadsBack};
-ghost use Rattle.pfl_desk.specs.Drafts.{began};
-ghost use Rattle.pfl_desk.specs.Edits.{Finds, put_back};
+ghost use Rattle.std.specs.Prelude.{◌≡◌, ◌≤◌, ◌<◌, ◌+◌, ◌++◌, false, [], Ok, IfOk, IfErr, OnOk, OnErr, length, map};
+ghost use Rattle.pfl_desk.specs.Drafts.{AllRecorded, began};
 ghost use Rattle.pfl_desk.specs.inner.Judging.{judged_as, judgement};
 ghost use Rattle.pfl_desk.specs.Nodes.{AreParts, IsRefusal, is_overcounted};
 
@@ -11,25 +9,30 @@ use crate::desk::Desk;
 use crate::edit::NodeEdit;
 use crate::parts::judge::Overfull;
 use pfl_base::Refusal;
-use pfl_edits::{Change, take_back};
+use pfl_edits::{NoMemory, OfPart, Recorder, take_back};
 use std::alloc::Allocator;
 
 impl<A: Allocator> Desk<A> {
-    /// Judges an event that was carried out, and returns whether at one of its points a number was too high, or that it stopped where
-    /// too much was pending. Its edits are handed out; where it is refused, or there is no memory for them, they are taken back.
-    pub fn settle<T: Copy>(
+    /// Judges an event that was carried out: `tried` is its answer and whether at one of its points a number was too high, or that it
+    /// stopped where too much was pending. Its edits are recorded in `to`, as edits of a part; where it is refused, or `to` has no memory
+    /// for them and one more, they are taken back.
+    pub fn settle<T: Copy, W: OfPart<NodeEdit>, R: Recorder<W>>(
         &mut self,
-        alloc: A,
         tried: Result<(T, bool), Overfull>,
-    ) -> Result<(T, Change<NodeEdit, A>), Refusal>
+        part: W::Part,
+        to: &mut R,
+    ) -> Result<T, Refusal>
         requires counted { IfOk tried (λ r. r.1 ≡ false → is_overcounted self.old.node ≡ false) }
         ensures refused { IfErr result (IsRefusal (judgement tried)) }
         ensures undone { OnErr result (self.new.node ≡ began self.old) }
-        ensures stands { IfOk result (λ r. tried ≡ Ok (r.0, false)) }
+        ensures untaken { OnErr result (R.list to.new ≡ R.list to.old) }
+        ensures stands { IfOk result (λ answer. tried ≡ Ok (answer, false)) }
         ensures kept { OnOk result (self.new.node ≡ self.old.node) }
         ensures parts { OnOk result (AreParts self.new.node) }
-        ensures edits { IfOk result (λ r. r.1.list ≡ self.old.edits.list) }
-        ensures leads_back { IfOk result (λ r. LeadsBack Finds AreParts put_back r.1.list (began self.old) self.new.node) }
+        ensures recorded { OnOk result (AllRecorded (W.of part) self.old self.new.node (R.list to.old) (R.list to.new)) }
+        ensures list { OnOk result (R.list to.new ≡ R.list to.old ++ map (W.of part) self.old.edits.list) }
+        ensures one_more { OnOk result (0 < R.spare to.new) }
+        ensures total { R.spare to.old + length (R.list to.old) ≤ R.spare to.new + length (R.list to.new) }
         ensures none { self.new.edits.list ≡ [] }
         ensures room { self.new.edits.spare ≡ self.old.edits.spare + length self.old.edits.list }
     {
@@ -38,37 +41,64 @@ impl<A: Allocator> Desk<A> {
             Ok((_, true)) => Err(Refusal::CountFull),
             Err(Overfull) => Err(Refusal::QueueFull),
         };
-        self.conclude(alloc, judged)
+        self.conclude(judged, part, to)
     }
 
-    /// Ends an event that was carried out: its edits are handed out; where it is refused, or there is no memory for them, they are
-    /// taken back.
-    pub fn conclude<T: Drop>(
+    /// Ends an event that was carried out: its edits are recorded in `to`, as edits of a part; where it is refused, or `to` has no
+    /// memory for them and one more, they are taken back.
+    pub fn conclude<T: Drop, W: OfPart<NodeEdit>, R: Recorder<W>>(
         &mut self,
-        alloc: A,
         judged: Result<T, Refusal>,
-    ) -> Result<(T, Change<NodeEdit, A>), Refusal>
+        part: W::Part,
+        to: &mut R,
+    ) -> Result<T, Refusal>
         requires counted { OnOk judged (is_overcounted self.old.node ≡ false) }
         ensures refused { IfErr result (IsRefusal (judged_as judged)) }
         ensures undone { OnErr result (self.new.node ≡ began self.old) }
-        ensures stands { IfOk result (λ r. judged ≡ Ok r.0) }
+        ensures untaken { OnErr result (R.list to.new ≡ R.list to.old) }
+        ensures stands { IfOk result (λ answer. judged ≡ Ok answer) }
         ensures kept { OnOk result (self.new.node ≡ self.old.node) }
         ensures parts { OnOk result (AreParts self.new.node) }
-        ensures edits { IfOk result (λ r. r.1.list ≡ self.old.edits.list) }
-        ensures leads_back { IfOk result (λ r. LeadsBack Finds AreParts put_back r.1.list (began self.old) self.new.node) }
+        ensures recorded { OnOk result (AllRecorded (W.of part) self.old self.new.node (R.list to.old) (R.list to.new)) }
+        ensures list { OnOk result (R.list to.new ≡ R.list to.old ++ map (W.of part) self.old.edits.list) }
+        ensures one_more { OnOk result (0 < R.spare to.new) }
+        ensures total { R.spare to.old + length (R.list to.old) ≤ R.spare to.new + length (R.list to.new) }
         ensures none { self.new.edits.list ≡ [] }
         ensures room { self.new.edits.spare ≡ self.old.edits.spare + length self.old.edits.list }
     {
         self.parts.known();
         let refusal = match judged {
-            Ok(answer) => match self.edits.hand_out(alloc) {
-                Ok(edits) => return Ok((answer, edits)),
-                Err(_) => Refusal::NoMemory,
+            Ok(answer) => match self.record(part, to) {
+                Ok(()) => return Ok(answer),
+                Err(NoMemory) => Refusal::NoMemory,
             },
             Err(refusal) => refusal,
         };
         take_back(&mut self.parts, &mut self.edits);
         Err(refusal)
+    }
+
+    /// Records the edits in `to`, as edits of a part, if it has room or memory for them and one more. The room that they had here is
+    /// given back.
+    fn record<W: OfPart<NodeEdit>, R: Recorder<W>>(
+        &mut self,
+        part: W::Part,
+        to: &mut R,
+    ) -> Result<(), NoMemory>
+        requires counted { is_overcounted self.old.node ≡ false }
+        ensures unchanged { OnErr result (self.new ≡ self.old) }
+        ensures untaken { OnErr result (R.list to.new ≡ R.list to.old) }
+        ensures node { self.new.node ≡ self.old.node }
+        ensures list { OnOk result (R.list to.new ≡ R.list to.old ++ map (W.of part) self.old.edits.list) }
+        ensures one_more { OnOk result (0 < R.spare to.new) }
+        ensures total { R.spare to.old + length (R.list to.old) ≤ R.spare to.new + length (R.list to.new) }
+        ensures none { OnOk result (self.new.edits.list ≡ []) }
+        ensures room { OnOk result (self.new.edits.spare ≡ self.old.edits.spare + length self.old.edits.list) }
+    {
+        to.reserve(self.edits.len() + 1)?;
+        self.edits.record_in(part, to);
+        self.give_up_edits();
+        Ok(())
     }
 
     /// Gives up what was recorded, so that it can no longer be taken back. Its room is given back.

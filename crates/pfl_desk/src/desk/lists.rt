@@ -29,10 +29,10 @@ impl<A: Allocator> Desk<A> {
     }
 
     /// Sends the peer a bulk status, soon.
-    pub fn tell_status(&mut self, status: BulkStatus) -> Result<(), Overfull>
+    pub fn announce_status(&mut self, status: BulkStatus) -> Result<(), Overfull>
         requires room { listed_edits ≤ self.old.edits.spare }
-        ensures full { OnErr result (is_overfull (to.tell_status self.old.node status) ≡ true) }
-        ensures node { OnOk result (self.new.node ≡ to.tell_status self.old.node status) }
+        ensures full { OnErr result (is_overfull (to.announce_status self.old.node status) ≡ true) }
+        ensures node { OnOk result (self.new.node ≡ to.announce_status self.old.node status) }
         ensures writes { Writes listed_edits self.old self.new }
     {
         self.list_status(status)?;
@@ -41,10 +41,10 @@ impl<A: Allocator> Desk<A> {
     }
 
     /// Announces to the peer, soon, that the states of a creator with an id of at most the bound are to go.
-    pub fn tell_clear(&mut self, creator: u32, bound: u64) -> Result<(), Overfull>
+    pub fn announce_clear(&mut self, creator: u32, bound: u64) -> Result<(), Overfull>
         requires room { listed_edits ≤ self.old.edits.spare }
-        ensures full { OnErr result (is_overfull (to.tell_clear self.old.node creator bound) ≡ true) }
-        ensures node { OnOk result (self.new.node ≡ to.tell_clear self.old.node creator bound) }
+        ensures full { OnErr result (is_overfull (to.announce_clear self.old.node creator bound) ≡ true) }
+        ensures node { OnOk result (self.new.node ≡ to.announce_clear self.old.node creator bound) }
         ensures writes { Writes listed_edits self.old self.new }
     {
         self.list_clear(creator, bound)?;

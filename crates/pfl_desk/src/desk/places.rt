@@ -145,7 +145,9 @@ impl<A: Allocator> Desk<A> {
     /// Counts one more.
     pub fn count(&mut self, counter: Counter)
         requires room { 0 < self.old.edits.spare }
-        ensures node { self.new.node ≡ record self.old.node { counters = with_count counter self.old.node.counters (count_of counter self.old.node.counters + 1) } }
+        ensures node { self.new.node ≡ record self.old.node {
+          counters = with_count counter self.old.node.counters (count_of counter self.old.node.counters + 1);
+        } }
         ensures writes { Writes 1 self.old self.new }
     {
         let edit = self.parts.count(counter);

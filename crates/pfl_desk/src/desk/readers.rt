@@ -39,7 +39,8 @@ impl<A: Allocator> Desk<A> {
         ensures parts { AreParts self.now.node }
         ensures states { states_of result.now ≡ self.now.node.states }
         ensures limit { result.now.limit ≡ self.now.node.limits.states }
-        ensures timeouts { (name : StateName) (row : Row) → maps.get result.now.rows name ≡ Some row → row.timeout ≡ rule_timeout self.now.node.rules row.state.rule row.state.class }
+        ensures timeouts { (name : StateName) (row : Row) → maps.get result.now.rows name ≡ Some row
+            → row.timeout ≡ rule_timeout self.now.node.rules row.state.rule row.state.class }
     {
         self.parts.states()
     }

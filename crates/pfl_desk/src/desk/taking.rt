@@ -37,7 +37,8 @@ impl<A: Allocator> Desk<A> {
     /// The state of a name, if there is one, has no updates left to announce.
     pub fn clear_updates(&mut self, name: StateName)
         requires room { 0 < self.old.edits.spare }
-        ensures node { self.new.node ≡ option_map_or (λ s. to.put_state self.old.node (record s { updates = 0 })) (maps.get self.old.node.states name) self.old.node }
+        ensures node { self.new.node ≡ option_map_or (λ s. to.put_state self.old.node (record s { updates = 0 }))
+            (maps.get self.old.node.states name) self.old.node }
         ensures writes { Writes 1 self.old self.new }
     {
         let Some(state) = self.states().by_name(name).copied() else {

@@ -4,10 +4,8 @@ ghost use Rattle.std.specs.Prelude.{◌≡◌, false};
 ghost use Rattle.pfl_desk.specs.Nodes.{Node as Whole, is_overcounted, is_overfull};
 
 use crate::parts::Parts;
+use pfl_base::GREATEST_NUMBER;
 use std::alloc::Allocator;
-
-/// The greatest number that is counted to.
-const GREATEST: u64 = 4_294_967_295;
 
 /// Too much would be pending, so that an event cannot go on.
 #[derive(Clone, Copy, Debug)]
@@ -19,14 +17,14 @@ impl<A: Allocator> Parts<A> {
         ensures counted { result ≡ is_overcounted self.now }
         ensures room { is_overfull self.now ≡ false }
     {
-        GREATEST < self.next_id
-            || GREATEST < self.queue.next()
-            || GREATEST < self.counters.passed
-            || GREATEST < self.counters.blocked
-            || GREATEST < self.counters.freed
-            || GREATEST < self.counters.lost
-            || GREATEST < self.counters.bad
-            || GREATEST < self.counters.stale
-            || GREATEST < self.counters.broken
+        GREATEST_NUMBER < self.next_id
+            || GREATEST_NUMBER < self.queue.next()
+            || GREATEST_NUMBER < self.counters.passed
+            || GREATEST_NUMBER < self.counters.blocked
+            || GREATEST_NUMBER < self.counters.freed
+            || GREATEST_NUMBER < self.counters.lost
+            || GREATEST_NUMBER < self.counters.bad
+            || GREATEST_NUMBER < self.counters.stale
+            || GREATEST_NUMBER < self.counters.broken
     }
 }

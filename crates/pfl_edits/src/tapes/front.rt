@@ -1,5 +1,5 @@
 //! The oldest edits of a tape that is only read.
-ghost use Rattle.std.specs.Prelude.{◌≡◌, ◌<◌, ◌≤◌, [], ◌∷◌, ◌++◌, length, IfOk};
+ghost use Rattle.std.specs.Prelude.{◌≡◌, ◌<◌, ◌≤◌, [], ◌∷◌, ◌++◌, length, IfOk, OnErr};
 ghost use Rattle.std.specs.List.{count_by};
 ghost use Rattle.pfl_edits.specs.Tapes.{below};
 
@@ -84,6 +84,7 @@ impl<'a, E: Packed + Copied> Front<'a, E> {
     pub(super) fn pop_copied(&mut self) -> Result<E, NoMemory>
         requires some { 0 < length self.old }
         ensures edit { IfOk result (λ edit. self.old ≡ self.new ++ edit ∷ []) }
+        ensures stays { OnErr result (self.new ≡ self.old) }
     {
         let (is_small, turns) = self.turns.split_last().unwrap();
         if *is_small {

@@ -11,7 +11,8 @@ use Rattle.pfl_link.specs.Links.{Link, InFlight, cut_to}
 use Rattle.pfl_link.specs.LinkEdits.{Stands, with_place, frame_before, frame_after, next_before, next_after, LinkEdit, Finds, FindsFormer, put_back, redone}
 
 -- what was set in a place goes back
-pub with_place-back : (ticket : ℕ) (was new : Option InFlight) (before after : ℕ) (l : Link) → Stands ticket was before l → with_place ticket was before (with_place ticket new after l) ≡ l
+pub with_place-back : (ticket : ℕ) (was new : Option InFlight) (before after : ℕ) (l : Link) → Stands ticket was before l
+    → with_place ticket was before (with_place ticket new after l) ≡ l
 with_place-back ticket was new before after l is = λ i. record {
   limit = l.limit;
   mtu = l.mtu;
@@ -24,7 +25,8 @@ pub with_place-stands : (ticket : ℕ) (at : Option InFlight) (next : ℕ) (l : 
 with_place-stands ticket at next l = record { frame = get-set_at_same nat_cmp_total exact_unsigned l.frames ticket at; next_is = refl }
 
 change-both_ways : (c : LinkChange) (ticket : ℕ) (f : InFlight)
-    → LeadsBothWays (λ l. Stands ticket (frame_before c f) (next_before c ticket l.next) l) (λ l. Stands ticket (frame_after c f) (next_after c ticket l.next) l)
+    → LeadsBothWays (λ l. Stands ticket (frame_before c f) (next_before c ticket l.next) l)
+    (λ l. Stands ticket (frame_after c f) (next_after c ticket l.next) l)
     (λ l. with_place ticket (frame_before c f) (next_before c ticket l.next) l) (λ l. with_place ticket (frame_after c f) (next_after c ticket l.next) l)
 change-both_ways Sent ticket f = record {
   put_back_finds = λ l is. with_place-stands ticket None ticket l;

@@ -76,7 +76,7 @@ fn message_of<A: Allocator>(desk: &Desk<A>, entry: &Entry) -> Message
     ensures message { flushing.messages_of desk.now.node entry.now ≡ result ∷ [] }
 {
     match *entry {
-        Entry::Marked { kind, name, .. } => told_of(desk, kind, name),
+        Entry::Marked { kind, name, .. } => marked_message(desk, kind, name),
         Entry::Request(name) => Message::UpdateRequest(name),
         Entry::Status(status) => Message::Bulk {
             creator: desk.creator(),
@@ -87,7 +87,7 @@ fn message_of<A: Allocator>(desk: &Desk<A>, entry: &Entry) -> Message
 }
 
 /// What is sent of a name on a queue.
-fn told_of<A: Allocator>(desk: &Desk<A>, kind: Kind, name: StateName) -> Message
+fn marked_message<A: Allocator>(desk: &Desk<A>, kind: Kind, name: StateName) -> Message
     requires told { sending.HasState desk.now.node kind name }
     ensures message { flushing.mark_messages desk.now.node kind name ≡ result ∷ [] }
 {

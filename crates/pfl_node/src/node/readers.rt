@@ -35,7 +35,8 @@ impl<A: Allocator> Node<A> {
     pub fn states(&self) -> &StateTable<A>
         ensures states { states_of result.now ≡ self.now.states }
         ensures limit { result.now.limit ≡ self.now.limits.states }
-        ensures timeouts { (name : StateName) (row : Row) → maps.get result.now.rows name ≡ Some row → row.timeout ≡ timeout self.now.rules row.state.rule row.state.class }
+        ensures timeouts { (name : StateName) (row : Row) → maps.get result.now.rows name ≡ Some row
+            → row.timeout ≡ timeout self.now.rules row.state.rule row.state.class }
     {
         self.desk.states()
     }

@@ -23,9 +23,9 @@ impl Play<(), View> for Compares {
 }
 
 /// The whole loads the word, and counts one more.
-pub(crate) struct Counts;
+pub(crate) struct CountsOneMore;
 
-impl Play<(), View> for Counts {
+impl Play<(), View> for CountsOneMore {
     ghost use Rattle.pfl_publish.specs.Counted.{GoesOn};
 
     ghost then = { GoesOn };

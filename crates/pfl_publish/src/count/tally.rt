@@ -2,7 +2,7 @@
 ghost use Rattle.std.specs.Prelude.{◌≡◌, ◌+◌, [], IfOk};
 ghost use Rattle.pfl_publish.specs.Counted.{whole};
 
-use crate::count::rule::{Compares, CountRule, Counts, Cuts, Unites};
+use crate::count::rule::{Compares, CountRule, CountsOneMore, Cuts, Unites};
 use crate::count::view::View;
 use atomic_table::{Seat, Table};
 use std::alloc::{AllocError, Allocator};
@@ -91,7 +91,7 @@ impl<A: Allocator> Tally<A> {
         let Half { seat: second } = mine;
         self.word.shared.join_seat::<Unites>(&mut kept.seat, second);
         self.word.shared.load::<Compares>(&mut kept.seat, 0);
-        self.word.shared.load::<Counts>(&mut kept.seat, 0);
+        self.word.shared.load::<CountsOneMore>(&mut kept.seat, 0);
         let seat = self.word.shared.split_seat::<Cuts>(&mut kept.seat);
         Half { seat }
     }

@@ -12,7 +12,8 @@ use Rattle.pfl_queue.specs.declared.edits.QueueEdit.TheVariants.{OfMark, OfName,
 use Rattle.pfl_queue.specs.Queues.{Queue}
 use Rattle.pfl_queue.specs.Edits.{with_mark, FindsFormer, redone, Finds, put_back}
 
-mark-back : (q : Queue) (name : StateName) (was at : Option Mark) (next former : ℕ) → maps.get q.marks name ≡ was → q.next ≡ former → with_mark (with_mark q name at next) name was former ≡ q
+mark-back : (q : Queue) (name : StateName) (was at : Option Mark) (next former : ℕ) → maps.get q.marks name ≡ was → q.next ≡ former
+    → with_mark (with_mark q name at next) name was former ≡ q
 mark-back q name was at next former is same =
     ap (λ m. record q { next = former; marks = m }) (set_at-back names_total names_exact q.marks name was at is) ∙ ap (λ n. record q { next = n }) (sym same)
 
@@ -25,10 +26,14 @@ edit-both_ways (OfMark name before after next_before next_after) = record {
   put_back_redone = λ q is. mark-back q name before after next_after next_before is.0 is.1;
 }
 edit-both_ways (OfName name before after) =
-    part-both_ways (λ (q : Queue). q.marks) (λ q ms. record q { marks = ms }) (λ q ms. refl) (λ q. refl) (λ q ms ns. refl) _ _ _ _ (key-both_ways names_total names_exact name before after)
+    part-both_ways (λ (q : Queue). q.marks) (λ q ms. record q { marks = ms }) (λ q ms. refl) (λ q. refl) (λ q ms ns. refl) _ _ _ _
+    (key-both_ways names_total names_exact name before after)
 edit-both_ways (OfRequest position before after) =
-    part-both_ways (λ (q : Queue). q.requests) (λ q xs. record q { requests = xs }) (λ q xs. refl) (λ q. refl) (λ q xs ys. refl) _ _ _ _ (position-both_ways position before after)
+    part-both_ways (λ (q : Queue). q.requests) (λ q xs. record q { requests = xs }) (λ q xs. refl) (λ q. refl) (λ q xs ys. refl) _ _ _ _
+    (position-both_ways position before after)
 edit-both_ways (OfStatus position before after) =
-    part-both_ways (λ (q : Queue). q.statuses) (λ q xs. record q { statuses = xs }) (λ q xs. refl) (λ q. refl) (λ q xs ys. refl) _ _ _ _ (position-both_ways position before after)
+    part-both_ways (λ (q : Queue). q.statuses) (λ q xs. record q { statuses = xs }) (λ q xs. refl) (λ q. refl) (λ q xs ys. refl) _ _ _ _
+    (position-both_ways position before after)
 edit-both_ways (OfClear position before after) =
-    part-both_ways (λ (q : Queue). q.clears) (λ q xs. record q { clears = xs }) (λ q xs. refl) (λ q. refl) (λ q xs ys. refl) _ _ _ _ (position-both_ways position before after)
+    part-both_ways (λ (q : Queue). q.clears) (λ q xs. record q { clears = xs }) (λ q xs. refl) (λ q. refl) (λ q xs ys. refl) _ _ _ _
+    (position-both_ways position before after)

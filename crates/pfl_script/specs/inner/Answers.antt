@@ -21,7 +21,8 @@ branch_text b world = show_text b.name (length b.events) b.cursor world
 
 -- The text of the reply was written, or a part of it, and why no more; without memory nothing was. W is the type of what is written to:
 -- `written` are its bytes, and `failed` says whether it failed.
-pub record WritesReply {W T : Type 0} (written : W → Option (List ℕ)) (failed : W → Bool) (reply : Reply) (old new : W) (result : Result T EngineFault) : Type 0 where
+pub record WritesReply {W T : Type 0} (written : W → Option (List ℕ)) (failed : W → Bool) (reply : Reply) (old new : W)
+    (result : Result T EngineFault) : Type 0 where
   pub whole : OnOk result (Appends (written old) (written new) (reply_text reply))
   pub stays : OnOk result (failed new ≡ failed old)
   pub untouched : IfErr result (λ e. e ≡ NoMemory → new ≡ old)

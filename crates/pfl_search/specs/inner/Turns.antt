@@ -10,16 +10,16 @@ use Rattle.pfl_world.specs.WorldEdits.{Finds, put_back}
 use Rattle.pfl_world.specs.Worlds.{World, IsWorld}
 use Rattle.pfl_search.specs.Choices.{used}
 use Rattle.pfl_language.specs.declared.choice.Choice.{Choice}
-use Rattle.pfl_search.specs.declared.turns.Turn.{Turn}
+use Rattle.pfl_search.specs.declared.turns.Candidate.{Candidate}
 
 -- the turn is of a choice that has a use left
-pub record IsOf (cs : List Choice) (t : Turn) : Type 0 where
+pub record IsOf (cs : List Choice) (t : Candidate) : Type 0 where
   pub choice : Choice
   pub at : slice_get cs t.place ≡ Some choice
   pub left : 0 < choice.uses
 
 -- The event was accepted: the world and the choices went on, and what the tape has above its former length leads back.
-pub record Entered {M : Type 0} (t : Turn) (old new : World) (tape longer : List (WorldEdit M)) (cs left : List Choice) : Type 0 where
+pub record Entered {M : Type 0} (t : Candidate) (old new : World) (tape longer : List (WorldEdit M)) (cs left : List Choice) : Type 0 where
   pub gives : Stepped
   pub accepted : step old t.event ≡ Ok gives
   pub world : new ≡ gives.world
@@ -29,7 +29,7 @@ pub record Entered {M : Type 0} (t : Turn) (old new : World) (tape longer : List
   pub leads_back : back put_back (above (length tape) longer) new ≡ old
 
 -- the event was refused, and nothing changed
-pub record Stays {M : Type 0} (t : Turn) (old new : World) (tape longer : List (WorldEdit M)) (cs left : List Choice) : Type 0 where
+pub record Stays {M : Type 0} (t : Candidate) (old new : World) (tape longer : List (WorldEdit M)) (cs left : List Choice) : Type 0 where
   pub why : Refusal
   pub refused : step old t.event ≡ Err why
   pub world : new ≡ old
@@ -37,6 +37,6 @@ pub record Stays {M : Type 0} (t : Turn) (old new : World) (tape longer : List (
   pub choices : left ≡ cs
 
 -- what becomes of a turn that is tried
-abbrev pub Enters : {M : Type 0} → Turn → World → World → List (WorldEdit M) → List (WorldEdit M) → List Choice → List Choice → Bool → Type 0
+abbrev pub Enters : {M : Type 0} → Candidate → World → World → List (WorldEdit M) → List (WorldEdit M) → List Choice → List Choice → Bool → Type 0
 Enters t old new tape longer cs left true = Entered t old new tape longer cs left
 Enters t old new tape longer cs left false = Stays t old new tape longer cs left

@@ -10,7 +10,7 @@ use Rattle.pfl_script.specs.declared.fault.EngineFault.{EngineFault}
 use Rattle.pfl_script.specs.declared.fault.EngineFault.TheVariants as engine
 use Rattle.pfl_language.specs.declared.command.Command.{Command}
 use Rattle.pfl_session.specs.Passes.{Seen, seen_in}
-use Rattle.pfl_serve.specs.Sessions.{IsFollowed, IsFollowing, IsTold, IsUnanswered, Site}
+use Rattle.pfl_serve.specs.Sessions.{IsFollowed, IsFollowing, IsSent, IsUnanswered, Site}
 
 -- what a line of which this is kept says to a session
 unfoldable pub kept_said : Kept → Option (Result SessionLine LineFault)
@@ -41,8 +41,8 @@ abbrev pub Unanswered : {M : Type 0} → Site → Command → Seen M → Seen M 
 Unanswered site command old new text = IsUnanswered site old new command × (text ≡ [])
 
 -- entries after the first n were shown
-abbrev pub IsToldOn : {M : Type 0} → Site → ℕ → Seen M → Seen M → List ℕ → Type 0
-IsToldOn site n old new text = (m : ℕ) × IsTold site (length (seen_in old)) n m old new text
+abbrev pub IsSentOn : {M : Type 0} → Site → ℕ → Seen M → Seen M → List ℕ → Type 0
+IsSentOn site n old new text = (m : ℕ) × IsSent site (length (seen_in old)) n m old new text
 
 -- an answer to `follow` that may lack its last line
 abbrev pub IsFollowingOn : {M : Type 0} → Site → Option ℕ → Seen M → Seen M → List ℕ → Type 0

@@ -19,15 +19,15 @@ use Rattle.pfl_session.specs.declared.kept.command.Asked.{Asked}
 use Rattle.pfl_session.specs.declared.kept.command.Asked.TheVariants as asked
 use Rattle.pfl_session.specs.declared.kept.command.KeptCommand.{KeptCommand}
 use Rattle.pfl_session.specs.declared.kept.command.KeptCommand.TheVariants as kept_command
-use Rattle.pfl_session.specs.declared.kept.event.KeptEvent.{KeptEvent}
-use Rattle.pfl_session.specs.declared.kept.event.KeptEvent.TheVariants as kept_event
+use Rattle.pfl_session.specs.declared.kept.event.JournalEvent.{JournalEvent}
+use Rattle.pfl_session.specs.declared.kept.event.JournalEvent.TheVariants as kept_event
 use Rattle.pfl_session.specs.declared.kept.outcome.KeptOutcome.{KeptOutcome}
 use Rattle.pfl_session.specs.declared.kept.outcome.KeptOutcome.TheVariants as kept_outcome
 use Rattle.pfl_session.specs.declared.kept.reply.KeptReply.{KeptReply}
 use Rattle.pfl_session.specs.declared.kept.reply.KeptReply.TheVariants as kept_reply
 
 -- the event
-abbrev pub event_in : KeptEvent → Event
+abbrev pub event_in : JournalEvent → Event
 event_in (kept_event.Packet node dir packet) = event.At node (at_node.Packet dir packet)
 event_in (kept_event.Tick node ms) = event.At node (at_node.Tick ms)
 event_in (kept_event.Purge node) = event.At node at_node.Purge

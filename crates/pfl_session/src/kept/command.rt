@@ -4,7 +4,7 @@ ghost use Rattle.std.specs.Prelude.{◌≡◌, IsTrue, MatchOption};
 ghost use Rattle.pfl_session.specs.inner.Fitting.{is_long, has_long_word};
 ghost use Rattle.pfl_session.specs.inner.Kept.{asked_in, command_in};
 
-use crate::kept::event::KeptEvent;
+use crate::kept::event::JournalEvent;
 use crate::kept::short_word::ShortWord;
 use pfl_language::{BranchWord, Command};
 
@@ -30,11 +30,11 @@ pub(crate) enum KeptCommand {
 pub(crate) enum Asked {
     Step {
         name: ShortWord,
-        event: KeptEvent,
+        event: JournalEvent,
     },
     WhyStep {
         name: ShortWord,
-        event: KeptEvent,
+        event: JournalEvent,
     },
     Plain {
         name: ShortWord,
@@ -58,12 +58,12 @@ impl Asked {
         match command {
             Command::Step { branch, event } => {
                 let name = ShortWord::of(branch)?;
-                let event = KeptEvent::of(event);
+                let event = JournalEvent::of(event);
                 Some(Asked::Step { name, event })
             }
             Command::WhyStep { branch, event } => {
                 let name = ShortWord::of(branch)?;
-                let event = KeptEvent::of(event);
+                let event = JournalEvent::of(event);
                 Some(Asked::WhyStep { name, event })
             }
             Command::Fork { from, place, name } => {

@@ -8,7 +8,7 @@ use pfl_language::{Event, FrameEvent, NodeEvent};
 
 /// An event in 64 bytes, where an [`Event`] takes 72: one tag and the small fields fit in front of a packet.
 #[derive(Drop)]
-pub(crate) enum KeptEvent {
+pub(crate) enum JournalEvent {
     Packet {
         node: NodeId,
         dir: Dir,
@@ -75,48 +75,48 @@ fn of(ticket: &u32, event: FrameEvent) -> Event
     }
 }
 
-impl KeptEvent {
+impl JournalEvent {
     /// What happens at this node.
-    fn at_node(node: NodeId, event: &NodeEvent) -> KeptEvent
+    fn at_node(node: NodeId, event: &NodeEvent) -> JournalEvent
         ensures { event_in result ≡ Event.At node event.now }
     {
         match event {
-            NodeEvent::Packet { dir, packet } => KeptEvent::Packet {
+            NodeEvent::Packet { dir, packet } => JournalEvent::Packet {
                 node,
                 dir: *dir,
                 packet: *packet,
             },
-            NodeEvent::Tick { ms } => KeptEvent::Tick { node, ms: *ms },
-            NodeEvent::Purge => KeptEvent::Purge { node },
-            NodeEvent::Release => KeptEvent::Release { node },
-            NodeEvent::Kill { name } => KeptEvent::Kill { node, name: *name },
-            NodeEvent::Clear => KeptEvent::Clear { node },
-            NodeEvent::BulkTurn => KeptEvent::BulkTurn { node },
-            NodeEvent::BulkRetry => KeptEvent::BulkRetry { node },
+            NodeEvent::Tick { ms } => JournalEvent::Tick { node, ms: *ms },
+            NodeEvent::Purge => JournalEvent::Purge { node },
+            NodeEvent::Release => JournalEvent::Release { node },
+            NodeEvent::Kill { name } => JournalEvent::Kill { node, name: *name },
+            NodeEvent::Clear => JournalEvent::Clear { node },
+            NodeEvent::BulkTurn => JournalEvent::BulkTurn { node },
+            NodeEvent::BulkRetry => JournalEvent::BulkRetry { node },
         }
     }
 
     /// What happens to the frame of this ticket.
-    fn of_frame(ticket: u32, event: &FrameEvent) -> KeptEvent
+    fn of_frame(ticket: u32, event: &FrameEvent) -> JournalEvent
         ensures { event_in result ≡ Event.Of ticket event.now }
     {
         match event {
-            FrameEvent::Deliver => KeptEvent::Deliver { ticket },
-            FrameEvent::Lose => KeptEvent::Lose { ticket },
-            FrameEvent::Repeat => KeptEvent::Repeat { ticket },
-            FrameEvent::Cut { len } => KeptEvent::Cut { ticket, len: *len },
+            FrameEvent::Deliver => JournalEvent::Deliver { ticket },
+            FrameEvent::Lose => JournalEvent::Lose { ticket },
+            FrameEvent::Repeat => JournalEvent::Repeat { ticket },
+            FrameEvent::Cut { len } => JournalEvent::Cut { ticket, len: *len },
         }
     }
 
     /// The same event.
-    pub(crate) fn of(event: &Event) -> KeptEvent
+    pub(crate) fn of(event: &Event) -> JournalEvent
         ensures { event_in result ≡ event.now }
     {
         match event {
-            Event::At { node, event } => KeptEvent::at_node(*node, event),
-            Event::Flush { node } => KeptEvent::Flush { node: *node },
-            Event::Of { ticket, event } => KeptEvent::of_frame(*ticket, event),
-            Event::Restart { node } => KeptEvent::Restart { node: *node },
+            Event::At { node, event } => JournalEvent::at_node(*node, event),
+            Event::Flush { node } => JournalEvent::Flush { node: *node },
+            Event::Of { ticket, event } => JournalEvent::of_frame(*ticket, event),
+            Event::Restart { node } => JournalEvent::Restart { node: *node },
         }
     }
 
@@ -125,26 +125,26 @@ impl KeptEvent {
         ensures { result ≡ event_in self.now }
     {
         match self {
-            KeptEvent::Packet { node, dir, packet } => at(
+            JournalEvent::Packet { node, dir, packet } => at(
                 node,
                 NodeEvent::Packet {
                     dir: *dir,
                     packet: *packet,
                 },
             ),
-            KeptEvent::Tick { node, ms } => at(node, NodeEvent::Tick { ms: *ms }),
-            KeptEvent::Purge { node } => at(node, NodeEvent::Purge),
-            KeptEvent::Release { node } => at(node, NodeEvent::Release),
-            KeptEvent::Kill { node, name } => at(node, NodeEvent::Kill { name: *name }),
-            KeptEvent::Clear { node } => at(node, NodeEvent::Clear),
-            KeptEvent::BulkTurn { node } => at(node, NodeEvent::BulkTurn),
-            KeptEvent::BulkRetry { node } => at(node, NodeEvent::BulkRetry),
-            KeptEvent::Flush { node } => Event::Flush { node: *node },
-            KeptEvent::Deliver { ticket } => of(ticket, FrameEvent::Deliver),
-            KeptEvent::Lose { ticket } => of(ticket, FrameEvent::Lose),
-            KeptEvent::Repeat { ticket } => of(ticket, FrameEvent::Repeat),
-            KeptEvent::Cut { ticket, len } => of(ticket, FrameEvent::Cut { len: *len }),
-            KeptEvent::Restart { node } => Event::Restart { node: *node },
+            JournalEvent::Tick { node, ms } => at(node, NodeEvent::Tick { ms: *ms }),
+            JournalEvent::Purge { node } => at(node, NodeEvent::Purge),
+            JournalEvent::Release { node } => at(node, NodeEvent::Release),
+            JournalEvent::Kill { node, name } => at(node, NodeEvent::Kill { name: *name }),
+            JournalEvent::Clear { node } => at(node, NodeEvent::Clear),
+            JournalEvent::BulkTurn { node } => at(node, NodeEvent::BulkTurn),
+            JournalEvent::BulkRetry { node } => at(node, NodeEvent::BulkRetry),
+            JournalEvent::Flush { node } => Event::Flush { node: *node },
+            JournalEvent::Deliver { ticket } => of(ticket, FrameEvent::Deliver),
+            JournalEvent::Lose { ticket } => of(ticket, FrameEvent::Lose),
+            JournalEvent::Repeat { ticket } => of(ticket, FrameEvent::Repeat),
+            JournalEvent::Cut { ticket, len } => of(ticket, FrameEvent::Cut { len: *len }),
+            JournalEvent::Restart { node } => Event::Restart { node: *node },
         }
     }
 }

@@ -7,7 +7,7 @@ ghost use Rattle.pfl_session.specs.inner.Kept.{entry_in};
 
 use crate::entry::Entry;
 use crate::kept::command::{Asked, KeptCommand};
-use crate::kept::event::KeptEvent;
+use crate::kept::event::JournalEvent;
 use crate::kept::reply::KeptReply;
 use crate::kept::short_word::ShortWord;
 use pfl_language::Command;
@@ -21,13 +21,13 @@ pub(crate) enum Form<A: Allocator> {
     Step {
         name: ShortWord,
         session: u32,
-        event: KeptEvent,
+        event: JournalEvent,
         reply: KeptReply<A>,
     },
     WhyStep {
         name: ShortWord,
         session: u32,
-        event: KeptEvent,
+        event: JournalEvent,
         reply: KeptReply<A>,
     },
     Plain {

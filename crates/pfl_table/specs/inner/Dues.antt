@@ -66,7 +66,8 @@ pub record MayMove (d : Dues) (slot : ℕ) (was : Row) : Type 0 where
 
 -- they are for these rows with another one of the same name at a slot
 abbrev pub Moves : Dues → Dues → ℕ → Row → Row → Type 0
-Moves old new slot was r = (limit : ℕ) (front back : List (Link Row)) → AreDues limit (front ++ link slot was ∷ back) old → slot < limit → Lacks slot (front ++ back)
+Moves old new slot was r = (limit : ℕ) (front back : List (Link Row)) → AreDues limit (front ++ link slot was ∷ back) old → slot < limit
+    → Lacks slot (front ++ back)
     → r.state.name ≡ was.state.name → HasNone name_cmp (λ q. q.state.name) (front ++ back) r.state.name → AreDues limit (front ++ link slot r ∷ back) new
 
 -- ---- rows that were used since they were filed

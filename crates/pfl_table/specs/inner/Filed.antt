@@ -83,7 +83,8 @@ pub record HasNoKey (links : List (Link Row)) (r : Row) : Type 0 where
 
 -- no row but the one of its name has a key of this one
 abbrev pub OthersHaveNoKey : List (Link Row) → Row → Type 0
-OthersHaveNoKey links r = (slot : ℕ) (was : Row) (front back : List (Link Row)) → links ≡ front ++ link slot was ∷ back → name_of r ≡ name_of was → HasNoKey (front ++ back) r
+OthersHaveNoKey links r = (slot : ℕ) (was : Row) (front back : List (Link Row)) → links ≡ front ++ link slot was ∷ back
+    → name_of r ≡ name_of was → HasNoKey (front ++ back) r
 
 -- the indexes are for rows to which one more may come, at the slot
 pub record MayGain {A : Type 0} (i : Indexes A) (slot : ℕ) (r : Row) : Type 0 where
@@ -99,7 +100,8 @@ pub record MayGain {A : Type 0} (i : Indexes A) (slot : ℕ) (r : Row) : Type 0 
 
 -- they are for these rows with one more, at the slot
 abbrev pub Gains : {A : Type 0} → Indexes A → Indexes A → ℕ → Row → Type 0
-Gains old new slot r = (limit : ℕ) (front back : List (Link Row)) → AreIndexes limit (front ++ back) old → slot < limit → Lacks slot (front ++ back) → HasNoKey (front ++ back) r
+Gains old new slot r = (limit : ℕ) (front back : List (Link Row)) → AreIndexes limit (front ++ back) old → slot < limit
+    → Lacks slot (front ++ back) → HasNoKey (front ++ back) r
     → AreIndexes limit (front ++ link slot r ∷ back) new
 
 -- they are for these rows without one, which stood at the slot
@@ -118,7 +120,8 @@ pub record MayChange {A : Type 0} (i : Indexes A) (slot : ℕ) (was : Row) : Typ
 
 -- they are for these rows with another one of the same name at a slot
 abbrev pub Changes : {A : Type 0} → Indexes A → Indexes A → ℕ → Row → Row → Type 0
-Changes old new slot was r = (limit : ℕ) (front back : List (Link Row)) → AreIndexes limit (front ++ link slot was ∷ back) old → slot < limit → Lacks slot (front ++ back)
+Changes old new slot was r = (limit : ℕ) (front back : List (Link Row)) → AreIndexes limit (front ++ link slot was ∷ back) old
+    → slot < limit → Lacks slot (front ++ back)
     → name_of r ≡ name_of was → HasNoKey (front ++ back) r
     → AreIndexes limit (front ++ link slot r ∷ back) new
 
@@ -131,7 +134,8 @@ pub record SameKeys (was r : Row) : Type 0 where
 
 -- they are for these rows with another one of the same keys and rule at a slot
 abbrev pub Refiles : {A : Type 0} → Indexes A → Indexes A → ℕ → Row → Row → Type 0
-Refiles old new slot was r = (limit : ℕ) (front back : List (Link Row)) → AreIndexes limit (front ++ link slot was ∷ back) old → slot < limit → Lacks slot (front ++ back) → SameKeys was r
+Refiles old new slot was r = (limit : ℕ) (front back : List (Link Row)) → AreIndexes limit (front ++ link slot was ∷ back) old
+    → slot < limit → Lacks slot (front ++ back) → SameKeys was r
     → HasNone name_cmp name_of (front ++ back) (name_of r) → AreIndexes limit (front ++ link slot r ∷ back) new
 
 -- ---- what is kept

@@ -9,7 +9,8 @@ use Rattle.pfl_timeline.specs.Commands.{explanation}
 use Rattle.pfl_timeline.specs.Replies.{Reply, Shown}
 
 -- the first k events have a world, and this is what was seen of it
-pub record IsSeen {W S : Type 0} (sees : Reply → W → W → S → Type 0) (name : List ℕ) (opening : World) (events : List Event) (k : ℕ) (old new : W) (seen : S) : Type 0 where
+pub record IsSeen {W S : Type 0} (sees : Reply → W → W → S → Type 0) (name : List ℕ) (opening : World) (events : List Event) (k : ℕ)
+    (old new : W) (seen : S) : Type 0 where
   pub world : World
   pub run_to : run opening (take k events) ≡ Some world
   pub sees_it : sees (Shown name (length events) k world) old new seen

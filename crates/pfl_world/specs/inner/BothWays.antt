@@ -15,7 +15,8 @@ use Rattle.pfl_world.specs.WorldEdits.{Boots, with_boot, Finds, FindsFormer, put
 use Rattle.pfl_world.specs.Worlds.{World}
 
 -- a node with the next boot leads both ways
-boot-both_ways : (id : NodeId) (before after : Node) (former next : ℕ) → LeadsBothWays (Boots id before former) (Boots id after next) (λ w. with_boot w id before former) (λ w. with_boot w id after next)
+boot-both_ways : (id : NodeId) (before after : Node) (former next : ℕ)
+    → LeadsBothWays (Boots id before former) (Boots id after next) (λ w. with_boot w id before former) (λ w. with_boot w id after next)
 boot-both_ways A before after former next = record {
   put_back_finds = λ w is. record { node = refl; next = refl };
   redone_finds = λ w is. record { node = refl; next = refl };
@@ -31,7 +32,10 @@ boot-both_ways B before after former next = record {
 
 -- each edit leads both ways
 pub edit-both_ways : {M : Type 0} (e : WorldEdit M) → LeadsBothWays (FindsFormer e) (Finds e) (put_back e) (redone e)
-edit-both_ways (OfNode A e) = part-both_ways (λ (w : World). w.a) (λ w n. record w { a = n }) (λ w n. refl) (λ w. refl) (λ w n m. refl) _ _ _ _ (nodes.edit-both_ways e)
-edit-both_ways (OfNode B e) = part-both_ways (λ (w : World). w.b) (λ w n. record w { b = n }) (λ w n. refl) (λ w. refl) (λ w n m. refl) _ _ _ _ (nodes.edit-both_ways e)
-edit-both_ways (OfLink e) = part-both_ways (λ (w : World). w.link) (λ w l. record w { link = l }) (λ w l. refl) (λ w. refl) (λ w l m. refl) _ _ _ _ (links.edit-both_ways e)
+edit-both_ways (OfNode A e) = part-both_ways (λ (w : World). w.a) (λ w n. record w { a = n }) (λ w n. refl) (λ w. refl)
+    (λ w n m. refl) _ _ _ _ (nodes.edit-both_ways e)
+edit-both_ways (OfNode B e) = part-both_ways (λ (w : World). w.b) (λ w n. record w { b = n }) (λ w n. refl) (λ w. refl)
+    (λ w n m. refl) _ _ _ _ (nodes.edit-both_ways e)
+edit-both_ways (OfLink e) = part-both_ways (λ (w : World). w.link) (λ w l. record w { link = l }) (λ w l. refl) (λ w. refl)
+    (λ w l m. refl) _ _ _ _ (links.edit-both_ways e)
 edit-both_ways (OfRestart e) = boot-both_ways e.node e.former (restarted e.former e.boot) e.boot (e.boot + 1)

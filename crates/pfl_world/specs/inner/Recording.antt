@@ -1,22 +1,13 @@
 -- What was recorded of the pair, in a list of edits that grows.
-use Rattle.std.specs.Prelude.{◌≡◌, ℕ, ◌+◌, List, ◌++◌, length}
+use Rattle.std.specs.Prelude.{◌≡◌, List, ◌++◌}
 use Rattle.std.specs.List.{AllByRecursion}
-use Rattle.pfl_edits.specs.Changes.{Edits}
 use Rattle.pfl_world.specs.declared.edit.WorldEdit.{WorldEdit}
 use Rattle.pfl_world.specs.WorldEdits.{WorldLeadsBack}
 use Rattle.pfl_world.specs.Worlds.{World}
 
 -- edits of this kind were appended, which lead from the old pair to the new one and back
-pub record Recorded {M : Type 0} (Kind : WorldEdit M → Type 0) (old new : World) (before after : Edits (WorldEdit M)) : Type 0 where
+pub record Recorded {M : Type 0} (Kind : WorldEdit M → Type 0) (old new : World) (before after : List (WorldEdit M)) : Type 0 where
   pub edits : List (WorldEdit M)
-  pub appended : after.list ≡ before.list ++ edits
+  pub appended : after ≡ before ++ edits
   pub leads_back : WorldLeadsBack edits old new
   pub kind : AllByRecursion Kind edits
-
--- how many edits there are
-abbrev pub count : {E : Type 0} → Edits E → ℕ
-count es = length es.list
-
--- for how many there is room in all
-abbrev pub room : {E : Type 0} → Edits E → ℕ
-room es = es.spare + length es.list

@@ -26,7 +26,8 @@ returns-then-slot-rings-clause-taken g c = λ room.
     let items = rw c.unwrap.ensures at c.push.ensures.items in
     let used = c.requires.room.1.used in
     let same = c.grow.ensures.slot ∙ used in
-    rw (items, same) (take-fresh _ _ _ _ _ room.kept c.args.value none room.room (node_of c.grow.new.self) (λ i ne. c.grow.ensures.grown.others i (λ e. ne (e ∙ used))))
+    rw (items, same) (take-fresh _ _ _ _ _ room.kept c.args.value none room.room (node_of c.grow.new.self)
+    (λ i ne. c.grow.ensures.grown.others i (λ e. ne (e ∙ used))))
 
 pub unlink-requires : goal.unlink-requires
 unlink-requires g c =

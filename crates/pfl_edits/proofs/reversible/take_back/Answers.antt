@@ -19,5 +19,6 @@ loop-edit-preserved g c =
     rw c.undo.ensures.undone (record {
       room = c.pop.ensures.room ∙ c.loop-edit.invariant.room;
       fits = older_fit r.finds r.allows r.put_back _ _ _ c.loop-edit.value c.in-Some.ensures.edit c.loop-edit.invariant.fits;
-      rest = older_lead r.finds r.allows r.put_back _ _ _ c.loop-edit.value c.in-Some.ensures.edit (back r.put_back c.args.change.now.list c.args.value.now) c.loop-edit.invariant.rest;
+      rest = older_lead r.finds r.allows r.put_back _ _ _ c.loop-edit.value c.in-Some.ensures.edit
+          (back r.put_back c.args.change.now.list c.args.value.now) c.loop-edit.invariant.rest;
     })

@@ -17,7 +17,10 @@ pub returns-in-Equal : goal.returns-in-Equal
 returns-in-Equal g c =
     let k = g.X.Keyed in
     let l = g.met.X.Keyed in
-    record { place = search_here l.total l.exact k.key _ c.requires.rising _ (omega arith) _ c.index-rows-middle.is _ _ c.key.ensures.key c.in-Equal.ensures.order }
+    record {
+      place = search_here l.total l.exact k.key _ c.requires.rising _
+          (omega arith) _ c.index-rows-middle.is _ _ c.key.ensures.key c.in-Equal.ensures.order;
+    }
 
 pub loop-low-preserved : goal.loop-low-preserved
 loop-low-preserved g c =
@@ -27,5 +30,6 @@ loop-low-preserved g c =
       order = omega arith;
       within = omega arith;
       before = c.loop-low.invariant.before;
-      behind = search_before l.total l.exact k.key _ c.requires.rising _ (omega arith) _ c.index-rows-middle.is _ _ c.key.ensures.key c.in-Greater.ensures.order;
+      behind = search_before l.total l.exact k.key _ c.requires.rising _
+          (omega arith) _ c.index-rows-middle.is _ _ c.key.ensures.key c.in-Greater.ensures.order;
     }

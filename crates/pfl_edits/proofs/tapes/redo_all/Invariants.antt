@@ -1,4 +1,4 @@
-use Rattle.std.proofs.Common.{◌≡◌, ◌≤◌, ◌++◌, length}
+use Rattle.std.proofs.Common.{◌≡◌, ◌+◌, ◌≤◌, ◌++◌, length}
 use Rattle.pfl_edits.specs.Redoing.{AreUndone}
 use Rattle.pfl_edits.proofs.tapes.redo_all.Given as goal
 
@@ -9,9 +9,11 @@ invariant-loop-kept g l =
     let u = g.T.Redoable.undone in
     record {
       room : length l.undone.list ≤ l.tape.spare;
+      spare : l.tape.spare + length l.fn.undone.list ≡ l.fn.tape.spare + length l.undone.list;
       some : AreUndone r.finds r.allows r.put_back u l.undone.list l.value;
       same : (of : AreUndone r.finds r.allows r.put_back u l.fn.undone.list l.fn.value)
-          → (left : AreUndone r.finds r.allows r.put_back u l.undone.list l.value) × (left.led_to ≡ of.led_to) × (l.tape.list ++ left.edits ≡ l.fn.tape.list ++ of.edits);
+          → (left : AreUndone r.finds r.allows r.put_back u l.undone.list l.value) × (left.led_to ≡ of.led_to)
+          × (l.tape.list ++ left.edits ≡ l.fn.tape.list ++ of.edits);
     }
 
 abbrev pub decreases-loop-kept : goal.decreases-loop-kept

@@ -30,13 +30,16 @@ loop-tape-preserved-in-Some g c =
     let had = c.loop-tape.undone.list in
     let pushed = c.push.ensures.list ∙ ap (λ x. had ++ x ∷ []) c.set_aside.ensures.kept in
     let aside = ap (λ us. us ++ set_aside u rest) pushed
-    ∙ (append_assoc had (u c.in-Some.edit ∷ []) (set_aside u rest) ∙ (ap (λ us. had ++ us) (sym (set_aside-newest u _ _ _ more)) ∙ c.loop-tape.invariant.aside)) in
+    ∙ (append_assoc had (u c.in-Some.edit ∷ []) (set_aside u rest)
+    ∙ (ap (λ us. had ++ us) (sym (set_aside-newest u _ _ _ more)) ∙ c.loop-tape.invariant.aside)) in
     rw c.set_aside.ensures.value (record {
       within = omega (arith, length_newest _ _ _ is);
       kept = sym (below_newest _ _ _ is c.args.mark under) ∙ c.loop-tape.invariant.kept;
       room = c.in-Some.ensures.room ∙ c.loop-tape.invariant.room;
       fits = older_fit r.finds r.allows r.put_back _ _ _ c.loop-tape.value more c.loop-tape.invariant.fits;
-      rest = older_lead r.finds r.allows r.put_back _ _ _ c.loop-tape.value more (back r.put_back (above c.args.mark c.args.tape.now.list) c.args.value.now) c.loop-tape.invariant.rest;
+      rest = older_lead r.finds r.allows r.put_back _ _ _ c.loop-tape.value more
+          (back r.put_back (above c.args.mark c.args.tape.now.list) c.args.value.now) c.loop-tape.invariant.rest;
+      left = omega (arith, length_newest _ _ _ more, c.loop-tape.invariant.left, c.push.ensures.spare);
       enough = omega (arith, length_newest _ _ _ more, c.loop-tape.invariant.enough, c.push.ensures.spare);
       aside = aside;
     })

@@ -1,4 +1,4 @@
-use Rattle.std.proofs.Common.{◌≡◌, ◌≤◌, ◌++◌, length}
+use Rattle.std.proofs.Common.{◌≡◌, ◌+◌, ◌≤◌, ◌++◌, length}
 use Rattle.pfl_edits.specs.Changes.{back, Fits}
 use Rattle.pfl_edits.specs.Redoing.{set_aside}
 use Rattle.pfl_edits.specs.Tapes.{above, below}
@@ -15,6 +15,7 @@ invariant-loop-tape g l =
       room : l.tape.spare ≡ l.fn.tape.spare;
       fits : Fits r.finds r.allows r.put_back (above l.mark l.tape.list) l.value;
       rest : back r.put_back (above l.mark l.tape.list) l.value ≡ back r.put_back (above l.mark l.fn.tape.list) l.fn.value;
+      left : l.undone.spare + length (above l.mark l.fn.tape.list) ≡ l.fn.undone.spare + length (above l.mark l.tape.list);
       enough : length (above l.mark l.tape.list) ≤ l.undone.spare;
       aside : l.undone.list ++ set_aside u (above l.mark l.tape.list) ≡ l.fn.undone.list ++ set_aside u (above l.mark l.fn.tape.list);
     }

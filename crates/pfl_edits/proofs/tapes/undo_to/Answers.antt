@@ -28,5 +28,6 @@ loop-tape-preserved-in-Some g c =
       kept = sym (below_newest _ _ _ is c.args.mark under) ∙ c.loop-tape.invariant.kept;
       room = c.in-Some.ensures.room ∙ c.loop-tape.invariant.room;
       fits = older_fit r.finds r.allows r.put_back _ _ _ c.loop-tape.value more c.loop-tape.invariant.fits;
-      rest = older_lead r.finds r.allows r.put_back _ _ _ c.loop-tape.value more (back r.put_back (above c.args.mark c.args.tape.now.list) c.args.value.now) c.loop-tape.invariant.rest;
+      rest = older_lead r.finds r.allows r.put_back _ _ _ c.loop-tape.value more
+          (back r.put_back (above c.args.mark c.args.tape.now.list) c.args.value.now) c.loop-tape.invariant.rest;
     })

@@ -8,7 +8,8 @@ use Rattle.pfl_host.proofs.closing.first_fault.Goals as goal
 pub loop-seat-preserved : goal.loop-seat-preserved
 loop-seat-preserved g c =
     let steps = c.in-Some.ensures.steps in
-    rw c.first_of-fault.ensures (first-more {X = EndedSeat g.row.I.Denot g.row.O.Denot} (λ s. s.result) c.loop-seat.fault c.in-Some.seat (into_iter_items c.next.new.self) _ (rw steps.0 at c.loop-seat.invariant))
+    rw c.first_of-fault.ensures (first-more {X = EndedSeat g.row.I.Denot g.row.O.Denot} (λ s. s.result) c.loop-seat.fault c.in-Some.seat
+    (into_iter_items c.next.new.self) _ (rw steps.0 at c.loop-seat.invariant))
 
 -- all have ended
 pub returns : goal.returns

@@ -16,4 +16,6 @@ pub returns-in-Err-with_digit-clause-exact : goal.returns-in-Err-with_digit-clau
 returns-in-Err-with_digit-clause-exact c =
     c.loop-byte.invariant.same
     ∙ ap (λ bytes. said_before c.args.greatest c.loop-byte.n (cut_at c.args.separator bytes)) c.in-Some-split_first.ensures.cases.0
-    ∙ before_stop c.args.separator c.args.greatest c.loop-byte.n c.in-Some-split_first.byte.now c.in-Err-with_digit.fault c.in-Some-split_first.others.now (ne_eqb c.in-Some-split_first.byte.now c.args.separator c.if-byte-separator.false) c.in-Err-with_digit.ensures.exact
+    ∙ before_stop c.args.separator c.args.greatest c.loop-byte.n c.in-Some-split_first.byte.now c.in-Err-with_digit.fault
+    c.in-Some-split_first.others.now
+    (ne_eqb c.in-Some-split_first.byte.now c.args.separator c.if-byte-separator.false) c.in-Err-with_digit.ensures.exact

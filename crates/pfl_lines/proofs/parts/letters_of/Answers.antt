@@ -13,10 +13,12 @@ loop-letter-preserved c = record {
 
 pub returns-then-is_empty : goal.returns-then-is_empty
 returns-then-is_empty c =
-    sym (letters_whole c.args.word.now c.loop-letter.rest.now c.loop-letter.flags c.loop-letter.letter-index c.loop-letter-test.false c.loop-letter.invariant.read
+    sym (letters_whole c.args.word.now c.loop-letter.rest.now c.loop-letter.flags c.loop-letter.letter-index c.loop-letter-test.false
+    c.loop-letter.invariant.read
     ∙ none_left c.loop-letter.flags c.loop-letter.rest.now c.is_empty.result c.is_empty.ensures c.if-is_empty.true)
 
 pub returns-else-is_empty : goal.returns-else-is_empty
 returns-else-is_empty c =
-    sym (letters_whole c.args.word.now c.loop-letter.rest.now c.loop-letter.flags c.loop-letter.letter-index c.loop-letter-test.false c.loop-letter.invariant.read
+    sym (letters_whole c.args.word.now c.loop-letter.rest.now c.loop-letter.flags c.loop-letter.letter-index c.loop-letter-test.false
+    c.loop-letter.invariant.read
     ∙ some_left c.loop-letter.flags c.loop-letter.rest.now c.is_empty.result c.is_empty.ensures c.if-is_empty.false)

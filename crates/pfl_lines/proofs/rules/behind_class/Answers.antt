@@ -9,4 +9,5 @@ pub returns-in-Some : goal.returns-in-Some
 returns-in-Some c =
     c.behind_word-in-Some.ensures
     ∙ (ap (λ (name : List ℕ). behind_word name (words c.in-Some.rest.now)) c.word.ensures.word
-    ∙ sym (class_behind c.args.class (words c.args.line.now) (words c.in-Some.rest.now) (sym c.behind_word.ensures ∙ ap (option_map (λ x. words x.now)) c.in-Some.is)))
+    ∙ sym (class_behind c.args.class (words c.args.line.now) (words c.in-Some.rest.now) (sym c.behind_word.ensures
+    ∙ ap (option_map (λ x. words x.now)) c.in-Some.is)))

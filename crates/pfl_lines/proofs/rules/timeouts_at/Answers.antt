@@ -8,7 +8,8 @@ use Rattle.pfl_lines.proofs.rules.timeouts_at.Goals as goal
 
 pub loop-i-preserved : goal.loop-i-preserved
 loop-i-preserved c = record {
-  read = read-next classes TcpFirst (words c.args.line.now) (words c.loop-i.rest.now) (words c.in_ok-seconds.others.now) c.loop-i.timeouts c.loop-i.i c.in_ok-seconds.seconds
+  read = read-next classes TcpFirst (words c.args.line.now) (words c.loop-i.rest.now)
+      (words c.in_ok-seconds.others.now) c.loop-i.timeouts c.loop-i.i c.in_ok-seconds.seconds
       c.loop-i-test.true (omega (arith, c.loop-i-test.true, c.loop-i.invariant.all)) c.loop-i.invariant.read c.in_ok-seconds.ensures;
   all = length-set c.loop-i.timeouts c.loop-i.i c.in_ok-seconds.seconds ∙ c.loop-i.invariant.all;
 }

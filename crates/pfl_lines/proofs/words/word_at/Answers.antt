@@ -20,6 +20,7 @@ not_empty (b ∷ rest) e h i j = cc
 
 pub returns : goal.returns
 returns c = elim c.skip_blanks-line.ensures.begins [
-  | inl h ↦ first c.args.line.now c.skip_blanks-line.result.now c.word_len-end.result c.skip_blanks-line.ensures.words h c.word_len-end.ensures.front c.word_len-end.ensures.behind
+  | inl h ↦ first c.args.line.now c.skip_blanks-line.result.now c.word_len-end.result c.skip_blanks-line.ensures.words h
+      c.word_len-end.ensures.front c.word_len-end.ensures.behind
   | inr h ↦ absurd (not_empty c.skip_blanks-line.result.now c.is_empty.result h c.is_empty.ensures c.if-is_empty.false)
 ]

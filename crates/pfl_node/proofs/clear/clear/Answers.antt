@@ -9,28 +9,31 @@ use Rattle.pfl_node.proofs.Cleared.{cleared-is}
 use Rattle.pfl_node.proofs.OnePoint.{stops-there, ends-there}
 use Rattle.pfl_node.proofs.clear.clear.Goals as goal
 
-pub returns-in_err-tell_clear : goal.returns-in_err-tell_clear
-returns-in_err-tell_clear g c =
+pub returns-in_err-announce_clear : goal.returns-in_err-announce_clear
+returns-in_err-announce_clear g c =
     let p = err_from_is_err_and c.from_residual.result c.from_residual.ensures.1 in
     let n = c.args.desk.now.node in
     let bound : c.saturating_sub-last.result ≡ n.next_id - 1 = c.saturating_sub-last.ensures ∙ ap (λ i. i - 1) c.next_id.ensures.next_id in
-    let meant = cleared-is n c.forget_all.new.desk.node c.creator-creator.result c.saturating_sub-last.result c.forget_all.ensures.node c.creator-creator.ensures.creator bound in
+    let meant = cleared-is n c.forget_all.new.desk.node c.creator-creator.result c.saturating_sub-last.result c.forget_all.ensures.node
+    c.creator-creator.ensures.creator bound in
     record {
-      went = rw p.1 (stops-there ℕ p.0 (cleared n) (ap is_overfull (sym meant) ∙ c.in_err-tell_clear.ensures.full));
+      went = rw p.1 (stops-there ℕ p.0 (cleared n) (ap is_overfull (sym meant) ∙ c.in_err-announce_clear.ensures.full));
       node = rw p.1 tt;
       count = rw p.1 tt;
-      writes = writes-then (4 * maps.len n.states) 2 _ _ _ c.forget_all.ensures.writes c.tell_clear.ensures.writes;
+      writes = writes-then (4 * maps.len n.states) 2 _ _ _ c.forget_all.ensures.writes c.announce_clear.ensures.writes;
     }
 
 pub returns : goal.returns
 returns g c =
     let n = c.args.desk.now.node in
     let bound : c.saturating_sub-last.result ≡ n.next_id - 1 = c.saturating_sub-last.ensures ∙ ap (λ i. i - 1) c.next_id.ensures.next_id in
-    let meant = cleared-is n c.forget_all.new.desk.node c.creator-creator.result c.saturating_sub-last.result c.forget_all.ensures.node c.creator-creator.ensures.creator bound in
-    let node = c.in_ok-tell_clear.ensures.node ∙ meant in
+    let meant = cleared-is n c.forget_all.new.desk.node c.creator-creator.result c.saturating_sub-last.result c.forget_all.ensures.node
+    c.creator-creator.ensures.creator bound in
+    let node = c.in_ok-announce_clear.ensures.node ∙ meant in
     record {
-      went = ends-there c.len-count.result c.is_overcounted.result (cleared n) c.tell_clear.new.self.node node c.is_overcounted.ensures.room c.is_overcounted.ensures.counted;
+      went = ends-there c.len-count.result c.is_overcounted.result
+          (cleared n) c.announce_clear.new.self.node node c.is_overcounted.ensures.room c.is_overcounted.ensures.counted;
       node = node;
       count = c.len-count.ensures.states ∙ ap (λ (m : States). maps.len m) c.states.ensures.states;
-      writes = writes-then (4 * maps.len n.states) 2 _ _ _ c.forget_all.ensures.writes c.tell_clear.ensures.writes;
+      writes = writes-then (4 * maps.len n.states) 2 _ _ _ c.forget_all.ensures.writes c.announce_clear.ensures.writes;
     }

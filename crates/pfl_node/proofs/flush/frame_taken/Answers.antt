@@ -5,14 +5,18 @@ use Rattle.pfl_node.proofs.flush.frame_taken.Goals as goal
 
 pub bytes_of-requires-clause-told : goal.bytes_of-requires-clause-told
 bytes_of-requires-clause-told g c =
-    sent-told c.args.desk.now.node c.take_entries.new.self.node c.deref.result.now c.requires.parts c.in_ok-entries.ensures.node (c.deref.ensures.value ∙ c.in_ok-entries.ensures.entries)
+    sent-told c.args.desk.now.node c.take_entries.new.self.node c.deref.result.now c.requires.parts c.in_ok-entries.ensures.node
+    (c.deref.ensures.value ∙ c.in_ok-entries.ensures.entries)
 
 pub bytes_of-requires-clause-short : goal.bytes_of-requires-clause-short
-bytes_of-requires-clause-short g c = sent-short c.args.desk.now.node c.deref.result.now c.requires.parts (c.deref.ensures.value ∙ c.in_ok-entries.ensures.entries)
+bytes_of-requires-clause-short g c =
+    sent-short c.args.desk.now.node c.deref.result.now c.requires.parts (c.deref.ensures.value ∙ c.in_ok-entries.ensures.entries)
 
 pub returns-clause-bytes : goal.returns-clause-bytes
 returns-clause-bytes g c =
-    c.in_ok-bytes.ensures.bytes ∙ ap spelling (frame-is c.args.desk.now.node c.take_entries.new.self.node c.deref.result.now c.in_ok-entries.ensures.node (c.deref.ensures.value ∙ c.in_ok-entries.ensures.entries))
+    c.in_ok-bytes.ensures.bytes
+    ∙ ap spelling (frame-is c.args.desk.now.node c.take_entries.new.self.node c.deref.result.now c.in_ok-entries.ensures.node
+    (c.deref.ensures.value ∙ c.in_ok-entries.ensures.entries))
 
 pub returns-clause-fits : goal.returns-clause-fits
 returns-clause-fits g c =

@@ -6,7 +6,8 @@ use Rattle.pfl_node.proofs.flush.send.Goals as goal
 
 pub returns-in-Ok-clause-node : goal.returns-in-Ok-clause-node
 returns-in-Ok-clause-node g c =
-    flushed-is c.args.desk.now.node c.frame_taken.new.desk.node c.clear_told.new.desk.node c.deref.result.now c.in-Ok.ensures.node (c.deref.ensures.value ∙ c.in-Ok.ensures.entries) c.clear_told.ensures.node
+    flushed-is c.args.desk.now.node c.frame_taken.new.desk.node c.clear_announced.new.desk.node c.deref.result.now c.in-Ok.ensures.node
+    (c.deref.ensures.value ∙ c.in-Ok.ensures.entries) c.clear_announced.ensures.node
 
 pub returns-in-Ok-clause-writes : goal.returns-in-Ok-clause-writes
 returns-in-Ok-clause-writes g c =
@@ -14,4 +15,5 @@ returns-in-Ok-clause-writes g c =
     let k = length (frame_entries n) in
     let es = c.deref.result.now in
     let long : length es ≡ k = ap (λ (xs : List Entry). length xs) (c.deref.ensures.value ∙ c.in-Ok.ensures.entries) in
-    writes-more (k + (1 + length es)) (1 + 2 * k) _ _ (omega (arith, long)) (writes-then k (1 + length es) _ _ _ c.in-Ok.ensures.writes c.clear_told.ensures.writes)
+    writes-more (k + (1 + length es)) (1 + 2 * k) _ _ (omega (arith, long))
+    (writes-then k (1 + length es) _ _ _ c.in-Ok.ensures.writes c.clear_announced.ensures.writes)

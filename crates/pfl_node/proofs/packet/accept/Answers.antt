@@ -8,13 +8,15 @@ use Rattle.pfl_node.proofs.packet.accept.Goals as goal
 
 pub change_state-requires-clause-known : goal.change_state-requires-clause-known
 change_state-requires-clause-known g c =
-    rw c.free.ensures.node (rw c.with_ack_wanted.ensures (wanted-may _ c.args.state false (freed-may c.args.desk.now.node c.name-name.result c.args.state c.requires.known)))
+    rw c.free.ensures.node (rw c.with_ack_wanted.ensures
+    (wanted-may _ c.args.state false (freed-may c.args.desk.now.node c.name-name.result c.args.state c.requires.known)))
 
 pub returns-in_err-change_state : goal.returns-in_err-change_state
 returns-in_err-change_state g c =
     let p = err_from_is_err_and c.from_residual.result c.from_residual.ensures.1 in
     let freed = c.free.ensures.node ∙ ap (to.freed c.args.desk.now.node) c.name-name.ensures in
-    let same : to.changed c.free.new.self.node c.with_ack_wanted.result ≡ to.changed (to.freed c.args.desk.now.node c.args.state.name) (record c.args.state { ack_wanted = false }) = λ i. to.changed (freed i) (c.with_ack_wanted.ensures i) in
+    let same : to.changed c.free.new.self.node c.with_ack_wanted.result ≡ to.changed (to.freed c.args.desk.now.node c.args.state.name)
+    (record c.args.state { ack_wanted = false }) = λ i. to.changed (freed i) (c.with_ack_wanted.ensures i) in
     record {
       done = rw p.1 (record {
         full = sym (ap is_overfull same) ∙ c.in_err-change_state.ensures.full;
@@ -26,7 +28,8 @@ returns-in_err-change_state g c =
 pub returns : goal.returns
 returns g c =
     let freed = c.free.ensures.node ∙ ap (to.freed c.args.desk.now.node) c.name-name.ensures in
-    let same : to.changed c.free.new.self.node c.with_ack_wanted.result ≡ to.changed (to.freed c.args.desk.now.node c.args.state.name) (record c.args.state { ack_wanted = false }) = λ i. to.changed (freed i) (c.with_ack_wanted.ensures i) in
+    let same : to.changed c.free.new.self.node c.with_ack_wanted.result ≡ to.changed (to.freed c.args.desk.now.node c.args.state.name)
+    (record c.args.state { ack_wanted = false }) = λ i. to.changed (freed i) (c.with_ack_wanted.ensures i) in
     let changed = c.in_ok-change_state.ensures.node ∙ same in
     record {
       done = record {

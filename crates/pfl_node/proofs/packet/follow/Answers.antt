@@ -14,7 +14,8 @@ accept-requires-clause-known g c =
     let n = c.args.desk.now.node in
     let p = c.args.packet.now in
     let s = c.args.state.now in
-    let moved : tracked s p c.args.dir n.clock ≡ Moved c.in-Moved.state = ap (tracked s p c.args.dir) (sym c.clock.ensures.clock) ∙ (sym c.track.ensures ∙ c.in-Moved.is) in
+    let moved : tracked s p c.args.dir n.clock ≡ Moved c.in-Moved.state = ap (tracked s p c.args.dir) (sym c.clock.ensures.clock)
+    ∙ (sym c.track.ensures ∙ c.in-Moved.is) in
     found-replaces n c.args.dir p s c.in-Moved.state c.requires.parts c.requires.packet c.requires.found moved
 
 pub returns-in_err-fate-in-Moved : goal.returns-in_err-fate-in-Moved
@@ -23,27 +24,41 @@ returns-in_err-fate-in-Moved g c =
     let n = c.args.desk.now.node in
     let p = c.args.packet.now in
     let s = c.args.state.now in
-    let moved : tracked s p c.args.dir n.clock ≡ Moved c.in-Moved.state = ap (tracked s p c.args.dir) (sym c.clock.ensures.clock) ∙ (sym c.track.ensures ∙ c.in-Moved.is) in
+    let moved : tracked s p c.args.dir n.clock ≡ Moved c.in-Moved.state = ap (tracked s p c.args.dir) (sym c.clock.ensures.clock)
+    ∙ (sym c.track.ensures ∙ c.in-Moved.is) in
     let tried = c.in_err-fate-in-Moved.ensures.done in
-    record { done = rw q.1 (handles-tracked _ _ _ n c.args.dir p s _ _ moved (stops-last _ 6 _ _ (followed n c.args.dir p s (Moved c.in-Moved.state)) _ (omega arith) tried.full tried.writes)) }
+    record {
+      done = rw q.1 (handles-tracked _ _ _ n c.args.dir p s _ _ moved
+          (stops-last _ 6 _ _ (followed n c.args.dir p s (Moved c.in-Moved.state)) _ (omega arith) tried.full tried.writes));
+    }
 
 pub returns-in_ok-fate-in-Moved : goal.returns-in_ok-fate-in-Moved
 returns-in_ok-fate-in-Moved g c =
     let n = c.args.desk.now.node in
     let p = c.args.packet.now in
     let s = c.args.state.now in
-    let moved : tracked s p c.args.dir n.clock ≡ Moved c.in-Moved.state = ap (tracked s p c.args.dir) (sym c.clock.ensures.clock) ∙ (sym c.track.ensures ∙ c.in-Moved.is) in
+    let moved : tracked s p c.args.dir n.clock ≡ Moved c.in-Moved.state = ap (tracked s p c.args.dir) (sym c.clock.ensures.clock)
+    ∙ (sym c.track.ensures ∙ c.in-Moved.is) in
     let tried = c.in_ok-fate-in-Moved.ensures.done in
-    record { done = handles-tracked _ _ _ n c.args.dir p s _ _ moved (ends _ _ 6 _ _ (followed n c.args.dir p s (Moved c.in-Moved.state)) (omega arith) tried.step c.is_overcounted.ensures.room c.is_overcounted.ensures.counted tried.writes) }
+    record {
+      done = handles-tracked _ _ _ n c.args.dir p s _ _ moved
+          (ends _ _ 6 _ _ (followed n c.args.dir p s (Moved c.in-Moved.state))
+          (omega arith) tried.step c.is_overcounted.ensures.room c.is_overcounted.ensures.counted tried.writes);
+    }
 
 pub returns-in-OutOfWindow : goal.returns-in-OutOfWindow
 returns-in-OutOfWindow g c =
     let n = c.args.desk.now.node in
     let p = c.args.packet.now in
     let s = c.args.state.now in
-    let out : tracked s p c.args.dir n.clock ≡ OutOfWindow = ap (tracked s p c.args.dir) (sym c.clock.ensures.clock) ∙ (sym c.track.ensures ∙ c.in-OutOfWindow.is) in
+    let out : tracked s p c.args.dir n.clock ≡ OutOfWindow = ap (tracked s p c.args.dir) (sym c.clock.ensures.clock)
+    ∙ (sym c.track.ensures ∙ c.in-OutOfWindow.is) in
     let e = c.drop_packet-fate.ensures in
-    record { done = handles-tracked _ _ _ n c.args.dir p s _ _ out (ends _ _ 1 _ _ (followed n c.args.dir p s OutOfWindow) (omega arith) e.step c.is_overcounted-in-OutOfWindow.ensures.room c.is_overcounted-in-OutOfWindow.ensures.counted e.writes) }
+    record {
+      done = handles-tracked _ _ _ n c.args.dir p s _ _ out
+          (ends _ _ 1 _ _ (followed n c.args.dir p s OutOfWindow)
+          (omega arith) e.step c.is_overcounted-in-OutOfWindow.ensures.room c.is_overcounted-in-OutOfWindow.ensures.counted e.writes);
+    }
 
 pub reuse-requires-clause-stands : goal.reuse-requires-clause-stands
 reuse-requires-clause-stands g c =

@@ -21,7 +21,10 @@ returns-in_err-fate g c =
     let gone = c.in_ok-delete.ensures.node in
     let tried = c.in_err-fate.ensures.done in
     let full = ap (λ (k : Node). is_overfull (judged k c.args.dir c.args.packet.now).node) (sym gone) ∙ tried.full in
-    record { done = rw p.1 (stops-last _ 14 _ _ (judged m c.args.dir c.args.packet.now) _ (omega arith) full (writes-then 5 9 _ _ _ c.delete.ensures.writes tried.writes)) }
+    record {
+      done = rw p.1 (stops-last _ 14 _ _ (judged m c.args.dir c.args.packet.now) _ (omega arith) full
+          (writes-then 5 9 _ _ _ c.delete.ensures.writes tried.writes));
+    }
 
 pub returns : goal.returns
 returns g c =
@@ -30,5 +33,9 @@ returns g c =
     let tried = c.in_ok-fate.ensures.done in
     let step = tried.step ∙ ap (λ (k : Node). judged k c.args.dir c.args.packet.now) gone in
     let fitted = ap is_overfull (sym gone) ∙ c.is_overcounted-before.ensures.room in
-    let counts : (c.is_overcounted.result || c.is_overcounted-before.result) ≡ (is_overcounted c.judge.new.desk.node || is_overcounted m) = λ i. c.is_overcounted.ensures.counted i || (c.is_overcounted-before.ensures.counted ∙ ap is_overcounted gone) i in
-    record { done = ends-after _ _ _ _ m (judged m c.args.dir c.args.packet.now) step c.is_overcounted.ensures.room fitted counts (writes-then 5 9 _ _ _ c.delete.ensures.writes tried.writes) }
+    let counts : (c.is_overcounted.result || c.is_overcounted-before.result) ≡ (is_overcounted c.judge.new.desk.node || is_overcounted m) =
+    λ i. c.is_overcounted.ensures.counted i || (c.is_overcounted-before.ensures.counted ∙ ap is_overcounted gone) i in
+    record {
+      done = ends-after _ _ _ _ m (judged m c.args.dir c.args.packet.now) step c.is_overcounted.ensures.room fitted counts
+          (writes-then 5 9 _ _ _ c.delete.ensures.writes tried.writes);
+    }

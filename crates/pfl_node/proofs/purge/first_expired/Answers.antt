@@ -17,7 +17,8 @@ use Rattle.pfl_node.proofs.Expired.{due_state, first-row}
 use Rattle.pfl_node.proofs.purge.first_expired.Goals as goal
 
 -- the first that has expired is the state of the table's first row, if that has expired
-first-due : (n : Node) (l : Limits) (a : Adaptive) (k : ℕ) (t : Table) (row : Option Row) → TimedBy (timeout_by n.rules) t → states_of t ≡ n.states → l ≡ n.limits → a ≡ adaptive l → row ≡ first_expiring a k t
+first-due : (n : Node) (l : Limits) (a : Adaptive) (k : ℕ) (t : Table) (row : Option Row) → TimedBy (timeout_by n.rules) t
+    → states_of t ≡ n.states → l ≡ n.limits → a ≡ adaptive l → row ≡ first_expiring a k t
     → option_and_then (due_state a k n.clock) row ≡ slice_get (expired_among k n) 0
 first-due n l a k t row by states limits is first =
     ap (option_and_then (due_state a k n.clock)) first
@@ -33,14 +34,24 @@ due-is a k clock seconds now r has left at is = ap (λ b. if b then Some r.state
 pub returns-in_err-row-clause-first : goal.returns-in_err-row-clause-first
 returns-in_err-row-clause-first g c =
     c.from_residual.ensures
-    ∙ first-due c.args.desk.now.node c.limits.result c.adaptive-adaptive.result c.args.states c.states-table.result.now None (record { each = c.states-table.ensures.timeouts }) c.states-table.ensures.states c.limits.ensures.limits c.adaptive-adaptive.ensures c.in_err-row.ensures.row
+    ∙ first-due c.args.desk.now.node c.limits.result c.adaptive-adaptive.result c.args.states c.states-table.result.now None
+    (record { each = c.states-table.ensures.timeouts }) c.states-table.ensures.states c.limits.ensures.limits
+    c.adaptive-adaptive.ensures c.in_err-row.ensures.row
 
 pub returns-then-expired-clause-first : goal.returns-then-expired-clause-first
 returns-then-expired-clause-first g c =
-    due-is c.adaptive-adaptive.result c.args.states c.args.desk.now.node.clock c.scaled-timeout.result c.clock.result c.in_ok-row.row.now true c.scaled-timeout.ensures c.clock.ensures.clock (sym c.if-expired.true ∙ c.expired.ensures)
-    ∙ first-due c.args.desk.now.node c.limits.result c.adaptive-adaptive.result c.args.states c.states-table.result.now (Some c.in_ok-row.row.now) (record { each = c.states-table.ensures.timeouts }) c.states-table.ensures.states c.limits.ensures.limits c.adaptive-adaptive.ensures c.in_ok-row.ensures.row
+    due-is c.adaptive-adaptive.result c.args.states c.args.desk.now.node.clock c.scaled-timeout.result c.clock.result c.in_ok-row.row.now
+    true c.scaled-timeout.ensures c.clock.ensures.clock (sym c.if-expired.true ∙ c.expired.ensures)
+    ∙ first-due c.args.desk.now.node c.limits.result c.adaptive-adaptive.result c.args.states c.states-table.result.now
+    (Some c.in_ok-row.row.now)
+    (record { each = c.states-table.ensures.timeouts }) c.states-table.ensures.states c.limits.ensures.limits
+    c.adaptive-adaptive.ensures c.in_ok-row.ensures.row
 
 pub returns-else-expired-clause-first : goal.returns-else-expired-clause-first
 returns-else-expired-clause-first g c =
-    due-is c.adaptive-adaptive.result c.args.states c.args.desk.now.node.clock c.scaled-timeout.result c.clock.result c.in_ok-row.row.now false c.scaled-timeout.ensures c.clock.ensures.clock (sym c.if-expired.false ∙ c.expired.ensures)
-    ∙ first-due c.args.desk.now.node c.limits.result c.adaptive-adaptive.result c.args.states c.states-table.result.now (Some c.in_ok-row.row.now) (record { each = c.states-table.ensures.timeouts }) c.states-table.ensures.states c.limits.ensures.limits c.adaptive-adaptive.ensures c.in_ok-row.ensures.row
+    due-is c.adaptive-adaptive.result c.args.states c.args.desk.now.node.clock c.scaled-timeout.result c.clock.result c.in_ok-row.row.now
+    false c.scaled-timeout.ensures c.clock.ensures.clock (sym c.if-expired.false ∙ c.expired.ensures)
+    ∙ first-due c.args.desk.now.node c.limits.result c.adaptive-adaptive.result c.args.states c.states-table.result.now
+    (Some c.in_ok-row.row.now)
+    (record { each = c.states-table.ensures.timeouts }) c.states-table.ensures.states c.limits.ensures.limits
+    c.adaptive-adaptive.ensures c.in_ok-row.ensures.row

@@ -5,7 +5,8 @@ use Rattle.pfl_node.proofs.Purged.{IsPurged, found-is, purged-first, next-is, co
 use Rattle.pfl_node.proofs.purge.purge.Goals as goal
 
 pub loop-state-init : goal.loop-state-init
-loop-state-init g c = subst (λ (d : Draft). IsPurged c.args.desk.now d 0 false) (sym c.order_expiries.ensures.same) (purged-first c.args.desk.now c.requires.parts c.requires.room)
+loop-state-init g c = subst (λ (d : Draft). IsPurged c.args.desk.now d 0 false) (sym c.order_expiries.ensures.same)
+    (purged-first c.args.desk.now c.requires.parts c.requires.room)
 
 pub delete-requires : goal.delete-requires
 delete-requires g c =
@@ -47,8 +48,10 @@ loop-state-preserved g c =
     let first = sym c.first_expired.ensures.first ∙ c.in-Some.is in
     let same = found-is c.args.desk.now _ c.len-states.result c.len-states.ensures.states c.states.ensures.states in
     let next = next-is _ _ _ _ _ c.in-Some.state c.first_expired.ensures.parts so same first in
-    subst (λ (d : Draft). IsPurged c.args.desk.now d (c.loop-state.count + 1) (c.loop-state.overcounted || c.is_overcounted-overcounted.result)) (sym c.order_expiries-in-Some.ensures.same)
-    (purged-more _ _ _ _ so c.in-Some.state next _ _ c.in_ok-delete.ensures.node c.delete.ensures.writes c.is_overcounted-overcounted.ensures.room c.is_overcounted-overcounted.ensures.counted)
+    subst (λ (d : Draft). IsPurged c.args.desk.now d (c.loop-state.count + 1) (c.loop-state.overcounted
+    || c.is_overcounted-overcounted.result)) (sym c.order_expiries-in-Some.ensures.same)
+    (purged-more _ _ _ _ so c.in-Some.state next _ _ c.in_ok-delete.ensures.node c.delete.ensures.writes
+    c.is_overcounted-overcounted.ensures.room c.is_overcounted-overcounted.ensures.counted)
 
 pub loop-state-smaller : goal.loop-state-smaller
 loop-state-smaller g c =

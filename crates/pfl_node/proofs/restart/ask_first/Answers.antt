@@ -26,7 +26,8 @@ set_client-requires g c =
     let room = c.requires.room in
     let first = c.set_clock.ensures.writes.spare in
     let second = c.ask.ensures.writes.spare in
-    let clock : c.ask.new.self.node.clock ≡ c.args.clock = ap (λ (n : Node). n.clock) (c.in-Ok.ensures.node ∙ ap (λ (n : Node). ask n no_name) c.set_clock.ensures.node) in
+    let clock : c.ask.new.self.node.clock ≡ c.args.clock =
+    ap (λ (n : Node). n.clock) (c.in-Ok.ensures.node ∙ ap (λ (n : Node). ask n no_name) c.set_clock.ensures.node) in
     record { room = omega (arith, room, first, second); past = rw c.first_asked.ensures.client (omega (arith, clock)) }
 
 pub returns : goal.returns

@@ -14,9 +14,12 @@ pub returns-then-not-retry : goal.returns-then-not-retry
 returns-then-not-retry g c =
     let n = c.args.desk.now.node in
     let gives_up : asks_again n.client ≡ false = sym c.requires.asks ∙ from_not c.args.retry.asks true c.if-not-retry.true in
-    let node : c.set_client.new.self.node ≡ retried_client n = served-is n c.set_client.new.self.node gives_up (c.set_client.ensures.node ∙ ap (λ (k : BulkClient). record n { client = k }) c.requires.client) in
+    let node : c.set_client.new.self.node ≡ retried_client n =
+    served-is n c.set_client.new.self.node gives_up (c.set_client.ensures.node
+    ∙ ap (λ (k : BulkClient). record n { client = k }) c.requires.client) in
     record {
-      went = ends-there Served c.is_overcounted.result (retried_client n) c.set_client.new.self.node node c.is_overcounted.ensures.room c.is_overcounted.ensures.counted;
+      went = ends-there Served c.is_overcounted.result
+          (retried_client n) c.set_client.new.self.node node c.is_overcounted.ensures.room c.is_overcounted.ensures.counted;
       node = node;
       answer = answer-served n gives_up;
       writes = writes-more 1 3 _ _ (omega arith) c.set_client.ensures.writes;
@@ -39,9 +42,11 @@ returns g c =
     let n = c.args.desk.now.node in
     let asks : asks_again n.client ≡ true = sym c.requires.asks ∙ from_not c.args.retry.asks false c.if-not-retry.false in
     let set = c.set_client-2.ensures.node ∙ ap (λ (k : BulkClient). record c.ask.new.self.node { client = k }) c.requires.client in
-    let node : c.set_client-2.new.self.node ≡ retried_client n = asked-is n c.ask.new.self.node c.set_client-2.new.self.node asks c.in_ok-ask.ensures.node set in
+    let node : c.set_client-2.new.self.node ≡ retried_client n =
+    asked-is n c.ask.new.self.node c.set_client-2.new.self.node asks c.in_ok-ask.ensures.node set in
     record {
-      went = ends-there (Asked c.tries.result) c.is_overcounted-2.result (retried_client n) c.set_client-2.new.self.node node c.is_overcounted-2.ensures.room c.is_overcounted-2.ensures.counted;
+      went = ends-there (Asked c.tries.result) c.is_overcounted-2.result
+          (retried_client n) c.set_client-2.new.self.node node c.is_overcounted-2.ensures.room c.is_overcounted-2.ensures.counted;
       node = node;
       answer = ap Asked (c.tries.ensures.tries ∙ ap tries_of c.requires.client) ∙ answer-asked n asks;
       writes = writes-then 2 1 _ _ _ c.ask.ensures.writes c.set_client-2.ensures.writes;

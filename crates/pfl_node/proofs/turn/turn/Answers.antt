@@ -44,8 +44,8 @@ returns-in_err-queue_all g c =
       writes = writes-more _ (length (turn_of n) + 3) _ _ (omega (arith, long)) c.queue_all.ensures.writes;
     }
 
-pub tell_end-requires : goal.tell_end-requires
-tell_end-requires g c =
+pub announce_end-requires : goal.announce_end-requires
+announce_end-requires g c =
     let n = c.args.desk.now.node in
     let told = c.turn-turn.ensures in
     let turn = turn-by n _ _ _ c.next_names-count.ensures.names c.server.ensures.server c.limits-batch.ensures.limits _ _ _ told.names told.server told.last in
@@ -54,18 +54,20 @@ tell_end-requires g c =
     let spare = c.queue_all.ensures.writes.spare in
     record { room = omega (arith, room, long, spare) }
 
-pub returns-in_err-tell_end : goal.returns-in_err-tell_end
-returns-in_err-tell_end g c =
-    let p = err_from_is_err_and c.from_residual-in_err-tell_end.result c.from_residual-in_err-tell_end.ensures.1 in
+pub returns-in_err-announce_end : goal.returns-in_err-announce_end
+returns-in_err-announce_end g c =
+    let p = err_from_is_err_and c.from_residual-in_err-announce_end.result c.from_residual-in_err-announce_end.ensures.1 in
     let n = c.args.desk.now.node in
     let told = c.turn-turn.ensures in
     let turn = turn-by n _ _ _ c.next_names-count.ensures.names c.server.ensures.server c.limits-batch.ensures.limits _ _ _ told.names told.server told.last in
     let long = ap (λ (ns : List StateName). length ns) turn.names in
     record {
-      went = rw p.1 (stops-there ℕ p.0 (turned n) (ended-full n _ _ _ turn c.queue_all.new.desk.node c.in_ok-queue_all.ensures.node c.in_err-tell_end.ensures.full));
+      went = rw p.1 (stops-there ℕ p.0 (turned n)
+          (ended-full n _ _ _ turn c.queue_all.new.desk.node c.in_ok-queue_all.ensures.node c.in_err-announce_end.ensures.full));
       node = rw p.1 tt;
       count = rw p.1 tt;
-      writes = writes-more _ (length (turn_of n) + 3) _ _ (omega (arith, long)) (writes-then _ 2 _ _ _ c.queue_all.ensures.writes c.tell_end.ensures.writes);
+      writes = writes-more _ (length (turn_of n) + 3) _ _ (omega (arith, long))
+          (writes-then _ 2 _ _ _ c.queue_all.ensures.writes c.announce_end.ensures.writes);
     }
 
 pub set_server-requires : goal.set_server-requires
@@ -76,10 +78,11 @@ set_server-requires g c =
     let long = ap (λ (ns : List StateName). length ns) turn.names in
     let room = c.requires.room in
     let spare = c.queue_all.ensures.writes.spare in
-    let left = c.tell_end.ensures.writes.spare in
+    let left = c.announce_end.ensures.writes.spare in
     record {
       room = omega (arith, room, long, spare, left);
-      past = turned-past n _ _ _ turn c.requires.parts c.queue_all.new.desk.node c.tell_end.new.desk.node c.in_ok-queue_all.ensures.node c.in_ok-tell_end.ensures.node;
+      past = turned-past n _ _ _ turn c.requires.parts c.queue_all.new.desk.node c.announce_end.new.desk.node
+          c.in_ok-queue_all.ensures.node c.in_ok-announce_end.ensures.node;
     }
 
 pub returns : goal.returns
@@ -88,10 +91,13 @@ returns g c =
     let told = c.turn-turn.ensures in
     let turn = turn-by n _ _ _ c.next_names-count.ensures.names c.server.ensures.server c.limits-batch.ensures.limits _ _ _ told.names told.server told.last in
     let long = ap (λ (ns : List StateName). length ns) turn.names in
-    let node : c.set_server.new.self.node ≡ turned n = c.set_server.ensures.node ∙ turned-is n _ _ _ turn c.queue_all.new.desk.node c.tell_end.new.desk.node c.in_ok-queue_all.ensures.node c.in_ok-tell_end.ensures.node in
-    let all = writes-then _ 1 _ _ _ (writes-then _ 2 _ _ _ c.queue_all.ensures.writes c.tell_end.ensures.writes) c.set_server.ensures.writes in
+    let node : c.set_server.new.self.node ≡ turned n = c.set_server.ensures.node
+    ∙ turned-is n _ _ _ turn c.queue_all.new.desk.node c.announce_end.new.desk.node c.in_ok-queue_all.ensures.node
+    c.in_ok-announce_end.ensures.node in
+    let all = writes-then _ 1 _ _ _ (writes-then _ 2 _ _ _ c.queue_all.ensures.writes c.announce_end.ensures.writes) c.set_server.ensures.writes in
     record {
-      went = ends-there (length c.turn-turn.result.names.now) c.is_overcounted.result (turned n) c.set_server.new.self.node node c.is_overcounted.ensures.room c.is_overcounted.ensures.counted;
+      went = ends-there (length c.turn-turn.result.names.now) c.is_overcounted.result
+          (turned n) c.set_server.new.self.node node c.is_overcounted.ensures.room c.is_overcounted.ensures.counted;
       node = node;
       count = long;
       writes = writes-more _ (length (turn_of n) + 3) _ _ (omega (arith, long)) all;

@@ -7,10 +7,12 @@ loop-i-init g c = let part = c.requires.part in (refl, start_next c.args.seat.no
 
 pub store-requires : goal.store-requires
 store-requires g c =
-    let part = c.requires.part in let is = c.loop-i.invariant in let words = c.requires.table.1 in let near = c.word_index.ensures.within in let long = c.requires.revision.0 in (
+    let part = c.requires.part in let is = c.loop-i.invariant in let words = c.requires.table.1 in let near = c.word_index.ensures.within
+    in let long = c.requires.revision.0 in (
       is.0 ∙ c.requires.table.0,
       omega arith,
-      stores_next _ _ c.loop-i.seat.me c.args.seat.now.me.0 c.args.seat.now.me.1 c.args.revision.words c.args.number c.loop-i.i c.word_index.result is.1 part.0 part.2 long c.loop-i-test.true c.word_index.ensures.is,
+      stores_next _ _ c.loop-i.seat.me c.args.seat.now.me.0 c.args.seat.now.me.1 c.args.revision.words c.args.number c.loop-i.i
+          c.word_index.result is.1 part.0 part.2 long c.loop-i-test.true c.word_index.ensures.is,
     )
 
 pub loop-i-preserved : goal.loop-i-preserved

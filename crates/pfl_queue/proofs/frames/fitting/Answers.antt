@@ -7,14 +7,20 @@ returns-then-mtu-lt-HEADER_LEN c = record { longest = nothing_fits c.args.entrie
 
 pub returns-then-left-cost : goal.returns-then-left-cost
 returns-then-left-cost c = record {
-  longest = stops_here c.args.entries.now c.args.mtu c.loop-i.i _ c.loop-i-test.true c.loop-i.left _ c.loop-i.before _ c.loop-i.invariant.left c.loop-i.invariant.before c.action-action.ensures.action c.added-cost.ensures.added c.if-left-cost.true;
+  longest = stops_here c.args.entries.now c.args.mtu c.loop-i.i _ c.loop-i-test.true c.loop-i.left _ c.loop-i.before _
+      c.loop-i.invariant.left c.loop-i.invariant.before c.action-action.ensures.action c.added-cost.ensures.added c.if-left-cost.true;
 }
 
 pub loop-i-preserved : goal.loop-i-preserved
 loop-i-preserved c = record {
-  left = one_more c.args.entries.now c.args.mtu c.loop-i.i _ c.loop-i-test.true c.loop-i.left _ c.loop-i.before _ c.loop-i.invariant.left c.loop-i.invariant.before c.action-action.ensures.action c.added-cost.ensures.added c.if-left-cost.false;
-  before = last_more c.args.entries.now c.args.mtu c.loop-i.i _ c.loop-i-test.true c.loop-i.left _ c.loop-i.before _ c.loop-i.invariant.left c.loop-i.invariant.before c.action-action.ensures.action c.added-cost.ensures.added;
+  left = one_more c.args.entries.now c.args.mtu c.loop-i.i _ c.loop-i-test.true c.loop-i.left _ c.loop-i.before _ c.loop-i.invariant.left
+      c.loop-i.invariant.before c.action-action.ensures.action c.added-cost.ensures.added c.if-left-cost.false;
+  before = last_more c.args.entries.now c.args.mtu c.loop-i.i _ c.loop-i-test.true c.loop-i.left _ c.loop-i.before _
+      c.loop-i.invariant.left c.loop-i.invariant.before c.action-action.ensures.action c.added-cost.ensures.added;
 }
 
 pub returns : goal.returns
-returns c = record { longest = all_fit c.args.entries.now c.args.mtu c.loop-i.left c.loop-i.i (omega (arith, c.loop-i-test.false, c.loop-i.auto.i-end)) c.loop-i.invariant.left }
+returns c = record {
+  longest = all_fit c.args.entries.now c.args.mtu c.loop-i.left c.loop-i.i
+      (omega (arith, c.loop-i-test.false, c.loop-i.auto.i-end)) c.loop-i.invariant.left;
+}

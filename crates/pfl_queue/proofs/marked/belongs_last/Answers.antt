@@ -12,7 +12,8 @@ returns-in-Some g c = record {
   last = λ low.
       let last = last-place c.args.queues.now c.args.kind c.in-Some.slot c.requires.kind (sym c.in-Some.is ∙ c.last.ensures.last) in
       let less : c.at.result.now.number < c.args.number = grind (arith, nat_tests) in
-      last-below mark_number c.args.queues.now c.args.kind c.args.number c.in-Some.slot last c.requires.rising c.at.result.now (c.at.ensures.value last.at) less;
+      last-below mark_number c.args.queues.now c.args.kind c.args.number c.in-Some.slot last c.requires.rising c.at.result.now
+      (c.at.ensures.value last.at) less;
 }
 
 pub returns-in-None : goal.returns-in-None

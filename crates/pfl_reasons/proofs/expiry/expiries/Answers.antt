@@ -18,4 +18,5 @@ returns g c =
     let n = c.args.node.now in
     let states = c.iter-rows.ensures.states ∙ ap (λ (m : States). maps.values m) c.states-2.ensures.states in
     let many = c.len-states.ensures.states ∙ ap (λ (m : States). maps.len m) c.states.ensures.states in
-    all-listed n c.len-states.result c.loop-row.list.items c.iter-rows.result c.loop-row.rows many states c.in_default.ensures.steps.0 c.loop-row.invariant.listed
+    all-listed n c.len-states.result c.loop-row.list.items c.iter-rows.result c.loop-row.rows many states c.in_default.ensures.steps.0
+    c.loop-row.invariant.listed

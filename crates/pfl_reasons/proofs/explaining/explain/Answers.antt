@@ -18,7 +18,8 @@ returns-in_ok-reason-in-Ok-clause-explained g c =
 
 pub returns-in-NoMemory-clause-memory : goal.returns-in-NoMemory-clause-memory
 returns-in-NoMemory-clause-memory g c =
-    accepted-by c.args.world.now c.args.event.now (subst (λ (r : Refusal). IsEventRefusal c.args.world.now c.args.event.now r) c.in-NoMemory.is c.in-Err.ensures.refused)
+    accepted-by c.args.world.now c.args.event.now
+    (subst (λ (r : Refusal). IsEventRefusal c.args.world.now c.args.event.now r) c.in-NoMemory.is c.in-Err.ensures.refused)
 
 pub returns-in_default : goal.returns-in_default
 returns-in_default g c =
@@ -27,7 +28,8 @@ returns-in_default g c =
     let refused = refused-by w e c.in-Err.why c.in-Err.ensures.refused c.in_default.not-NoMemory in
     record {
       came = came-err w e c.in-Err.why refused;
-      explained = ap Stopped (c.against_of.ensures ∙ ap (λ (v : World). against v e c.in-Err.why) c.in-Err.ensures.unchanged) ∙ explained-err w e c.in-Err.why refused;
+      explained = ap Stopped (c.against_of.ensures ∙ ap (λ (v : World). against v e c.in-Err.why) c.in-Err.ensures.unchanged)
+          ∙ explained-err w e c.in-Err.why refused;
       memory = tt;
       still = c.in-Err.ensures.unchanged;
     }

@@ -5,10 +5,18 @@ use Rattle.pfl_reasons.proofs.Plain.{as_same, plain_at}
 use Rattle.pfl_reasons.proofs.explaining.reason_at.Goals as goal
 
 pub returns-in-Purge : goal.returns-in-Purge
-returns-in-Purge g c = record { explained = as_same c.purge_reason.result _ _ (λ i. explained_at (c.node.ensures.node i) (sym c.in-Purge.is i)) c.purge_reason.ensures.explained; still = refl }
+returns-in-Purge g c = record {
+  explained = as_same c.purge_reason.result _ _
+      (λ i. explained_at (c.node.ensures.node i) (sym c.in-Purge.is i)) c.purge_reason.ensures.explained;
+  still = refl;
+}
 
 pub returns-in_default : goal.returns-in_default
-returns-in_default g c = record { explained = plain_at (node_at c.args.world.now c.args.node) c.args.event.now c.in_default.not-Packet c.in_default.not-Purge; still = refl }
+returns-in_default g c = record {
+  explained = plain_at
+      (node_at c.args.world.now c.args.node) c.args.event.now c.in_default.not-Packet c.in_default.not-Purge;
+  still = refl;
+}
 
 pub returns-in_ok-reason-in-Packet : goal.returns-in_ok-reason-in-Packet
 returns-in_ok-reason-in-Packet g c = record {

@@ -12,7 +12,8 @@ loop-index-preserved g c =
     let es = c.args.events.now in
     elim c.if-sends.branch [
       | then-sends w ↦ record {
-        counted = w.sent-is ∙ ap (λ (n : ℕ). n + 1) so.counted ∙ sym (counted-one es c.loop-index.index c.get.result c.get.ensures.event (sym c.sends.ensures ∙ w.if-sends.true));
+        counted = w.sent-is ∙ ap (λ (n : ℕ). n + 1) so.counted
+            ∙ sym (counted-one es c.loop-index.index c.get.result c.get.ensures.event (sym c.sends.ensures ∙ w.if-sends.true));
         few = omega (arith, w.sent-is, so.few);
       }
       | else-sends w ↦ record {

@@ -9,7 +9,8 @@ after-passage-requires g c = record { countable = passing-number _ _ _ _ _ _ _ _
 
 pub loop-index-preserved : goal.loop-index-preserved
 loop-index-preserved g c =
-    passing-next _ _ _ _ _ _ _ _ _ c.loop-index.invariant c.get-event.result c.get-event.ensures.event _ _ _ _ (c.in_ok-add_step.ensures ∙ ap (λ (o : Option FrameStep). c.loop-index.list.items ++ option_to_list o) c.step.ensures) c.after-passage.ensures.ticket
+    passing-next _ _ _ _ _ _ _ _ _ c.loop-index.invariant c.get-event.result c.get-event.ensures.event _ _ _ _ (c.in_ok-add_step.ensures
+    ∙ ap (λ (o : Option FrameStep). c.loop-index.list.items ++ option_to_list o) c.step.ensures) c.after-passage.ensures.ticket
     c.after-passage.ensures.fewer (c.after-passage.ensures.left c.args.frame.now) c.after-passage.ensures.next
 
 pub returns : goal.returns

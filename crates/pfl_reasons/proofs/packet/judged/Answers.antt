@@ -24,8 +24,12 @@ start_reason-requires g c =
     let v = c.verdict-verdict.result in
     let is = verdict-is c.args.node.now.rules c.rules.result.now c.args.dir c.args.packet.now v c.verdict-verdict.ensures c.rules.ensures.rules in
     let passes : v.pass ≡ true = search rules in
-    let there = rule-is n.rules c.rules-2.result.now c.in-Some.number c.rule.result (Some c.in-Some-rule.rule) c.rule.ensures c.rules-2.ensures.rules c.in-Some-rule.is in
-    record { fits = judged-fits n.rules.list p c.args.dir c.in-Some.number c.in-Some-rule.rule c.requires.packet.family (ap (λ (x : Verdict). x.pass) (sym is) ∙ passes) (ap (λ (x : Verdict). x.rule) (sym is) ∙ c.in-Some.is) there }
+    let there = rule-is n.rules c.rules-2.result.now c.in-Some.number c.rule.result
+    (Some c.in-Some-rule.rule) c.rule.ensures c.rules-2.ensures.rules c.in-Some-rule.is in
+    record {
+      fits = judged-fits n.rules.list p c.args.dir c.in-Some.number c.in-Some-rule.rule c.requires.packet.family
+          (ap (λ (x : Verdict). x.pass) (sym is) ∙ passes) (ap (λ (x : Verdict). x.rule) (sym is) ∙ c.in-Some.is) there;
+    }
 
 pub returns-in-Some-rule : goal.returns-in-Some-rule
 returns-in-Some-rule g c =
@@ -34,7 +38,8 @@ returns-in-Some-rule g c =
     let v = c.verdict-verdict.result in
     let is = verdict-is c.args.node.now.rules c.rules.result.now c.args.dir c.args.packet.now v c.verdict-verdict.ensures c.rules.ensures.rules in
     let passes : v.pass ≡ true = search rules in
-    let there = rule-is n.rules c.rules-2.result.now c.in-Some.number c.rule.result (Some c.in-Some-rule.rule) c.rule.ensures c.rules-2.ensures.rules c.in-Some-rule.is in
+    let there = rule-is n.rules c.rules-2.result.now c.in-Some.number c.rule.result
+    (Some c.in-Some-rule.rule) c.rule.ensures c.rules-2.ensures.rules c.in-Some-rule.is in
     passed n c.args.dir p v is c.in-Some.number c.in-Some.is (Some c.in-Some-rule.rule) c.start_reason.result passes there c.start_reason.ensures
 
 pub returns-in-None : goal.returns-in-None

@@ -20,7 +20,10 @@ reuse_reason-requires g c =
     let n = node_at c.args.world.now c.args.id in
     let p = c.args.packet.now in
     let given = c.copied.ensures ∙ c.found.ensures.state in
-    let at : found n.states (key p c.args.dir) c.args.dir ≡ Some c.in-Some.state = sym (found-is n c.node-node.result.now (states_of c.states.result.now) c.key.result c.args.dir p c.copied.result given c.states.ensures.states c.node-node.ensures.node c.key.ensures.key) ∙ c.in-Some.is in
+    let at : found n.states (key p c.args.dir) c.args.dir ≡ Some c.in-Some.state =
+    sym (found-is n c.node-node.result.now
+    (states_of c.states.result.now) c.key.result c.args.dir p c.copied.result given c.states.ensures.states c.node-node.ensures.node
+    c.key.ensures.key) ∙ c.in-Some.is in
     let known : IsNode n = subst IsNode c.node-node.ensures.node c.known.ensures.node in
     record {
       packet = c.key.ensures.packet;
@@ -32,7 +35,10 @@ returns-in_default g c =
     let n = node_at c.args.world.now c.args.id in
     let p = c.args.packet.now in
     let given = c.copied.ensures ∙ c.found.ensures.state in
-    let none : found n.states (key p c.args.dir) c.args.dir ≡ None = sym (found-is n c.node-node.result.now (states_of c.states.result.now) c.key.result c.args.dir p c.copied.result given c.states.ensures.states c.node-node.ensures.node c.key.ensures.key) ∙ c.in_default.is in
+    let none : found n.states (key p c.args.dir) c.args.dir ≡ None =
+    sym (found-is n c.node-node.result.now
+    (states_of c.states.result.now) c.key.result c.args.dir p c.copied.result given c.states.ensures.states c.node-node.ensures.node
+    c.key.ensures.key) ∙ c.in_default.is in
     let made = c.judged-judged.ensures ∙ ap (λ (m : Node). judged_reason m c.args.dir p) c.node-node.ensures.node in
     record { reason = ap (ByRules None) made ∙ sym (of_no_state n c.args.dir p none); still = refl }
 
@@ -41,10 +47,16 @@ returns-in-Reused g c =
     let n = node_at c.args.world.now c.args.id in
     let p = c.args.packet.now in
     let given = c.copied.ensures ∙ c.found.ensures.state in
-    let at : found n.states (key p c.args.dir) c.args.dir ≡ Some c.in-Some.state = sym (found-is n c.node-node.result.now (states_of c.states.result.now) c.key.result c.args.dir p c.copied.result given c.states.ensures.states c.node-node.ensures.node c.key.ensures.key) ∙ c.in-Some.is in
-    let moved : tracked c.in-Some.state p c.args.dir n.clock ≡ c.track.result = ap (tracked c.in-Some.state p c.args.dir) (sym (c.clock.ensures.clock ∙ ap (λ (m : Node). m.clock) c.node-node.ensures.node)) ∙ sym c.track.ensures in
+    let at : found n.states (key p c.args.dir) c.args.dir ≡ Some c.in-Some.state =
+    sym (found-is n c.node-node.result.now
+    (states_of c.states.result.now) c.key.result c.args.dir p c.copied.result given c.states.ensures.states c.node-node.ensures.node
+    c.key.ensures.key) ∙ c.in-Some.is in
+    let moved : tracked c.in-Some.state p c.args.dir n.clock ≡ c.track.result =
+    ap (tracked c.in-Some.state p c.args.dir) (sym (c.clock.ensures.clock ∙ ap (λ (m : Node). m.clock) c.node-node.ensures.node))
+    ∙ sym c.track.ensures in
     record {
-      reason = subst (λ (why : PacketReason). IfOk c.reuse_reason.result (λ r. r ≡ why)) (sym (of_closed n c.args.dir p c.in-Some.state at c.track.result moved c.in-Reused.is)) c.reuse_reason.ensures.reason;
+      reason = subst (λ (why : PacketReason). IfOk c.reuse_reason.result (λ r. r ≡ why))
+          (sym (of_closed n c.args.dir p c.in-Some.state at c.track.result moved c.in-Reused.is)) c.reuse_reason.ensures.reason;
       still = c.reuse_reason.ensures.still;
     }
 
@@ -53,9 +65,15 @@ returns-in_default-track g c =
     let n = node_at c.args.world.now c.args.id in
     let p = c.args.packet.now in
     let given = c.copied.ensures ∙ c.found.ensures.state in
-    let at : found n.states (key p c.args.dir) c.args.dir ≡ Some c.in-Some.state = sym (found-is n c.node-node.result.now (states_of c.states.result.now) c.key.result c.args.dir p c.copied.result given c.states.ensures.states c.node-node.ensures.node c.key.ensures.key) ∙ c.in-Some.is in
-    let moved : tracked c.in-Some.state p c.args.dir n.clock ≡ c.track.result = ap (tracked c.in-Some.state p c.args.dir) (sym (c.clock.ensures.clock ∙ ap (λ (m : Node). m.clock) c.node-node.ensures.node)) ∙ sym c.track.ensures in
+    let at : found n.states (key p c.args.dir) c.args.dir ≡ Some c.in-Some.state =
+    sym (found-is n c.node-node.result.now
+    (states_of c.states.result.now) c.key.result c.args.dir p c.copied.result given c.states.ensures.states c.node-node.ensures.node
+    c.key.ensures.key) ∙ c.in-Some.is in
+    let moved : tracked c.in-Some.state p c.args.dir n.clock ≡ c.track.result =
+    ap (tracked c.in-Some.state p c.args.dir) (sym (c.clock.ensures.clock ∙ ap (λ (m : Node). m.clock) c.node-node.ensures.node))
+    ∙ sym c.track.ensures in
     record {
-      reason = (λ i. OfState (c.name.ensures i) (c.tested.ensures i)) ∙ sym (of_state n c.args.dir p c.in-Some.state at c.track.result moved c.in_default-track.not-Reused);
+      reason = (λ i. OfState (c.name.ensures i) (c.tested.ensures i))
+          ∙ sym (of_state n c.args.dir p c.in-Some.state at c.track.result moved c.in_default-track.not-Reused);
       still = refl;
     }

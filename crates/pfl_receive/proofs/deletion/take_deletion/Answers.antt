@@ -18,4 +18,5 @@ returns-then-is_some-clause-paid g c =
     let known : maps.contains_key n.states c.args.name ≡ true =
     ap (λ (m : States). is_some (maps.get m c.args.name)) (sym c.states.ensures.states)
     ∙ (ap is_some (sym c.by_name.ensures.state) ∙ (copied-some c.by_name.result ∙ (sym c.is_some.ensures ∙ c.if-is_some.true))) in
-    paid-more 0 1 c.args.desk.now c.forget.new.self (omega arith) (paid-forgotten c.args.desk.now c.forget.new.self c.args.name known c.forget.ensures.node c.forget.ensures.writes)
+    paid-more 0 1 c.args.desk.now c.forget.new.self (omega arith)
+    (paid-forgotten c.args.desk.now c.forget.new.self c.args.name known c.forget.ensures.node c.forget.ensures.writes)

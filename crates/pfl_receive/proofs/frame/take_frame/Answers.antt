@@ -22,7 +22,8 @@ returns g c =
     let n = c.args.desk.now.node in
     let m = c.take_records.new.desk.node in
     let e = c.take_records.ensures in
-    let same : (c.has_same_rules-same_rules.result, c.records.result) ≡ (same_rules n c.args.frame.now, records_of c.args.frame.now) = λ i. (c.has_same_rules-same_rules.ensures.same i, c.records.ensures i) in
+    let same : (c.has_same_rules-same_rules.result, c.records.result) ≡ (same_rules n c.args.frame.now, records_of c.args.frame.now) =
+    λ i. (c.has_same_rules-same_rules.ensures.same i, c.records.ensures i) in
     record {
       went = subst (λ (p : Bool × List Message). Went c.take_records.result (taken_points n p.0 p.1)) same e.went;
       node = subst (λ (p : Bool × List Message). OnOk c.take_records.result (m ≡ fold (λ k r. taken k p.0 r) n p.1)) same e.node;

@@ -16,7 +16,9 @@ overflow_add-count g c =
 
 pub loop-message-preserved : goal.loop-message-preserved
 loop-message-preserved g c =
-    delivered-more _ _ _ _ _ _ _ c.loop-message.invariant _ _ c.in-Some.ensures.steps _ _ c.in_ok-take_record.ensures.node c.in_ok-take_record.ensures.paid c.take_record.ensures.writes c.is_overcounted-overcounted.ensures.room c.is_overcounted-overcounted.ensures.counted
+    delivered-more _ _ _ _ _ _ _ c.loop-message.invariant _ _ c.in-Some.ensures.steps _ _ c.in_ok-take_record.ensures.node
+    c.in_ok-take_record.ensures.paid c.take_record.ensures.writes c.is_overcounted-overcounted.ensures.room
+    c.is_overcounted-overcounted.ensures.counted
 
 pub returns-in_err-take_record : goal.returns-in_err-take_record
 returns-in_err-take_record g c =

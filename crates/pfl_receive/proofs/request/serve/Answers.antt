@@ -10,12 +10,12 @@ pub set_server-requires-clause-past : goal.set_server-requires-clause-past
 set_server-requires-clause-past g c =
     let n = c.args.desk.now.node in
     let same = c.start-server.ensures.server ∙ (λ i. server_started (c.server.ensures.server i) (nat_lt 0 c.len-has_states.result) (c.clock.ensures.clock i)) in
-    let clocks = ap (λ (m : Node). m.clock) c.in_ok-tell_status.ensures.node in
-    let after = c.tell_status.new.self.node in
+    let clocks = ap (λ (m : Node). m.clock) c.in_ok-announce_status.ensures.node in
+    let after = c.announce_status.new.self.node in
     subst (ServesSince after) (sym same) (started-past n after (nat_lt 0 c.len-has_states.result) c.states.ensures.parts clocks)
 
-pub returns-in_err-tell_status-clause-writes : goal.returns-in_err-tell_status-clause-writes
-returns-in_err-tell_status-clause-writes g c = writes-more 2 3 _ _ (omega arith) c.tell_status.ensures.writes
+pub returns-in_err-announce_status-clause-writes : goal.returns-in_err-announce_status-clause-writes
+returns-in_err-announce_status-clause-writes g c = writes-more 2 3 _ _ (omega arith) c.announce_status.ensures.writes
 
 pub returns-clause-writes : goal.returns-clause-writes
-returns-clause-writes g c = writes-then 2 1 _ _ _ c.tell_status.ensures.writes c.set_server.ensures.writes
+returns-clause-writes g c = writes-then 2 1 _ _ _ c.announce_status.ensures.writes c.set_server.ensures.writes

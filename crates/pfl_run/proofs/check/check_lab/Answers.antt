@@ -18,6 +18,6 @@ returns-in-Err-clause-checks g c = inr (record {
   fault = c.in-Err.fault;
   why = rw (sym c.new-lines.ensures.left) c.in-Err.ensures.stop;
   device = search (rules, has_failed);
-  told = c.tell.ensures.told;
-  exit = c.tell.ensures.status;
+  printed = c.report_fault.ensures.printed;
+  exit = c.report_fault.ensures.status;
 })

@@ -21,12 +21,17 @@ returns-clause-breaks g c = IfErr-weaker c.write_reply.result _ _ (λ _ part.
     let reply = sym (ap (λ r. r.reply) c.in-Ok.ensures.step) in
     inl (
       sym (ap (λ r. r.timeline) c.in-Ok.ensures.step),
-      (part.0, subst (λ (r : Reply). Appends (g.W.Output.written c.args.writer.now) (g.W.Output.written c.write_reply.new.writer) (take part.0 (reply_text r))) reply part.1),
+      (
+        part.0,
+        subst (λ (r : Reply). Appends (g.W.Output.written c.args.writer.now) (g.W.Output.written c.write_reply.new.writer)
+            (take part.0 (reply_text r))) reply part.1,
+      ),
     )) c.write_reply.ensures.part
 
 -- a command whose reply takes memory has changed nothing
 pub returns-clause-unchanged : goal.returns-clause-unchanged
-returns-clause-unchanged g c = IfErr-weaker c.write_reply.result _ _ (λ _ memory none. listing-keeps _ _ _ _ c.in-Ok.ensures.step (memory none)) c.write_reply.ensures.memory
+returns-clause-unchanged g c =
+    IfErr-weaker c.write_reply.result _ _ (λ _ memory none. listing-keeps _ _ _ _ c.in-Ok.ensures.step (memory none)) c.write_reply.ensures.memory
 
 -- the command is the one that shows a branch
 same : (t : Timeline) (command : Command) (name : List ℕ) → command ≡ Show name → command_step t command ≡ show_command t name
@@ -39,7 +44,8 @@ returns-in-Show-clause-timeline g c =
 pub returns-in-Show-clause-text : goal.returns-in-Show-clause-text
 returns-in-Show-clause-text g c =
     on_ok_weaker c.answer_show.result
-    (subst (λ (r : Replied). Appends (g.W.Output.written c.args.writer.now) (g.W.Output.written c.answer_show.new.writer) (reply_text r.reply)) (sym (same _ _ _ c.in-Show.is)))
+    (subst (λ (r : Replied). Appends (g.W.Output.written c.args.writer.now) (g.W.Output.written c.answer_show.new.writer)
+    (reply_text r.reply)) (sym (same _ _ _ c.in-Show.is)))
     c.answer_show.ensures.whole
 
 pub returns-in-Show-clause-breaks : goal.returns-in-Show-clause-breaks
@@ -47,7 +53,11 @@ returns-in-Show-clause-breaks g c =
     on_err_weaker c.answer_show.result (λ part.
     inl (
       sym (ap (λ (r : Replied). r.timeline) (same _ _ _ c.in-Show.is) ∙ c.answer_show.ensures.still),
-      (part.0, subst (λ (r : Replied). Appends (g.W.Output.written c.args.writer.now) (g.W.Output.written c.answer_show.new.writer) (take part.0 (reply_text r.reply))) (sym (same _ _ _ c.in-Show.is)) part.1),
+      (
+        part.0,
+        subst (λ (r : Replied). Appends (g.W.Output.written c.args.writer.now) (g.W.Output.written c.answer_show.new.writer)
+            (take part.0 (reply_text r.reply))) (sym (same _ _ _ c.in-Show.is)) part.1,
+      ),
     )) c.answer_show.ensures.part
 
 -- the command is the one that shows another place
@@ -56,12 +66,14 @@ same_past t command name k is = ap (command_step t) is ∙ past-step t name k
 
 pub returns-in-Past-clause-timeline : goal.returns-in-Past-clause-timeline
 returns-in-Past-clause-timeline g c =
-    any-ok c.answer_past.result _ (c.answer_past.ensures.still ∙ sym (ap (λ (r : Replied). r.timeline) (same_past _ _ _ _ c.in-Past.is) ∙ c.answer_past.ensures.timeline))
+    any-ok c.answer_past.result _ (c.answer_past.ensures.still
+    ∙ sym (ap (λ (r : Replied). r.timeline) (same_past _ _ _ _ c.in-Past.is) ∙ c.answer_past.ensures.timeline))
 
 pub returns-in-Past-clause-text : goal.returns-in-Past-clause-text
 returns-in-Past-clause-text g c =
     on_ok_weaker c.answer_past.result
-    (subst (λ (r : Replied). Appends (g.W.Output.written c.args.writer.now) (g.W.Output.written c.answer_past.new.writer) (reply_text r.reply)) (sym (same_past _ _ _ _ c.in-Past.is)))
+    (subst (λ (r : Replied). Appends (g.W.Output.written c.args.writer.now) (g.W.Output.written c.answer_past.new.writer)
+    (reply_text r.reply)) (sym (same_past _ _ _ _ c.in-Past.is)))
     c.answer_past.ensures.whole
 
 pub returns-in-Past-clause-breaks : goal.returns-in-Past-clause-breaks
@@ -69,5 +81,9 @@ returns-in-Past-clause-breaks g c =
     on_err_weaker c.answer_past.result (λ part.
     inl (
       c.answer_past.ensures.still ∙ sym (ap (λ (r : Replied). r.timeline) (same_past _ _ _ _ c.in-Past.is) ∙ c.answer_past.ensures.timeline),
-      (part.0, subst (λ (r : Replied). Appends (g.W.Output.written c.args.writer.now) (g.W.Output.written c.answer_past.new.writer) (take part.0 (reply_text r.reply))) (sym (same_past _ _ _ _ c.in-Past.is)) part.1),
+      (
+        part.0,
+        subst (λ (r : Replied). Appends (g.W.Output.written c.args.writer.now) (g.W.Output.written c.answer_past.new.writer)
+            (take part.0 (reply_text r.reply))) (sym (same_past _ _ _ _ c.in-Past.is)) part.1,
+      ),
     )) c.answer_past.ensures.part

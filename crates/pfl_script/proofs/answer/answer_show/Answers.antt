@@ -9,7 +9,8 @@ use Rattle.pfl_script.proofs.answer.answer_show.Goals as goal
 pub returns-in-Ok-clause-whole : goal.returns-in-Ok-clause-whole
 returns-in-Ok-clause-whole g c =
     ok-shown (shown c.in-Ok.branch.now) _ _ _ c.write_shown.result (λ world is whole.
-    subst (λ (r : Reply). Appends (g.W.Output.written c.args.writer.now) (g.W.Output.written c.write_shown.new.writer) (reply_text r)) (sym (ap (λ r. r.reply) is)) whole)
+    subst (λ (r : Reply). Appends (g.W.Output.written c.args.writer.now) (g.W.Output.written c.write_shown.new.writer) (reply_text r))
+    (sym (ap (λ r. r.reply) is)) whole)
     c.in-Ok.ensures.branch c.write_shown.ensures.whole
 
 pub returns-in-Ok-clause-still : goal.returns-in-Ok-clause-still
@@ -17,6 +18,9 @@ returns-in-Ok-clause-still g c = of-shown (shown c.in-Ok.branch.now) _ _ (λ wor
 
 pub returns-in-Ok-clause-part : goal.returns-in-Ok-clause-part
 returns-in-Ok-clause-part g c =
-    err-shown (shown c.in-Ok.branch.now) _ _ _ c.write_shown.result (λ world is part.
-    (part.0, subst (λ (r : Reply). Appends (g.W.Output.written c.args.writer.now) (g.W.Output.written c.write_shown.new.writer) (take part.0 (reply_text r))) (sym (ap (λ r. r.reply) is)) part.1))
+    err-shown (shown c.in-Ok.branch.now) _ _ _ c.write_shown.result (λ world is part. (
+      part.0,
+      subst (λ (r : Reply). Appends (g.W.Output.written c.args.writer.now) (g.W.Output.written c.write_shown.new.writer)
+          (take part.0 (reply_text r))) (sym (ap (λ r. r.reply) is)) part.1,
+    ))
     c.in-Ok.ensures.branch c.write_shown.ensures.part

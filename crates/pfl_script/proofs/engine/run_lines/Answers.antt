@@ -34,7 +34,8 @@ returns-in_err-advance-clause-fault g c =
     rw (p.1, p.2) (run-read _ c.advance.new.self _ c.in_err-advance.ensures.fault)
 
 pub returns-in_err-advance-clause-reads : goal.returns-in_err-advance-clause-reads
-returns-in_err-advance-clause-reads g c = Counts-more c.args.reader.now c.loop-reader.reader c.advance.new.self c.loop-reader.invariant.reads c.advance.ensures.turns
+returns-in_err-advance-clause-reads g c =
+    Counts-more c.args.reader.now c.loop-reader.reader c.advance.new.self c.loop-reader.invariant.reads c.advance.ensures.turns
 
 pub returns-in_err-advance-clause-few : goal.returns-in_err-advance-clause-few
 returns-in_err-advance-clause-few g c = c.advance.ensures.few c.loop-reader.invariant.most
@@ -54,7 +55,8 @@ returns-in_err-bad-clause-until g c =
     c.in_err-bad.ensures.command (λ none. ap g.W.Output.written (c.in_err-bad.ensures.untouched none)) c.in_err-bad.ensures.unchanged)
 
 pub returns-in_err-bad-clause-reads : goal.returns-in_err-bad-clause-reads
-returns-in_err-bad-clause-reads g c = Counts-more c.args.reader.now c.loop-reader.reader c.advance.new.self c.loop-reader.invariant.reads c.advance.ensures.turns
+returns-in_err-bad-clause-reads g c =
+    Counts-more c.args.reader.now c.loop-reader.reader c.advance.new.self c.loop-reader.invariant.reads c.advance.ensures.turns
 
 pub returns-in_err-bad-clause-few : goal.returns-in_err-bad-clause-few
 returns-in_err-bad-clause-few g c = c.advance.ensures.few c.loop-reader.invariant.most

@@ -4,4 +4,5 @@ use Rattle.pfl_script.proofs.node_lines.push_counts.Goals as goal
 
 pub returns : goal.returns
 returns g c =
-    on_ok_weaker c.push_shown.result (λ pushed. pushed ∙ ap (λ (printed : List ℕ). c.args.text.now.items ++ printed) (simp append_assoc refl)) c.push_shown.ensures
+    on_ok_weaker c.push_shown.result
+    (λ pushed. pushed ∙ ap (λ (printed : List ℕ). c.args.text.now.items ++ printed) (simp append_assoc refl)) c.push_shown.ensures

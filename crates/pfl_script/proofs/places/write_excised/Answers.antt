@@ -20,7 +20,8 @@ pub returns-in_err-make_room-clause-part : goal.returns-in_err-make_room-clause-
 returns-in_err-make_room-clause-part g c =
     let p = err_from_is_err_and c.from_residual.result c.from_residual.ensures.1 in
     let part = c.in_err-make_room.ensures.part in
-    rw p.1 (all-but-part _ _ _ _ _ _ _ part.0 c.loop-place.invariant.written (text_split placed c.args.places.now c.loop-place.place-index (codes "excised") (codes "\n")) part.1 part.2)
+    rw p.1 (all-but-part _ _ _ _ _ _ _ part.0 c.loop-place.invariant.written
+    (text_split placed c.args.places.now c.loop-place.place-index (codes "excised") (codes "\n")) part.1 part.2)
 
 -- the last piece was written in part
 pub returns-clause-part : goal.returns-clause-part

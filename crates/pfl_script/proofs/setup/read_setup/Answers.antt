@@ -2,7 +2,8 @@ use Rattle.std.proofs.Common.{arith, refl, ℕ, ◌≡◌, ◌+◌, Bool, Vec, s
 use Rattle.std.proofs.lemmas.Result.{err_from_is_err_and}
 use Rattle.pfl_script.specs.inner.Setups.{Takes}
 use Rattle.pfl_script.specs.Setups.{kept_words}
-use Rattle.pfl_script.proofs.Setting.{Going-none, Going-more, Going-open, stops-read, stops-taken, stops-finished, counts-read, counts-taken, counts-finished, Text-none, Text-more, Text-open, on-ok, on-err}
+use Rattle.pfl_script.proofs.Setting.{Going-none, Going-more, Going-open, stops-read, stops-taken, stops-finished, counts-read, counts-taken}
+use Rattle.pfl_script.proofs.Setting.{counts-finished, Text-none, Text-more, Text-open, on-ok, on-err}
 use Rattle.pfl_reader.proofs.ForCallers.{Counts-begun, Counts-more, counted-line, counted-none, gave-line}
 use Rattle.pfl_script.proofs.setup.read_setup.Goals as goal
 
@@ -30,7 +31,8 @@ returns-in_err-advance-clause-lines g c =
     rw (p.1, p.2) (c.loop-text.number, counts-read _ _ _ _ _ _ c.loop-text.invariant.going, c.in_err-advance.ensures.uncounted ∙ c.loop-text.invariant.lines)
 
 pub returns-in_err-advance-clause-reads : goal.returns-in_err-advance-clause-reads
-returns-in_err-advance-clause-reads g c = Counts-more c.args.reader.now c.loop-text.reader c.advance.new.self c.loop-text.invariant.reads c.advance.ensures.turns
+returns-in_err-advance-clause-reads g c =
+    Counts-more c.args.reader.now c.loop-text.reader c.advance.new.self c.loop-text.invariant.reads c.advance.ensures.turns
 
 pub returns-in_err-advance-clause-few : goal.returns-in_err-advance-clause-few
 returns-in_err-advance-clause-few g c = c.advance.ensures.few c.loop-text.invariant.most
@@ -40,17 +42,24 @@ pub returns-in_err-take_line-clause-fault : goal.returns-in_err-take_line-clause
 returns-in_err-take_line-clause-fault g c =
     let reads = gave-line _ _ _ _ _ c.in_ok-advance.ensures.line c.if-branch.true c.line-line.ensures in
     let p = err_from_is_err_and c.from_residual-in_err-take_line.result c.from_residual-in_err-take_line.ensures.1 in
-    rw (p.1, p.2) (stops-taken _ _ c.advance.new.self c.loop-text.number c.loop-text.draft c.line-line.result _ c.loop-text.invariant.going reads c.in_err-take_line.ensures.fault)
+    rw (p.1, p.2) (stops-taken _ _ c.advance.new.self c.loop-text.number c.loop-text.draft c.line-line.result _ c.loop-text.invariant.going
+    reads c.in_err-take_line.ensures.fault)
 
 pub returns-in_err-take_line-clause-lines : goal.returns-in_err-take_line-clause-lines
 returns-in_err-take_line-clause-lines g c =
     let reads = gave-line _ _ _ _ _ c.in_ok-advance.ensures.line c.if-branch.true c.line-line.ensures in
     let lines = counted-line _ _ _ c.in_ok-advance.ensures.lines c.if-branch.true in
     let p = err_from_is_err_and c.from_residual-in_err-take_line.result c.from_residual-in_err-take_line.ensures.1 in
-    rw (p.1, p.2) (c.loop-text.number + 1, counts-taken _ _ _ _ c.loop-text.number c.loop-text.draft c.line-line.result c.loop-text.invariant.going reads c.in_err-take_line.ensures.fault, omega (arith, lines, c.loop-text.invariant.lines))
+    rw (p.1, p.2) (
+      c.loop-text.number + 1,
+      counts-taken _ _ _ _ c.loop-text.number c.loop-text.draft c.line-line.result
+          c.loop-text.invariant.going reads c.in_err-take_line.ensures.fault,
+      omega (arith, lines, c.loop-text.invariant.lines),
+    )
 
 pub returns-in_err-take_line-clause-reads : goal.returns-in_err-take_line-clause-reads
-returns-in_err-take_line-clause-reads g c = Counts-more c.args.reader.now c.loop-text.reader c.advance.new.self c.loop-text.invariant.reads c.advance.ensures.turns
+returns-in_err-take_line-clause-reads g c =
+    Counts-more c.args.reader.now c.loop-text.reader c.advance.new.self c.loop-text.invariant.reads c.advance.ensures.turns
 
 pub returns-in_err-take_line-clause-few : goal.returns-in_err-take_line-clause-few
 returns-in_err-take_line-clause-few g c = c.advance.ensures.few c.loop-text.invariant.most
@@ -59,15 +68,22 @@ returns-in_err-take_line-clause-few g c = c.advance.ensures.few c.loop-text.inva
 pub returns-then-branch-2-clause-setup : goal.returns-then-branch-2-clause-setup
 returns-then-branch-2-clause-setup g c =
     let reads = gave-line _ _ _ _ _ c.in_ok-advance.ensures.line c.if-branch.true c.line-line.ensures in
-    let takes = subst (λ (b : Bool). Takes b (kept_words c.line-line.result) c.loop-text.draft c.take_line.new.self) c.if-branch-2.true c.in_ok-take_line.ensures.taken in
+    let takes = subst (λ (b : Bool). Takes b (kept_words c.line-line.result) c.loop-text.draft c.take_line.new.self) c.if-branch-2.true
+    c.in_ok-take_line.ensures.taken in
     let opens = Going-open _ _ _ _ _ _ c.line-line.result c.loop-text.invariant.going reads takes in
-    on-ok c.finish.result (λ s finishes. record { draft = c.take_line.new.self; number = c.loop-text.number + 1; opens = opens; finishes = finishes }) c.finish.ensures.setup
+    on-ok c.finish.result (λ s finishes. record {
+      draft = c.take_line.new.self;
+      number = c.loop-text.number + 1;
+      opens = opens;
+      finishes = finishes;
+    }) c.finish.ensures.setup
 
 -- it ends at the line that was read last
 pub returns-then-branch-2-clause-counted : goal.returns-then-branch-2-clause-counted
 returns-then-branch-2-clause-counted g c =
     let reads = gave-line _ _ _ _ _ c.in_ok-advance.ensures.line c.if-branch.true c.line-line.ensures in
-    let takes = subst (λ (b : Bool). Takes b (kept_words c.line-line.result) c.loop-text.draft c.take_line.new.self) c.if-branch-2.true c.in_ok-take_line.ensures.taken in
+    let takes = subst (λ (b : Bool). Takes b (kept_words c.line-line.result) c.loop-text.draft c.take_line.new.self) c.if-branch-2.true
+    c.in_ok-take_line.ensures.taken in
     let opens = Going-open _ _ _ _ _ _ c.line-line.result c.loop-text.invariant.going reads takes in
     let lines = counted-line _ _ _ c.in_ok-advance.ensures.lines c.if-branch.true in
     let less = c.in_ok-advance.ensures.room c.if-branch.true in
@@ -80,25 +96,34 @@ returns-then-branch-2-clause-counted g c =
 pub returns-then-branch-2-clause-text : goal.returns-then-branch-2-clause-text
 returns-then-branch-2-clause-text g c =
     let reads = gave-line _ _ _ _ _ c.in_ok-advance.ensures.line c.if-branch.true c.line-line.ensures in
-    let takes = subst (λ (b : Bool). Takes b (kept_words c.line-line.result) c.loop-text.draft c.take_line.new.self) c.if-branch-2.true c.in_ok-take_line.ensures.taken in
-    let text = Text-open (λ (v : Vec ℕ g.row.A.Denot). v.items) _ _ _ _ _ c.line-line.result _ c.text.ensures c.loop-text.invariant.text reads c.with_line-text.ensures takes.0 in
+    let takes = subst (λ (b : Bool). Takes b (kept_words c.line-line.result) c.loop-text.draft c.take_line.new.self) c.if-branch-2.true
+    c.in_ok-take_line.ensures.taken in
+    let text = Text-open (λ (v : Vec ℕ g.row.A.Denot). v.items) _ _ _ _ _ c.line-line.result _ c.text.ensures c.loop-text.invariant.text
+    reads c.with_line-text.ensures takes.0 in
     on-ok c.finish.result (λ s is. rw is text) c.finish.ensures.text
 
 -- the rules have a fault
 pub returns-then-branch-2-clause-fault : goal.returns-then-branch-2-clause-fault
 returns-then-branch-2-clause-fault g c =
     let reads = gave-line _ _ _ _ _ c.in_ok-advance.ensures.line c.if-branch.true c.line-line.ensures in
-    let takes = subst (λ (b : Bool). Takes b (kept_words c.line-line.result) c.loop-text.draft c.take_line.new.self) c.if-branch-2.true c.in_ok-take_line.ensures.taken in
+    let takes = subst (λ (b : Bool). Takes b (kept_words c.line-line.result) c.loop-text.draft c.take_line.new.self) c.if-branch-2.true
+    c.in_ok-take_line.ensures.taken in
     let opens = Going-open _ _ _ _ _ _ c.line-line.result c.loop-text.invariant.going reads takes in
     on-err c.finish.result (λ e stop. stops-finished _ c.advance.new.self (c.loop-text.number + 1) c.take_line.new.self e opens stop) c.finish.ensures.fault
 
 pub returns-then-branch-2-clause-lines : goal.returns-then-branch-2-clause-lines
 returns-then-branch-2-clause-lines g c =
     let reads = gave-line _ _ _ _ _ c.in_ok-advance.ensures.line c.if-branch.true c.line-line.ensures in
-    let takes = subst (λ (b : Bool). Takes b (kept_words c.line-line.result) c.loop-text.draft c.take_line.new.self) c.if-branch-2.true c.in_ok-take_line.ensures.taken in
+    let takes = subst (λ (b : Bool). Takes b (kept_words c.line-line.result) c.loop-text.draft c.take_line.new.self) c.if-branch-2.true
+    c.in_ok-take_line.ensures.taken in
     let opens = Going-open _ _ _ _ _ _ c.line-line.result c.loop-text.invariant.going reads takes in
     let lines = counted-line _ _ _ c.in_ok-advance.ensures.lines c.if-branch.true in
-    on-err c.finish.result (λ e stop. (c.loop-text.number + 1, counts-finished e _ _ (c.loop-text.number + 1) c.take_line.new.self opens stop, omega (arith, lines, c.loop-text.invariant.lines))) c.finish.ensures.fault
+    on-err c.finish.result (λ e stop. (
+      c.loop-text.number + 1,
+      counts-finished e _ _ (c.loop-text.number + 1) c.take_line.new.self opens stop,
+      omega
+          (arith, lines, c.loop-text.invariant.lines),
+    )) c.finish.ensures.fault
 
 pub returns-then-branch-2-clause-reads : goal.returns-then-branch-2-clause-reads
 returns-then-branch-2-clause-reads g c = Counts-more c.args.reader.now c.loop-text.reader c.advance.new.self c.loop-text.invariant.reads c.advance.ensures.turns
@@ -122,14 +147,16 @@ returns-clause-few g c = c.advance.ensures.few c.loop-text.invariant.most
 pub loop-text-preserved : goal.loop-text-preserved
 loop-text-preserved g c =
     let reads = gave-line _ _ _ _ _ c.in_ok-advance.ensures.line c.if-branch.true c.line-line.ensures in
-    let takes = subst (λ (b : Bool). Takes b (kept_words c.line-line.result) c.loop-text.draft c.take_line.new.self) c.if-branch-2.false c.in_ok-take_line.ensures.taken in
+    let takes = subst (λ (b : Bool). Takes b (kept_words c.line-line.result) c.loop-text.draft c.take_line.new.self) c.if-branch-2.false
+    c.in_ok-take_line.ensures.taken in
     let less = c.in_ok-advance.ensures.room c.if-branch.true in
     let lines = counted-line _ _ _ c.in_ok-advance.ensures.lines c.if-branch.true in
     record {
       counted = λ fresh. let was = c.loop-text.invariant.counted fresh in omega (arith, lines, was, less, c.loop-text.invariant.few);
       going = Going-more _ _ _ _ _ _ c.line-line.result c.loop-text.invariant.going reads takes;
       text =
-          Text-more (λ (v : Vec ℕ g.row.A.Denot). v.items) _ _ _ _ _ c.line-line.result _ c.text.ensures c.loop-text.invariant.text reads c.with_line-text.ensures;
+          Text-more (λ (v : Vec ℕ g.row.A.Denot). v.items) _ _ _ _ _ c.line-line.result _ c.text.ensures c.loop-text.invariant.text reads
+          c.with_line-text.ensures;
       lines = omega (arith, lines, c.loop-text.invariant.lines);
       few = omega (arith, less, c.loop-text.invariant.few);
       reads = Counts-more c.args.reader.now c.loop-text.reader c.advance.new.self c.loop-text.invariant.reads c.advance.ensures.turns;

@@ -13,6 +13,7 @@ returns g c =
     ∙ ap (λ (n : ℕ). c.push_node-2.new.text.items ++ link_lines c.args.world.now.link n) c.next_boot.ensures.boot) in
     let w = c.args.world.now in
     let branch = c.in_ok-push_branch.ensures ∙ ap (λ first. first ++ branch_line c.args.name.now c.args.events c.args.cursor) c.new-text.ensures.items in
-    pushed_five [] (branch_line c.args.name.now c.args.events c.args.cursor) (node_lines A w.a) (node_lines B w.b) (link_lines w.link w.next_boot) (codes "end\n")
+    pushed_five [] (branch_line c.args.name.now c.args.events c.args.cursor) (node_lines A w.a) (node_lines B w.b)
+    (link_lines w.link w.next_boot) (codes "end\n")
     c.push_branch.new.text.items c.push_node.new.text.items c.push_node-2.new.text.items c.push_link.new.text.items c.extend_from_slice.new.self.items
     branch a b link c.in_ok-extend_from_slice.ensures.items

@@ -6,4 +6,5 @@ use Rattle.pfl_script.proofs.traced.push_sent_records.Given as goal
 
 -- with the lines of the records that are left the text is whole
 abbrev pub invariant-loop-message : goal.invariant-loop-message
-invariant-loop-message g l = l.text.items ++ flat_map sent_record_line l.message-iterator ≡ l.initial.text.items ++ flat_map sent_record_line (records_of l.frame)
+invariant-loop-message g l = l.text.items ++ flat_map sent_record_line l.message-iterator ≡ l.initial.text.items
+    ++ flat_map sent_record_line (records_of l.frame)

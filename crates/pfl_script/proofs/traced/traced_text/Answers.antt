@@ -13,8 +13,10 @@ returns g c =
     let it = c.args.trace.now in
     let name = c.bytes-name.result.now in
     let first = traced_line name it.ticket in
-    let content = c.in_ok-push_content.ensures ∙ ap (λ (bytes : List ℕ). c.push_sent_frame.new.text.items ++ content_lines (reading bytes)) (c.as_slice.ensures.bytes ∙ c.bytes.ensures.bytes) in
-    let later = c.in_ok-push_frame_steps.ensures ∙ ap (λ (steps : List FrameStep). c.push_content.new.text.items ++ flat_map (frame_step_lines name) steps) c.as_slice-2.ensures.value in
+    let content = c.in_ok-push_content.ensures ∙ ap (λ (bytes : List ℕ). c.push_sent_frame.new.text.items ++ content_lines (reading bytes))
+    (c.as_slice.ensures.bytes ∙ c.bytes.ensures.bytes) in
+    let later = c.in_ok-push_frame_steps.ensures
+    ∙ ap (λ (steps : List FrameStep). c.push_content.new.text.items ++ flat_map (frame_step_lines name) steps) c.as_slice-2.ensures.value in
     pushed_six [] first (frame_step_lines name it.first) (frame_text it.ticket it.frame.to it.frame.bytes) (content_lines (reading it.frame.bytes))
     (flat_map (frame_step_lines name) it.later.items) (codes "end\n")
     c.push_traced.new.text.items c.push_frame_step.new.text.items c.push_sent_frame.new.text.items c.push_content.new.text.items

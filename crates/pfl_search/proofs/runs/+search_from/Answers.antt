@@ -6,11 +6,13 @@ use Rattle.pfl_edits.specs.Tapes.{Taped}
 use Rattle.pfl_world.specs.declared.edit.WorldEdit.{WorldEdit}
 use Rattle.pfl_world.specs.Worlds.{World}
 use Rattle.pfl_search.proofs.Lists.{from_added}
-use Rattle.pfl_search.proofs.Searching.{back_again, found_count, found_first, held_of, is_of, part_count, passed_count, passed_first, place_left, place_within, refused_count, refused_first, reversed, stops, stops_soon}
+use Rattle.pfl_search.proofs.Searching.{back_again, found_count, found_first, held_of, is_of, part_count, passed_count, passed_first, place_left}
+use Rattle.pfl_search.proofs.Searching.{place_within, refused_count, refused_first, reversed, stops, stops_soon}
 use Rattle.pfl_search.proofs.Taking.{tape_back, world_back}
-use Rattle.pfl_search.proofs.Visiting.{among_none, first_among, first_here, first_none, first_on, visited_among, visited_here, visited_no_turn, visited_none, visited_on, visited_some}
+use Rattle.pfl_search.proofs.Visiting.{among_none, first_among, first_here, first_none, first_on, visited_among, visited_here, visited_no_turn}
+use Rattle.pfl_search.proofs.Visiting.{visited_none, visited_on, visited_some}
 use Rattle.pfl_search.specs.Choices.{turns}
-use Rattle.pfl_search.specs.declared.turns.Turn.{Turn}
+use Rattle.pfl_search.specs.declared.turns.Candidate.{Candidate}
 use Rattle.pfl_search.specs.Visits.{in_turn, worlds_visited_after}
 use Rattle.pfl_search.specs.inner.Turns.{Entered, Enters, IsOf, Stays}
 use Rattle.pfl_search.proofs.runs.+search_from.Goals as goal
@@ -19,7 +21,9 @@ use Rattle.pfl_search.proofs.runs.+search_from.Goals.{then-branch-2+in_ok-run+in
 pub returns-in_err-visit-clause-stopped : goal.returns-in_err-visit-clause-stopped
 returns-in_err-visit-clause-stopped g t c =
     let p = err_from_is_err_and c.from_residual.result c.from_residual.ensures.1 in
-    rw (p.1, p.2) (stops_soon c.in_err-visit.field-0.0 c.args.left.now (worlds_visited_after c.args.before c.args.goal.now c.args.depth c.args.choices.now c.args.world.now) c.in_err-visit.ensures.stopped (visited_some c.args.goal.now c.args.before c.args.depth c.args.choices.now c.args.world.now))
+    rw (p.1, p.2) (stops_soon c.in_err-visit.field-0.0 c.args.left.now
+    (worlds_visited_after c.args.before c.args.goal.now c.args.depth c.args.choices.now c.args.world.now)
+    c.in_err-visit.ensures.stopped (visited_some c.args.goal.now c.args.before c.args.depth c.args.choices.now c.args.world.now))
 
 pub returns-then-branch-clause-first : goal.returns-then-branch-clause-first
 returns-then-branch-clause-first g t c =
@@ -29,17 +33,20 @@ returns-then-branch-clause-first g t c =
 pub returns-then-branch-clause-counted : goal.returns-then-branch-clause-counted
 returns-then-branch-clause-counted g t c =
     let left = c.in_ok-visit.ensures.counted in
-    let one = visited_here c.args.goal.now c.args.before c.args.depth c.args.choices.now c.args.world.now (sym c.in_ok-visit.ensures.meets ∙ c.if-branch.true) in
+    let one = visited_here c.args.goal.now c.args.before c.args.depth c.args.choices.now c.args.world.now (sym c.in_ok-visit.ensures.meets
+    ∙ c.if-branch.true) in
     omega arith
 
 pub returns-then-depth-eq0-clause-first : goal.returns-then-depth-eq0-clause-first
 returns-then-depth-eq0-clause-first g t c =
-    sym (first_none c.args.goal.now c.args.before c.args.depth c.args.choices.now c.args.world.now (sym c.in_ok-visit.ensures.meets ∙ c.if-branch.false) c.if-depth-eq0.true)
+    sym (first_none c.args.goal.now c.args.before c.args.depth c.args.choices.now c.args.world.now (sym c.in_ok-visit.ensures.meets
+    ∙ c.if-branch.false) c.if-depth-eq0.true)
 
 pub returns-then-depth-eq0-clause-counted : goal.returns-then-depth-eq0-clause-counted
 returns-then-depth-eq0-clause-counted g t c =
     let left = c.in_ok-visit.ensures.counted in
-    let one = visited_none c.args.goal.now c.args.before c.args.depth c.args.choices.now c.args.world.now (sym c.in_ok-visit.ensures.meets ∙ c.if-branch.false) c.if-depth-eq0.true in
+    let one = visited_none c.args.goal.now c.args.before c.args.depth c.args.choices.now c.args.world.now (sym c.in_ok-visit.ensures.meets
+    ∙ c.if-branch.false) c.if-depth-eq0.true in
     omega arith
 
 pub loop-index-init : goal.loop-index-init
@@ -49,8 +56,11 @@ loop-index-init g t c =
     let cs = c.args.choices.now in
     let w = c.args.world.now in
     let items = c.add_all.new.turns.items in
-    let here : items ≡ c.args.turns.now.items ++ in_turn c.args.before w (turns cs w) = c.in_ok-add_all.ensures ∙ ap (λ (u : World). c.args.turns.now.items ++ in_turn c.args.before u (turns cs u)) c.in_ok-visit.ensures.world in
-    let all : drop c.len-first.result items ≡ in_turn c.args.before w (turns cs w) = from_added c.args.turns.now.items (in_turn c.args.before w (turns cs w)) items c.len-first.result here (c.len-first.ensures ∙ c.args.turns.now.ok.0) in
+    let here : items ≡ c.args.turns.now.items ++ in_turn c.args.before w (turns cs w) = c.in_ok-add_all.ensures
+    ∙ ap (λ (u : World). c.args.turns.now.items ++ in_turn c.args.before u (turns cs u)) c.in_ok-visit.ensures.world in
+    let all : drop c.len-first.result items ≡ in_turn c.args.before w (turns cs w) =
+    from_added c.args.turns.now.items (in_turn c.args.before w (turns cs w)) items c.len-first.result here (c.len-first.ensures
+    ∙ c.args.turns.now.ok.0) in
     let shut = sym c.in_ok-visit.ensures.meets ∙ c.if-branch.false in
     let some : 0 < d = omega arith in
     let left = c.in_ok-visit.ensures.counted in
@@ -71,7 +81,9 @@ bounds-choices-turn g t c =
     let cs = c.args.choices.now in
     let w = c.args.world.now in
     let within : c.loop-index.index < length c.loop-index.turns.items = omega arith in
-    let of : IsOf cs c.index.result.now = is_of c.args.before cs w c.args.turns.now.items c.loop-index.turns.items c.len-first.result c.loop-index.index c.index.result.now c.loop-index.invariant.turns (c.len-first.ensures ∙ c.args.turns.now.ok.0) c.loop-index.auto.index within c.index.ensures in
+    let of : IsOf cs c.index.result.now =
+    is_of c.args.before cs w c.args.turns.now.items c.loop-index.turns.items c.len-first.result c.loop-index.index c.index.result.now
+    c.loop-index.invariant.turns (c.len-first.ensures ∙ c.args.turns.now.ok.0) c.loop-index.auto.index within c.index.ensures in
     place_within cs c.loop-index.choices c.index.result.now c.loop-index.invariant.choices of
 
 pub offset_bounds-choices-turn : goal.offset_bounds-choices-turn
@@ -79,8 +91,11 @@ offset_bounds-choices-turn g t c =
     let cs = c.args.choices.now in
     let w = c.args.world.now in
     let within : c.loop-index.index < length c.loop-index.turns.items = omega arith in
-    let of : IsOf cs c.index.result.now = is_of c.args.before cs w c.args.turns.now.items c.loop-index.turns.items c.len-first.result c.loop-index.index c.index.result.now c.loop-index.invariant.turns (c.len-first.ensures ∙ c.args.turns.now.ok.0) c.loop-index.auto.index within c.index.ensures in
-    let under : c.index.result.now.place < length c.loop-index.choices = place_within cs c.loop-index.choices c.index.result.now c.loop-index.invariant.choices of in
+    let of : IsOf cs c.index.result.now =
+    is_of c.args.before cs w c.args.turns.now.items c.loop-index.turns.items c.len-first.result c.loop-index.index c.index.result.now
+    c.loop-index.invariant.turns (c.len-first.ensures ∙ c.args.turns.now.ok.0) c.loop-index.auto.index within c.index.ensures in
+    let under : c.index.result.now.place < length c.loop-index.choices =
+    place_within cs c.loop-index.choices c.index.result.now c.loop-index.invariant.choices of in
     search rules
 
 pub enter-requires : goal.enter-requires
@@ -88,7 +103,9 @@ enter-requires g t c =
     let cs = c.args.choices.now in
     let w = c.args.world.now in
     let within : c.loop-index.index < length c.loop-index.turns.items = omega arith in
-    let of : IsOf cs c.index.result.now = is_of c.args.before cs w c.args.turns.now.items c.loop-index.turns.items c.len-first.result c.loop-index.index c.index.result.now c.loop-index.invariant.turns (c.len-first.ensures ∙ c.args.turns.now.ok.0) c.loop-index.auto.index within c.index.ensures in
+    let of : IsOf cs c.index.result.now =
+    is_of c.args.before cs w c.args.turns.now.items c.loop-index.turns.items c.len-first.result c.loop-index.index c.index.result.now
+    c.loop-index.invariant.turns (c.len-first.ensures ∙ c.args.turns.now.ok.0) c.loop-index.auto.index within c.index.ensures in
     record { turn = held_of cs c.loop-index.choices c.index.result.now c.loop-index.invariant.choices of }
 
 pub bounds-choices-turn-then-branch-2 : goal.bounds-choices-turn-then-branch-2
@@ -96,18 +113,26 @@ bounds-choices-turn-then-branch-2 g t c =
     let cs = c.args.choices.now in
     let w = c.args.world.now in
     let within : c.loop-index.index < length c.loop-index.turns.items = omega arith in
-    let of : IsOf cs c.index.result.now = is_of c.args.before cs w c.args.turns.now.items c.loop-index.turns.items c.len-first.result c.loop-index.index c.index.result.now c.loop-index.invariant.turns (c.len-first.ensures ∙ c.args.turns.now.ok.0) c.loop-index.auto.index within c.index.ensures in
-    let e : Entered c.index.result.now c.loop-index.world c.enter.new.world c.loop-index.tape.list c.enter.new.tape.list c.loop-index.choices c.enter.new.choices =
-    subst (Enters c.index.result.now c.loop-index.world c.enter.new.world c.loop-index.tape.list c.enter.new.tape.list c.loop-index.choices c.enter.new.choices) c.if-branch-2.true c.in_ok-enter.ensures.enters in
-    place_left cs c.loop-index.choices c.search_from-run.new.choices c.index.result.now c.loop-index.invariant.choices of (c.search_from-run.ensures.choices ∙ e.choices)
+    let of : IsOf cs c.index.result.now =
+    is_of c.args.before cs w c.args.turns.now.items c.loop-index.turns.items c.len-first.result c.loop-index.index c.index.result.now
+    c.loop-index.invariant.turns (c.len-first.ensures ∙ c.args.turns.now.ok.0) c.loop-index.auto.index within c.index.ensures in
+    let e : Entered c.index.result.now c.loop-index.world c.enter.new.world c.loop-index.tape.list c.enter.new.tape.list
+    c.loop-index.choices c.enter.new.choices =
+    subst (Enters c.index.result.now c.loop-index.world c.enter.new.world c.loop-index.tape.list c.enter.new.tape.list c.loop-index.choices
+    c.enter.new.choices) c.if-branch-2.true c.in_ok-enter.ensures.enters in
+    place_left cs c.loop-index.choices c.search_from-run.new.choices c.index.result.now c.loop-index.invariant.choices of
+    (c.search_from-run.ensures.choices ∙ e.choices)
 
 pub offset_bounds-choices-turn-then-branch-2 : goal.offset_bounds-choices-turn-then-branch-2
 offset_bounds-choices-turn-then-branch-2 g t c =
     let cs = c.args.choices.now in
     let w = c.args.world.now in
     let within : c.loop-index.index < length c.loop-index.turns.items = omega arith in
-    let of : IsOf cs c.index.result.now = is_of c.args.before cs w c.args.turns.now.items c.loop-index.turns.items c.len-first.result c.loop-index.index c.index.result.now c.loop-index.invariant.turns (c.len-first.ensures ∙ c.args.turns.now.ok.0) c.loop-index.auto.index within c.index.ensures in
-    let under : c.index.result.now.place < length c.loop-index.choices = place_within cs c.loop-index.choices c.index.result.now c.loop-index.invariant.choices of in
+    let of : IsOf cs c.index.result.now =
+    is_of c.args.before cs w c.args.turns.now.items c.loop-index.turns.items c.len-first.result c.loop-index.index c.index.result.now
+    c.loop-index.invariant.turns (c.len-first.ensures ∙ c.args.turns.now.ok.0) c.loop-index.auto.index within c.index.ensures in
+    let under : c.index.result.now.place < length c.loop-index.choices =
+    place_within cs c.loop-index.choices c.index.result.now c.loop-index.invariant.choices of in
     search rules
 
 pub returns-in_err-run-clause-choices : goal.returns-in_err-run-clause-choices
@@ -115,20 +140,31 @@ returns-in_err-run-clause-choices g t c =
     let cs = c.args.choices.now in
     let w = c.args.world.now in
     let within : c.loop-index.index < length c.loop-index.turns.items = omega arith in
-    let of : IsOf cs c.index.result.now = is_of c.args.before cs w c.args.turns.now.items c.loop-index.turns.items c.len-first.result c.loop-index.index c.index.result.now c.loop-index.invariant.turns (c.len-first.ensures ∙ c.args.turns.now.ok.0) c.loop-index.auto.index within c.index.ensures in
-    let e : Entered c.index.result.now c.loop-index.world c.enter.new.world c.loop-index.tape.list c.enter.new.tape.list c.loop-index.choices c.enter.new.choices =
-    subst (Enters c.index.result.now c.loop-index.world c.enter.new.world c.loop-index.tape.list c.enter.new.tape.list c.loop-index.choices c.enter.new.choices) c.if-branch-2.true c.in_ok-enter.ensures.enters in
-    back_again cs c.loop-index.choices c.search_from-run.new.choices c.index.result.now c.index-choices-turn.result c.loop-index.invariant.choices of c.index-choices-turn.is (c.search_from-run.ensures.choices ∙ e.choices)
+    let of : IsOf cs c.index.result.now =
+    is_of c.args.before cs w c.args.turns.now.items c.loop-index.turns.items c.len-first.result c.loop-index.index c.index.result.now
+    c.loop-index.invariant.turns (c.len-first.ensures ∙ c.args.turns.now.ok.0) c.loop-index.auto.index within c.index.ensures in
+    let e : Entered c.index.result.now c.loop-index.world c.enter.new.world c.loop-index.tape.list c.enter.new.tape.list
+    c.loop-index.choices c.enter.new.choices =
+    subst (Enters c.index.result.now c.loop-index.world c.enter.new.world c.loop-index.tape.list c.enter.new.tape.list c.loop-index.choices
+    c.enter.new.choices) c.if-branch-2.true c.in_ok-enter.ensures.enters in
+    back_again cs c.loop-index.choices c.search_from-run.new.choices c.index.result.now c.index-choices-turn.result
+    c.loop-index.invariant.choices of c.index-choices-turn.is (c.search_from-run.ensures.choices ∙ e.choices)
 
 pub returns-in_err-run-clause-stopped : goal.returns-in_err-run-clause-stopped
 returns-in_err-run-clause-stopped g t c =
     let cs = c.args.choices.now in
     let w = c.args.world.now in
     let within : c.loop-index.index < length c.loop-index.turns.items = omega arith in
-    let of : IsOf cs c.index.result.now = is_of c.args.before cs w c.args.turns.now.items c.loop-index.turns.items c.len-first.result c.loop-index.index c.index.result.now c.loop-index.invariant.turns (c.len-first.ensures ∙ c.args.turns.now.ok.0) c.loop-index.auto.index within c.index.ensures in
-    let e : Entered c.index.result.now c.loop-index.world c.enter.new.world c.loop-index.tape.list c.enter.new.tape.list c.loop-index.choices c.enter.new.choices =
-    subst (Enters c.index.result.now c.loop-index.world c.enter.new.world c.loop-index.tape.list c.enter.new.tape.list c.loop-index.choices c.enter.new.choices) c.if-branch-2.true c.in_ok-enter.ensures.enters in
-    let part = part_count c.args.goal.now (c.args.depth - 1) cs w c.loop-index.turns.items c.loop-index.index c.index.result.now within c.index.ensures c.loop-index.world c.loop-index.invariant.world c.loop-index.choices c.loop-index.invariant.choices
+    let of : IsOf cs c.index.result.now =
+    is_of c.args.before cs w c.args.turns.now.items c.loop-index.turns.items c.len-first.result c.loop-index.index c.index.result.now
+    c.loop-index.invariant.turns (c.len-first.ensures ∙ c.args.turns.now.ok.0) c.loop-index.auto.index within c.index.ensures in
+    let e : Entered c.index.result.now c.loop-index.world c.enter.new.world c.loop-index.tape.list c.enter.new.tape.list
+    c.loop-index.choices c.enter.new.choices =
+    subst (Enters c.index.result.now c.loop-index.world c.enter.new.world c.loop-index.tape.list c.enter.new.tape.list c.loop-index.choices
+    c.enter.new.choices) c.if-branch-2.true c.in_ok-enter.ensures.enters in
+    let part = part_count c.args.goal.now
+    (c.args.depth - 1) cs w c.loop-index.turns.items c.loop-index.index c.index.result.now within c.index.ensures c.loop-index.world
+    c.loop-index.invariant.world c.loop-index.choices c.loop-index.invariant.choices
     c.enter.new.world c.enter.new.choices c.last_of.result e.gives e.accepted e.world e.choices c.last_of.ensures in
     let p = err_from_is_err_and c.from_residual-in_err-run.result c.from_residual-in_err-run.ensures.1 in
     rw (p.1, p.2) (stops c.in_err-run.field-0.0 c.loop-index.left _ _ _ c.args.left.now c.in_err-run.ensures.stopped part c.loop-index.invariant.counted)
@@ -138,30 +174,44 @@ returns-in_err-append-clause-choices g t c =
     let cs = c.args.choices.now in
     let w = c.args.world.now in
     let within : c.loop-index.index < length c.loop-index.turns.items = omega arith in
-    let of : IsOf cs c.index.result.now = is_of c.args.before cs w c.args.turns.now.items c.loop-index.turns.items c.len-first.result c.loop-index.index c.index.result.now c.loop-index.invariant.turns (c.len-first.ensures ∙ c.args.turns.now.ok.0) c.loop-index.auto.index within c.index.ensures in
-    let e : Entered c.index.result.now c.loop-index.world c.enter.new.world c.loop-index.tape.list c.enter.new.tape.list c.loop-index.choices c.enter.new.choices =
-    subst (Enters c.index.result.now c.loop-index.world c.enter.new.world c.loop-index.tape.list c.enter.new.tape.list c.loop-index.choices c.enter.new.choices) c.if-branch-2.true c.in_ok-enter.ensures.enters in
-    back_again cs c.loop-index.choices c.search_from-run.new.choices c.index.result.now c.index-choices-turn.result c.loop-index.invariant.choices of c.index-choices-turn.is (c.search_from-run.ensures.choices ∙ e.choices)
+    let of : IsOf cs c.index.result.now =
+    is_of c.args.before cs w c.args.turns.now.items c.loop-index.turns.items c.len-first.result c.loop-index.index c.index.result.now
+    c.loop-index.invariant.turns (c.len-first.ensures ∙ c.args.turns.now.ok.0) c.loop-index.auto.index within c.index.ensures in
+    let e : Entered c.index.result.now c.loop-index.world c.enter.new.world c.loop-index.tape.list c.enter.new.tape.list
+    c.loop-index.choices c.enter.new.choices =
+    subst (Enters c.index.result.now c.loop-index.world c.enter.new.world c.loop-index.tape.list c.enter.new.tape.list c.loop-index.choices
+    c.enter.new.choices) c.if-branch-2.true c.in_ok-enter.ensures.enters in
+    back_again cs c.loop-index.choices c.search_from-run.new.choices c.index.result.now c.index-choices-turn.result
+    c.loop-index.invariant.choices of c.index-choices-turn.is (c.search_from-run.ensures.choices ∙ e.choices)
 
 pub returns-in-Some-clause-choices : goal.returns-in-Some-clause-choices
 returns-in-Some-clause-choices g t c =
     let cs = c.args.choices.now in
     let w = c.args.world.now in
     let within : c.loop-index.index < length c.loop-index.turns.items = omega arith in
-    let of : IsOf cs c.index.result.now = is_of c.args.before cs w c.args.turns.now.items c.loop-index.turns.items c.len-first.result c.loop-index.index c.index.result.now c.loop-index.invariant.turns (c.len-first.ensures ∙ c.args.turns.now.ok.0) c.loop-index.auto.index within c.index.ensures in
-    let e : Entered c.index.result.now c.loop-index.world c.enter.new.world c.loop-index.tape.list c.enter.new.tape.list c.loop-index.choices c.enter.new.choices =
-    subst (Enters c.index.result.now c.loop-index.world c.enter.new.world c.loop-index.tape.list c.enter.new.tape.list c.loop-index.choices c.enter.new.choices) c.if-branch-2.true c.in_ok-enter.ensures.enters in
-    back_again cs c.loop-index.choices c.search_from-run.new.choices c.index.result.now c.index-choices-turn.result c.loop-index.invariant.choices of c.index-choices-turn.is (c.search_from-run.ensures.choices ∙ e.choices)
+    let of : IsOf cs c.index.result.now =
+    is_of c.args.before cs w c.args.turns.now.items c.loop-index.turns.items c.len-first.result c.loop-index.index c.index.result.now
+    c.loop-index.invariant.turns (c.len-first.ensures ∙ c.args.turns.now.ok.0) c.loop-index.auto.index within c.index.ensures in
+    let e : Entered c.index.result.now c.loop-index.world c.enter.new.world c.loop-index.tape.list c.enter.new.tape.list
+    c.loop-index.choices c.enter.new.choices =
+    subst (Enters c.index.result.now c.loop-index.world c.enter.new.world c.loop-index.tape.list c.enter.new.tape.list c.loop-index.choices
+    c.enter.new.choices) c.if-branch-2.true c.in_ok-enter.ensures.enters in
+    back_again cs c.loop-index.choices c.search_from-run.new.choices c.index.result.now c.index-choices-turn.result
+    c.loop-index.invariant.choices of c.index-choices-turn.is (c.search_from-run.ensures.choices ∙ e.choices)
 
 pub returns-in-Some-clause-first : goal.returns-in-Some-clause-first
 returns-in-Some-clause-first g t c =
     let cs = c.args.choices.now in
     let w = c.args.world.now in
     let within : c.loop-index.index < length c.loop-index.turns.items = omega arith in
-    let e : Entered c.index.result.now c.loop-index.world c.enter.new.world c.loop-index.tape.list c.enter.new.tape.list c.loop-index.choices c.enter.new.choices =
-    subst (Enters c.index.result.now c.loop-index.world c.enter.new.world c.loop-index.tape.list c.enter.new.tape.list c.loop-index.choices c.enter.new.choices) c.if-branch-2.true c.in_ok-enter.ensures.enters in
+    let e : Entered c.index.result.now c.loop-index.world c.enter.new.world c.loop-index.tape.list c.enter.new.tape.list
+    c.loop-index.choices c.enter.new.choices =
+    subst (Enters c.index.result.now c.loop-index.world c.enter.new.world c.loop-index.tape.list c.enter.new.tape.list c.loop-index.choices
+    c.enter.new.choices) c.if-branch-2.true c.in_ok-enter.ensures.enters in
     let child = rw c.in-Some.is at c.in_ok-run.ensures.first in
-    let found = found_first c.args.goal.now (c.args.depth - 1) cs w c.loop-index.turns.items c.loop-index.index c.index.result.now within c.index.ensures c.loop-index.world c.loop-index.invariant.world c.loop-index.choices c.loop-index.invariant.choices
+    let found = found_first c.args.goal.now
+    (c.args.depth - 1) cs w c.loop-index.turns.items c.loop-index.index c.index.result.now within c.index.ensures c.loop-index.world
+    c.loop-index.invariant.world c.loop-index.choices c.loop-index.invariant.choices
     c.enter.new.world c.enter.new.choices c.last_of.result e.gives e.accepted e.world e.choices c.last_of.ensures (reverse c.in-Some.run'.items) (sym child) in
     ap Some (reversed c.index.result.now.event c.in-Some.run'.items c.append.new.list.items c.in_ok-append.ensures) ∙ sym found ∙ c.loop-index.invariant.rest
 
@@ -170,10 +220,14 @@ returns-in-Some-clause-counted g t c =
     let cs = c.args.choices.now in
     let w = c.args.world.now in
     let within : c.loop-index.index < length c.loop-index.turns.items = omega arith in
-    let e : Entered c.index.result.now c.loop-index.world c.enter.new.world c.loop-index.tape.list c.enter.new.tape.list c.loop-index.choices c.enter.new.choices =
-    subst (Enters c.index.result.now c.loop-index.world c.enter.new.world c.loop-index.tape.list c.enter.new.tape.list c.loop-index.choices c.enter.new.choices) c.if-branch-2.true c.in_ok-enter.ensures.enters in
+    let e : Entered c.index.result.now c.loop-index.world c.enter.new.world c.loop-index.tape.list c.enter.new.tape.list
+    c.loop-index.choices c.enter.new.choices =
+    subst (Enters c.index.result.now c.loop-index.world c.enter.new.world c.loop-index.tape.list c.enter.new.tape.list c.loop-index.choices
+    c.enter.new.choices) c.if-branch-2.true c.in_ok-enter.ensures.enters in
     let child = rw c.in-Some.is at c.in_ok-run.ensures.first in
-    let all = found_count c.args.goal.now (c.args.depth - 1) cs w c.loop-index.turns.items c.loop-index.index c.index.result.now within c.index.ensures c.loop-index.world c.loop-index.invariant.world c.loop-index.choices c.loop-index.invariant.choices
+    let all = found_count c.args.goal.now
+    (c.args.depth - 1) cs w c.loop-index.turns.items c.loop-index.index c.index.result.now within c.index.ensures c.loop-index.world
+    c.loop-index.invariant.world c.loop-index.choices c.loop-index.invariant.choices
     c.enter.new.world c.enter.new.choices c.last_of.result e.gives e.accepted e.world e.choices c.last_of.ensures (reverse c.in-Some.run'.items) (sym child) in
     let there = c.in_ok-run.ensures.counted in
     let count = c.loop-index.invariant.counted in
@@ -184,38 +238,59 @@ loop-index-preserved g t c =
     let cs = c.args.choices.now in
     let w = c.args.world.now in
     let within : c.loop-index.index < length c.loop-index.turns.items = omega arith in
-    let of : IsOf cs c.index.result.now = is_of c.args.before cs w c.args.turns.now.items c.loop-index.turns.items c.len-first.result c.loop-index.index c.index.result.now c.loop-index.invariant.turns (c.len-first.ensures ∙ c.args.turns.now.ok.0) c.loop-index.auto.index within c.index.ensures in
+    let of : IsOf cs c.index.result.now =
+    is_of c.args.before cs w c.args.turns.now.items c.loop-index.turns.items c.len-first.result c.loop-index.index c.index.result.now
+    c.loop-index.invariant.turns (c.len-first.ensures ∙ c.args.turns.now.ok.0) c.loop-index.auto.index within c.index.ensures in
     elim c.if-branch-2.branch [
       | then-branch-2+in_ok-run+in_default u ↦
-          let e : Entered c.index.result.now c.loop-index.world c.enter.new.world c.loop-index.tape.list c.enter.new.tape.list c.loop-index.choices c.enter.new.choices =
-          subst (Enters c.index.result.now c.loop-index.world c.enter.new.world c.loop-index.tape.list c.enter.new.tape.list c.loop-index.choices c.enter.new.choices) u.if-branch-2.true c.in_ok-enter.ensures.enters in
+          let e : Entered c.index.result.now c.loop-index.world c.enter.new.world c.loop-index.tape.list c.enter.new.tape.list
+          c.loop-index.choices c.enter.new.choices =
+          subst (Enters c.index.result.now c.loop-index.world c.enter.new.world c.loop-index.tape.list c.enter.new.tape.list
+          c.loop-index.choices c.enter.new.choices) u.if-branch-2.true c.in_ok-enter.ensures.enters in
           let none = rw u.in_default.is at u.in_ok-run.ensures.first in
           let back = rw u.in_default.is at u.in_ok-run.ensures.turns in
-          let stand : c.if-branch-2.turns.items ≡ c.loop-index.turns.items = ap (λ (ts : Vec Turn g.row.A.Denot). ts.items) u.turns-is ∙ back in
-          let next = ap (λ (ts : List Turn). visited_among c.args.goal.now (c.args.depth - 1) cs w (drop (c.loop-index.index + 1) ts)) stand in
+          let stand : c.if-branch-2.turns.items ≡ c.loop-index.turns.items = ap (λ (ts : Vec Candidate g.row.A.Denot). ts.items) u.turns-is ∙ back in
+          let next = ap (λ (ts : List Candidate). visited_among c.args.goal.now (c.args.depth - 1) cs w (drop (c.loop-index.index + 1) ts)) stand in
           let count = c.loop-index.invariant.counted in
           let there = u.in_ok-run.ensures.counted in
-          let all = passed_count c.args.goal.now (c.args.depth - 1) cs w c.loop-index.turns.items c.loop-index.index c.index.result.now within c.index.ensures c.loop-index.world c.loop-index.invariant.world c.loop-index.choices c.loop-index.invariant.choices
+          let all = passed_count c.args.goal.now
+          (c.args.depth - 1) cs w c.loop-index.turns.items c.loop-index.index c.index.result.now within c.index.ensures
+          c.loop-index.world c.loop-index.invariant.world c.loop-index.choices c.loop-index.invariant.choices
           c.enter.new.world c.enter.new.choices c.last_of.result e.gives e.accepted e.world e.choices c.last_of.ensures (sym none) in
           let left = u.left-is in
           record {
-            world = u.world-is ∙ world_back c.loop-index.world c.enter.new.world c.loop-index.tape.list c.enter.new.tape.list e.taped e.fits e.leads_back c.len-mark.result c.len-mark.ensures.length u.search_from-run.new.world u.search_from-run.new.tape.list u.search_from-run.ensures.world u.search_from-run.ensures.tape u.undo_to.new.value u.undo_to.ensures.value ∙ c.loop-index.invariant.world;
-            tape = ap (λ (t : Taped (WorldEdit g.row.A.Denot)). t.list) u.tape-is ∙ tape_back c.loop-index.world c.enter.new.world c.loop-index.tape.list c.enter.new.tape.list e.taped e.fits e.leads_back c.len-mark.result c.len-mark.ensures.length u.search_from-run.new.world u.search_from-run.new.tape.list u.search_from-run.ensures.world u.search_from-run.ensures.tape u.undo_to.new.tape.list u.undo_to.ensures.list ∙ c.loop-index.invariant.tape;
-            choices = u.choices-is ∙ back_again cs c.loop-index.choices u.search_from-run.new.choices c.index.result.now c.index-choices-turn.result c.loop-index.invariant.choices of c.index-choices-turn.is (u.search_from-run.ensures.choices ∙ e.choices);
+            world = u.world-is ∙ world_back c.loop-index.world c.enter.new.world c.loop-index.tape.list c.enter.new.tape.list e.taped
+                e.fits e.leads_back c.len-mark.result c.len-mark.ensures.length u.search_from-run.new.world u.search_from-run.new.tape.list
+                u.search_from-run.ensures.world u.search_from-run.ensures.tape u.undo_to.new.value u.undo_to.ensures.value
+                ∙ c.loop-index.invariant.world;
+            tape = ap (λ (t : Taped (WorldEdit g.row.A.Denot)). t.list) u.tape-is
+                ∙ tape_back c.loop-index.world c.enter.new.world c.loop-index.tape.list c.enter.new.tape.list e.taped e.fits e.leads_back
+                c.len-mark.result c.len-mark.ensures.length u.search_from-run.new.world u.search_from-run.new.tape.list
+                u.search_from-run.ensures.world u.search_from-run.ensures.tape u.undo_to.new.tape.list u.undo_to.ensures.list
+                ∙ c.loop-index.invariant.tape;
+            choices = u.choices-is ∙ back_again cs c.loop-index.choices u.search_from-run.new.choices c.index.result.now
+                c.index-choices-turn.result c.loop-index.invariant.choices of c.index-choices-turn.is (u.search_from-run.ensures.choices ∙ e.choices);
             turns = stand ∙ c.loop-index.invariant.turns;
             end = c.loop-index.invariant.end ∙ ap length (sym stand);
-            rest = ap (λ (ts : List Turn). first_among c.args.goal.now (c.args.depth - 1) cs w (drop (c.loop-index.index + 1) ts)) stand
-                ∙ passed_first c.args.goal.now (c.args.depth - 1) cs w c.loop-index.turns.items c.loop-index.index c.index.result.now within c.index.ensures c.loop-index.world c.loop-index.invariant.world c.loop-index.choices c.loop-index.invariant.choices
-                c.enter.new.world c.enter.new.choices c.last_of.result e.gives e.accepted e.world e.choices c.last_of.ensures (sym none) ∙ c.loop-index.invariant.rest;
+            rest = ap (λ (ts : List Candidate). first_among c.args.goal.now (c.args.depth - 1) cs w (drop (c.loop-index.index + 1) ts)) stand
+                ∙ passed_first c.args.goal.now
+                (c.args.depth - 1) cs w c.loop-index.turns.items c.loop-index.index c.index.result.now within c.index.ensures
+                c.loop-index.world c.loop-index.invariant.world c.loop-index.choices c.loop-index.invariant.choices
+                c.enter.new.world c.enter.new.choices c.last_of.result e.gives e.accepted e.world e.choices c.last_of.ensures (sym none)
+                ∙ c.loop-index.invariant.rest;
             counted = omega arith;
           }
       | else-branch-2 u ↦
-          let e : Stays c.index.result.now c.loop-index.world c.enter.new.world c.loop-index.tape.list c.enter.new.tape.list c.loop-index.choices c.enter.new.choices =
-          subst (Enters c.index.result.now c.loop-index.world c.enter.new.world c.loop-index.tape.list c.enter.new.tape.list c.loop-index.choices c.enter.new.choices) u.if-branch-2.false c.in_ok-enter.ensures.enters in
-          let stand : c.if-branch-2.turns.items ≡ c.loop-index.turns.items = ap (λ (ts : Vec Turn g.row.A.Denot). ts.items) u.turns-is in
-          let next = ap (λ (ts : List Turn). visited_among c.args.goal.now (c.args.depth - 1) cs w (drop (c.loop-index.index + 1) ts)) stand in
+          let e : Stays c.index.result.now c.loop-index.world c.enter.new.world c.loop-index.tape.list c.enter.new.tape.list
+          c.loop-index.choices c.enter.new.choices =
+          subst (Enters c.index.result.now c.loop-index.world c.enter.new.world c.loop-index.tape.list c.enter.new.tape.list
+          c.loop-index.choices c.enter.new.choices) u.if-branch-2.false c.in_ok-enter.ensures.enters in
+          let stand : c.if-branch-2.turns.items ≡ c.loop-index.turns.items = ap (λ (ts : Vec Candidate g.row.A.Denot). ts.items) u.turns-is in
+          let next = ap (λ (ts : List Candidate). visited_among c.args.goal.now (c.args.depth - 1) cs w (drop (c.loop-index.index + 1) ts)) stand in
           let count = c.loop-index.invariant.counted in
-          let all = refused_count c.args.goal.now (c.args.depth - 1) cs w c.loop-index.turns.items c.loop-index.index c.index.result.now within c.index.ensures c.loop-index.world c.loop-index.invariant.world c.loop-index.choices c.loop-index.invariant.choices
+          let all = refused_count c.args.goal.now
+          (c.args.depth - 1) cs w c.loop-index.turns.items c.loop-index.index c.index.result.now within c.index.ensures
+          c.loop-index.world c.loop-index.invariant.world c.loop-index.choices c.loop-index.invariant.choices
           e.why e.refused in
           let left = u.left-is in
           record {
@@ -224,8 +299,10 @@ loop-index-preserved g t c =
             choices = u.choices-is ∙ e.choices ∙ c.loop-index.invariant.choices;
             turns = stand ∙ c.loop-index.invariant.turns;
             end = c.loop-index.invariant.end ∙ ap length (sym stand);
-            rest = ap (λ (ts : List Turn). first_among c.args.goal.now (c.args.depth - 1) cs w (drop (c.loop-index.index + 1) ts)) stand
-                ∙ refused_first c.args.goal.now (c.args.depth - 1) cs w c.loop-index.turns.items c.loop-index.index c.index.result.now within c.index.ensures c.loop-index.world c.loop-index.invariant.world c.loop-index.choices c.loop-index.invariant.choices
+            rest = ap (λ (ts : List Candidate). first_among c.args.goal.now (c.args.depth - 1) cs w (drop (c.loop-index.index + 1) ts)) stand
+                ∙ refused_first c.args.goal.now
+                (c.args.depth - 1) cs w c.loop-index.turns.items c.loop-index.index c.index.result.now within c.index.ensures
+                c.loop-index.world c.loop-index.invariant.world c.loop-index.choices c.loop-index.invariant.choices
                 e.why e.refused ∙ c.loop-index.invariant.rest;
             counted = omega arith;
           }

@@ -11,7 +11,8 @@ pub copy_reply-requires-clause-enough : goal.copy_reply-requires-clause-enough
 copy_reply-requires-clause-enough g c = room-is-enough _ _ _ _ _ _ c.in_ok-reply.ensures.step c.most_places.ensures c.in_ok-room.ensures.capacity
 
 pub returns-in_err-kept-clause-unchanged : goal.returns-in_err-kept-clause-unchanged
-returns-in_err-kept-clause-unchanged g c = where_err c.from_residual-in_err-kept.result (listing-keeps _ _ _ _ c.in_ok-reply.ensures.step c.in_err-kept.ensures.memory)
+returns-in_err-kept-clause-unchanged g c =
+    where_err c.from_residual-in_err-kept.result (listing-keeps _ _ _ _ c.in_ok-reply.ensures.step c.in_err-kept.ensures.memory)
 
 pub returns-in_err-entry-clause-unchanged : goal.returns-in_err-entry-clause-unchanged
 returns-in_err-entry-clause-unchanged g c =

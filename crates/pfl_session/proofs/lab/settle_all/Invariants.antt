@@ -9,9 +9,9 @@ abbrev pub invariant-loop-pass : goal.invariant-loop-pass
 invariant-loop-pass g l =
     let j = g.J.Which in
     record {
-      same : l.desk ≡ l.fn.desk;
+      same : l.ledger ≡ l.fn.ledger;
       left : AllByRecursion (IsPassOf j.publisher j.tallies) l.passes.items;
-      rest : AllByRecursion (HasSeenOwn j.opening l.fn.desk) l.passes.items → AllByRecursion (HasSeenOwn j.opening l.fn.desk) l.fn.passes.items;
+      rest : AllByRecursion (HasSeenOwn j.opening l.fn.ledger) l.passes.items → AllByRecursion (HasSeenOwn j.opening l.fn.ledger) l.fn.passes.items;
     }
 
 abbrev pub decreases-loop-pass : goal.decreases-loop-pass

@@ -9,14 +9,16 @@ use Rattle.pfl_session.proofs.room.events_of.Goals as goal
 
 pub loop-branch-preserved : goal.loop-branch-preserved
 loop-branch-preserved g c =
-    found-later (λ r. same_name r.branch.name c.args.name.now) _ _ _ c.branch-item.is c.loop-branch-test.true (sym c.is_named.ensures.named ∙ c.if-is_named.false) ∙ c.loop-branch.invariant
+    found-later (λ r. same_name r.branch.name c.args.name.now) _ _ _ c.branch-item.is c.loop-branch-test.true (sym c.is_named.ensures.named
+    ∙ c.if-is_named.false) ∙ c.loop-branch.invariant
 
 pub returns-then-is_named : goal.returns-then-is_named
 returns-then-is_named g c =
     c.len.ensures.length
     ∙ ap (λ (es : List Event). length es) c.events.ensures.events
     ∙ ap (λ (o : Option Rooted). option_map_or (λ r. length r.branch.events) o 0)
-    (sym (found-here (λ r. same_name r.branch.name c.args.name.now) _ _ _ c.branch-item.is c.loop-branch-test.true (sym c.is_named.ensures.named ∙ c.if-is_named.true)) ∙ c.loop-branch.invariant)
+    (sym (found-here (λ r. same_name r.branch.name c.args.name.now) _ _ _ c.branch-item.is c.loop-branch-test.true
+    (sym c.is_named.ensures.named ∙ c.if-is_named.true)) ∙ c.loop-branch.invariant)
 
 pub returns : goal.returns
 returns g c =

@@ -20,10 +20,12 @@ seconds_of-seconds-requires c =
     let here = c.args.scales.now in
     let is_scaled = IsScaled c.args.adaptive c.args.states in
     record {
-      scaled = elim c.get.result as (λ o. IfSome o (λ x. x.now ≡ get_or here c.loop-place.place x.now) → MatchOption o (length here ≤ c.loop-place.place) (λ x. (c.loop-place.place < length here) × HoldsAt (λ y. x.now ≡ y) here c.loop-place.place) → IfSome (option_copied o) is_scaled) [
-        | None ↦ λ same cases. tt
-        | Some x ↦ λ same cases. subst is_scaled (sym same) (All-get_or is_scaled here c.loop-place.place x.now cases.0 c.requires.scaled)
-      ] c.get.ensures.lookup.1 c.get.ensures.lookup.3;
+      scaled = elim c.get.result as (λ o. IfSome o (λ x. x.now ≡ get_or here c.loop-place.place x.now)
+          → MatchOption o (length here ≤ c.loop-place.place) (λ x. (c.loop-place.place < length here)
+          × HoldsAt (λ y. x.now ≡ y) here c.loop-place.place) → IfSome (option_copied o) is_scaled) [
+            | None ↦ λ same cases. tt
+            | Some x ↦ λ same cases. subst is_scaled (sym same) (All-get_or is_scaled here c.loop-place.place x.now cases.0 c.requires.scaled)
+          ] c.get.ensures.lookup.1 c.get.ensures.lookup.3;
     }
 
 pub loop-place-preserved : goal.loop-place-preserved
@@ -37,10 +39,14 @@ loop-place-preserved c =
     let seconds = c.seconds_of-seconds.ensures ∙ ap (λ t. scaled t a states) c.timeout.ensures in
     let at : c.of.result.at ≡ due_at a states c.of.result.head.key =
     ap (λ d. d.at) c.of.ensures ∙ (ap (λ n. head.key.time + n * 1000) seconds ∙ ap (λ (h : Head). due_at a states h.key) (sym of_head)) in
-    let next = heads-next a states (option_map entry_due c.loop-place.first) c.args.heads.now c.loop-place.place none c.loop-place-test.true c.loop-place.invariant.1 in
+    let next = heads-next a states
+    (option_map entry_due c.loop-place.first) c.args.heads.now c.loop-place.place none c.loop-place-test.true c.loop-place.invariant.1 in
     let same : entry_due c.earlier.result ≡ earlier a states (option_map entry_due c.loop-place.first) (entry_of head) =
-    ap entry_due c.earlier.ensures ∙ (earlier-entry a states c.loop-place.first c.of.result c.loop-place.invariant.0 at ∙ ap (λ h. earlier a states (option_map entry_due c.loop-place.first) (entry_of h)) of_head) in (
-      subst (λ d. d.at ≡ due_at a states d.head.key) (sym c.earlier.ensures) (earlier-timed a states c.loop-place.first c.of.result c.loop-place.invariant.0 at),
+    ap entry_due c.earlier.ensures
+    ∙ (earlier-entry a states c.loop-place.first c.of.result c.loop-place.invariant.0 at
+    ∙ ap (λ h. earlier a states (option_map entry_due c.loop-place.first) (entry_of h)) of_head) in (
+      subst (λ d. d.at ≡ due_at a states d.head.key) (sym c.earlier.ensures)
+          (earlier-timed a states c.loop-place.first c.of.result c.loop-place.invariant.0 at),
       ap (λ e. joined before (Some e) (foremost before (map entry_of (drop (c.loop-place.place + 1) c.args.heads.now)))) same ∙ next,
     )
 

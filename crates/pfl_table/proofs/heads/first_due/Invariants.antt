@@ -10,4 +10,6 @@ use Rattle.pfl_table.proofs.heads.first_due.Given as goal
 abbrev pub invariant-loop-place : goal.invariant-loop-place
 invariant-loop-place l =
     IsTimed l.adaptive l.states l.first
-    × (joined (entry_before l.adaptive l.states) (option_map entry_due l.first) (foremost (entry_before l.adaptive l.states) (map entry_of (drop l.place l.heads))) ≡ foremost (entry_before l.adaptive l.states) (map entry_of l.heads))
+    × (joined (entry_before l.adaptive l.states) (option_map entry_due l.first)
+    (foremost (entry_before l.adaptive l.states) (map entry_of (drop l.place l.heads))) ≡ foremost (entry_before l.adaptive l.states)
+    (map entry_of l.heads))

@@ -19,7 +19,9 @@ pub insert-requires-clause-room : goal.insert-requires-clause-room
 insert-requires-clause-room g c =
     let tags = c.args.index.now.tags in
     let less = maps.remove tags c.args.slot in
-    let back : maps.insert less c.args.slot c.args.was ≡ tags = set_at-back nat_cmp_total nat_cmp-IsAntisymmetric tags c.args.slot (Some c.args.was) None c.requires.there in
+    let back : maps.insert less c.args.slot c.args.was ≡ tags =
+    set_at-back nat_cmp_total nat_cmp-IsAntisymmetric tags c.args.slot (Some c.args.was) None c.requires.there in
     let more = len-insert nat_cmp_total less c.args.slot c.args.was
-    ∙ ap (λ (t : Option ℕ). cond (is_some t) (maps.len less) (maps.len less + 1)) (get-set_at_same nat_cmp_total nat_cmp-IsAntisymmetric tags c.args.slot None) in
+    ∙ ap (λ (t : Option ℕ). cond (is_some t) (maps.len less) (maps.len less + 1))
+    (get-set_at_same nat_cmp_total nat_cmp-IsAntisymmetric tags c.args.slot None) in
     omega (arith, ap maps.len c.remove.ensures.tags, ap maps.len back, more, c.requires.few, c.remove.ensures.limit)

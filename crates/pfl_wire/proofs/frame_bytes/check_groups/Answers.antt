@@ -8,7 +8,8 @@ pub returns-in_err-rest : goal.returns-in_err-rest
 returns-in_err-rest c =
     let p = err_from_is_err_and c.from_residual.result c.from_residual.ensures.1 in
     let some : 0 < length c.loop-rest.rest.now = grind arith in
-    rw (p.1, p.2) (groups_end None c.loop-rest.rest.now c.in_err-rest.field-0.0 (groups_at (length c.args.bytes.now) c.args.bytes.now) some c.in_err-rest.ensures c.loop-rest.invariant.goes)
+    rw (p.1, p.2) (groups_end None c.loop-rest.rest.now c.in_err-rest.field-0.0
+    (groups_at (length c.args.bytes.now) c.args.bytes.now) some c.in_err-rest.ensures c.loop-rest.invariant.goes)
 
 pub loop-rest-smaller : goal.loop-rest-smaller
 loop-rest-smaller c = omega (arith, groups_shrink None c.in_ok-rest.rest.now c.loop-rest.rest.now c.loop-rest.invariant.fits c.in_ok-rest.ensures)
@@ -18,7 +19,8 @@ loop-rest-preserved c =
     let some : 0 < length c.loop-rest.rest.now = grind arith in
     record {
       fits = groups_after None c.in_ok-rest.rest.now c.loop-rest.rest.now c.loop-rest.invariant.fits c.in_ok-rest.ensures;
-      goes = groups_go_on None None None c.loop-rest.rest.now c.in_ok-rest.rest.now (groups_at (length c.args.bytes.now) c.args.bytes.now) c.loop-rest.invariant.fits some c.in_ok-rest.ensures tt c.loop-rest.invariant.goes;
+      goes = groups_go_on None None None c.loop-rest.rest.now c.in_ok-rest.rest.now
+          (groups_at (length c.args.bytes.now) c.args.bytes.now) c.loop-rest.invariant.fits some c.in_ok-rest.ensures tt c.loop-rest.invariant.goes;
     }
 
 pub returns : goal.returns

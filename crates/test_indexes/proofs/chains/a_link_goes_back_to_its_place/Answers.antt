@@ -18,7 +18,14 @@ put_back-requires g c =
     let put = c.insert_after-four.ensures.inserted (record { front = []; back = links_of was 0; split = refl; ends = refl }) in
     let links = link slot (record { number = 4 }) ∷ links_of was 0 in
     let there : (at : Place (with_links was 0 links) slot) × (at.list ≡ 0) = (
-      record { list = 0; within = omega (arith, length-with_links was 0 links); front = []; value = record { number = 4 }; back = links_of was 0; split = links_of-same was 0 links (omega arith) },
+      record {
+        list = 0;
+        within = omega (arith, length-with_links was 0 links);
+        front = [];
+        value = record { number = 4 };
+        back = links_of was 0;
+        split = links_of-same was 0 links (omega arith);
+      },
       refl,
     ) in
     record { stands = subst (λ (d : Lists Entry). (at : Place d slot) × (at.list ≡ 0)) (sym put) there }

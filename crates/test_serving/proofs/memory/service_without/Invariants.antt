@@ -1,4 +1,5 @@
 use Rattle.test_serving.proofs.memory.service_without.Given as goal
 
 abbrev pub ghosts-closed_without : goal.ghosts-closed_without
-ghosts-closed_without g a = record { publisher = a.opened.publisher; tallies = a.opened.tallies; opening = a.opened.opening; setup = a.opened.setup; limit = a.opened.limit }
+ghosts-closed_without g a =
+    record { publisher = a.opened.publisher; tallies = a.opened.tallies; opening = a.opened.opening; setup = a.opened.setup; limit = a.opened.limit }

@@ -22,6 +22,8 @@ returns-then-ring-eq0-clause-free g c = λ _ at.
 
 pub returns-clause-found : goal.returns-clause-found
 returns-clause-found g c =
-    let ring : ring_of (node_of c.self.inside.rings) c.args.slot ≡ suc (c.node-ring.result.ring - 1) = omega (arith, ap (λ (n : Node). n.ring) c.node-ring.ensures.node) in
-    let there = slice_get_read c.self.inside.values.items c.len.result c.args.slot c.index.result.now (omega (arith, c.len.ensures)) (omega arith) c.index.ensures in
+    let ring : ring_of (node_of c.self.inside.rings) c.args.slot ≡ suc (c.node-ring.result.ring - 1) =
+    omega (arith, ap (λ (n : Node). n.ring) c.node-ring.ensures.node) in
+    let there = slice_get_read c.self.inside.values.items c.len.result c.args.slot c.index.result.now (omega (arith, c.len.ensures))
+    (omega arith) c.index.ensures in
     get-read _ _ _ _ _ c.self.invariant.0 _ c.self.view_is _ _ _ there ring

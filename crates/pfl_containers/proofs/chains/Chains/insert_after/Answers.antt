@@ -30,7 +30,8 @@ insert-requires g c =
     let limit = c.take_slot-slot.ensures.limit in
     let next = gap-next _ _ _ _ _ kept _ is _ _ _ _ t _ c.requires.list _ c.requires.gap _ c.unwrap_or-place.ensures in
     record {
-      slot = fits-slot _ _ _ _ fits _ (gap-slot _ _ _ _ _ kept _ is _ _ _ _ t _ c.requires.list _ c.requires.gap _ c.unwrap_or-place.ensures) (omega (arith, t.few));
+      slot = fits-slot _ _ _ _ fits _
+          (gap-slot _ _ _ _ _ kept _ is _ _ _ _ t _ c.requires.list _ c.requires.gap _ c.unwrap_or-place.ensures) (omega (arith, t.few));
       after = fits-node _ _ _ _ fits _ _ limit (gap-after _ _ _ _ _ kept _ is _ _ _ _ t _ c.requires.list _ c.requires.gap _ c.unwrap_or-place.ensures);
       next = fits-node _ _ _ _ fits _ _ limit next.0;
       apart = gap-apart _ _ _ _ _ kept _ is _ _ _ _ t _ c.requires.list _ c.requires.gap _ c.unwrap_or-place.ensures;

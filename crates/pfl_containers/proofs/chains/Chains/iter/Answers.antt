@@ -24,8 +24,10 @@ returns g c =
     let kept = c.self.invariant.0 in
     let next : c.node-first.result.next ≡ next_of (node_of rings) start = ap (λ (n : Node). n.next) c.node-first.ensures.node in
     let long : c.len.result ≡ length values = omega (arith, c.len.ensures, c.deref-2.ensures.len, ap length c.deref-2.ensures.value) in
-    let read : entries_from c.deref.result.now c.deref-2.result.now c.len.result c.node-first.result.next ≡ entries_from rings.nodes.items values (length values) (next_of (node_of rings) start) =
+    let read : entries_from c.deref.result.now c.deref-2.result.now c.len.result c.node-first.result.next
+    ≡ entries_from rings.nodes.items values (length values) (next_of (node_of rings) start) =
     cc (next, long, c.deref.ensures.value, c.deref-2.ensures.value) in
-    let same : (i : ℕ) → i < length values → next_of (node_of rings) i ≡ next_in rings.nodes.items i = λ i h. ap (λ (n : Node). n.next) (slot-node rings i (omega (arith, kept.few))) in
+    let same : (i : ℕ) → i < length values
+    → next_of (node_of rings) i ≡ next_in rings.nodes.items i = λ i h. ap (λ (n : Node). n.next) (slot-node rings i (omega (arith, kept.few))) in
     let listed = list-entries _ _ _ _ _ kept _ c.self.view_is rings.nodes.items same c.args.list start c.requires.list (omega arith) in
     record { values = c.linked.ensures.entries ∙ (read ∙ sym listed) }

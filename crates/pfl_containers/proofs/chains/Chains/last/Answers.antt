@@ -17,5 +17,6 @@ node-requires g c =
 
 pub returns : goal.returns
 returns g c =
-    let last = last-read _ _ _ _ _ c.self.invariant.0 _ c.self.view_is c.args.list (c.self.inside.rings.limit + 1 + c.args.list) c.requires.list (omega arith) in
+    let last = last-read _ _ _ _ _ c.self.invariant.0 _ c.self.view_is c.args.list
+    (c.self.inside.rings.limit + 1 + c.args.list) c.requires.list (omega arith) in
     record { last = c.slot_at.ensures.slot ∙ (ap (λ (n : Node). slot_of c.self.inside.rings.limit n.previous) c.node.ensures.node ∙ last) }

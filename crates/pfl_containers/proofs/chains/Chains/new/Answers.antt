@@ -7,7 +7,8 @@ use Rattle.pfl_containers.proofs.chains.Chains.new.Goals as goal
 pub invariant_of-result : goal.invariant_of-result
 invariant_of-result g c =
     let rings = c.in_ok-rings.rings in
-    let made = kept-alone {V = g.row.V.Denot} (node_of rings) rings.limit c.args.lists (omega (arith, c.in_ok-rings.ensures.limit, c.requires.few)) (c.args.lists + 1) (omega arith) c.in_ok-rings.ensures.alone in
+    let made = kept-alone {V = g.row.V.Denot} (node_of rings) rings.limit c.args.lists
+    (omega (arith, c.in_ok-rings.ensures.limit, c.requires.few)) (c.args.lists + 1) (omega arith) c.in_ok-rings.ensures.alone in
     let fits : Fits rings 0 (vec_capacity c.in_ok-values.values) c.args.lists = record {
       used = ap length c.in_ok-rings.ensures.unused;
       heads = omega (arith, c.in_ok-rings.ensures.heads);
@@ -19,5 +20,6 @@ invariant_of-result g c =
 pub returns-clause-empty : goal.returns-clause-empty
 returns-clause-empty g c =
     let rings = c.in_ok-rings.rings in
-    let made = kept-alone {V = g.row.V.Denot} (node_of rings) rings.limit c.args.lists (omega (arith, c.in_ok-rings.ensures.limit, c.requires.few)) (c.args.lists + 1) (omega arith) c.in_ok-rings.ensures.alone in
+    let made = kept-alone {V = g.row.V.Denot} (node_of rings) rings.limit c.args.lists
+    (omega (arith, c.in_ok-rings.ensures.limit, c.requires.few)) (c.args.lists + 1) (omega arith) c.in_ok-rings.ensures.alone in
     rw c.in_ok-values.ensures.items made.1

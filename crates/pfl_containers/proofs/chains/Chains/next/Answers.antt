@@ -12,5 +12,7 @@ node-requires g c =
 
 pub returns : goal.returns
 returns g c = record {
-  next = λ at. c.slot_at.ensures.slot ∙ (ap (λ (n : Node). slot_of c.self.inside.rings.limit n.next) c.node.ensures.node ∙ next-read _ _ _ _ _ c.self.invariant.0 _ c.self.view_is _ at);
+  next = λ at. c.slot_at.ensures.slot
+      ∙ (ap (λ (n : Node). slot_of c.self.inside.rings.limit n.next) c.node.ensures.node
+      ∙ next-read _ _ _ _ _ c.self.invariant.0 _ c.self.view_is _ at);
 }

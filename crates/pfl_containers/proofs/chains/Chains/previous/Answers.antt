@@ -12,5 +12,7 @@ node-requires g c =
 
 pub returns : goal.returns
 returns g c = record {
-  previous = λ at. c.slot_at.ensures.slot ∙ (ap (λ (n : Node). slot_of c.self.inside.rings.limit n.previous) c.node.ensures.node ∙ previous-read _ _ _ _ _ c.self.invariant.0 _ c.self.view_is _ at);
+  previous = λ at. c.slot_at.ensures.slot
+      ∙ (ap (λ (n : Node). slot_of c.self.inside.rings.limit n.previous) c.node.ensures.node
+      ∙ previous-read _ _ _ _ _ c.self.invariant.0 _ c.self.view_is _ at);
 }

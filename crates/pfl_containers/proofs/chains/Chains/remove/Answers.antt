@@ -56,6 +56,7 @@ returns g c =
     let less = place-dropped _ _ _ _ _ kept _ is _ c.requires.stands _ _ unlinked inserted _ limit in
     record {
       removed = λ at. (place-dropped _ _ _ _ _ kept _ is _ at _ _ unlinked inserted _ limit).1;
-      value = λ at. c.index.ensures ∙ get_or_from_slice_get c.self.inside.values.items c.args.slot at.value c.index.result.now (place-there _ _ _ _ _ kept _ is _ at);
+      value = λ at. c.index.ensures ∙ get_or_from_slice_get c.self.inside.values.items c.args.slot at.value c.index.result.now
+          (place-there _ _ _ _ _ kept _ is _ at);
       freed = λ at. absurd (omega (arith, inserted.ring_here, place-ring_of _ _ _ _ _ less.0 _ refl _ at));
     }

@@ -10,5 +10,6 @@ index-requires g c =
 
 pub returns : goal.returns
 returns g c = record {
-  value = λ at. c.index.ensures ∙ get_or_from_slice_get c.self.inside.values.items c.args.slot at.value c.index.result.now (place-there _ _ _ _ _ c.self.invariant.0 _ c.self.view_is _ at);
+  value = λ at. c.index.ensures ∙ get_or_from_slice_get c.self.inside.values.items c.args.slot at.value c.index.result.now
+      (place-there _ _ _ _ _ c.self.invariant.0 _ c.self.view_is _ at);
 }

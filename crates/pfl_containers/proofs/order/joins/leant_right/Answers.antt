@@ -15,6 +15,7 @@ returns-then-height g c = record {
 
 pub returns : goal.returns
 returns g c = record {
-  steadies = joined_anew LeansRight c.in-Some.ensures.node c.turned_right.ensures.joins (λ l r u left right. leans_right-turned l r _ c.in-Some.node.now u (λ b d.
+  steadies = joined_anew LeansRight c.in-Some.ensures.node c.turned_right.ensures.joins
+      (λ l r u left right. leans_right-turned l r _ c.in-Some.node.now u (λ b d.
       omega (arith, c.if-height.false, c.height.ensures.height, c.height-2.ensures.height, height-is _ l _ left b, height-is _ r _ right d)));
 }

@@ -8,6 +8,7 @@ pub returns : goal.returns
 returns g c =
     record {
       joins = linked_joins _ _ _ c.args.node _ Links c.put.ensures.put
-          (λ l r can. links_linked c.args.nodes.now l r c.args.place c.args.node c.height-left.result c.height-right.result _ can.left can.right c.height-left.ensures.height c.height-right.ensures.height
+          (λ l r can. links_linked c.args.nodes.now l r c.args.place c.args.node c.height-left.result c.height-right.result _ can.left
+          can.right c.height-left.ensures.height c.height-right.ensures.height
           (omega (arith, c.max.ensures, c.saturating_add.ensures)));
     }

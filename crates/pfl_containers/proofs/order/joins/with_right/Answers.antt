@@ -6,7 +6,8 @@ pub returns-in_default : goal.returns-in_default
 returns-in_default g c = record { takes = takes_right-none c.in_default.ensures.node }
 
 pub returns-then-height-was : goal.returns-then-height-was
-returns-then-height-was g c = record { takes = takes_right-same c.in-Some.ensures.node c.if-right-node.true (sym c.height.ensures.height ∙ c.if-height-was.true) }
+returns-then-height-was g c =
+    record { takes = takes_right-same c.in-Some.ensures.node c.if-right-node.true (sym c.height.ensures.height ∙ c.if-height-was.true) }
 
 pub returns : goal.returns
 returns g c = record { takes = takes_right-other c.in-Some.ensures.node c.balanced.ensures.joins }

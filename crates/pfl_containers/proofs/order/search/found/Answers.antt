@@ -11,7 +11,8 @@ returns-in-Equal g c = record { finds = c.loop-steps_left.invariant _ (finds_her
 pub loop-steps_left-preserved : goal.loop-steps_left-preserved
 loop-steps_left-preserved g c = elim c.match-compare.branch [
   | in-Less w ↦ rw w.link-is (λ found below. c.loop-steps_left.invariant found (finds_left _ _ _ _ c.in-Some.ensures.node _ _ w.in-Less.ensures.order below))
-  | in-Greater w ↦ rw w.link-is (λ found below. c.loop-steps_left.invariant found (finds_right _ _ _ _ c.in-Some.ensures.node _ _ w.in-Greater.ensures.order below))
+  | in-Greater w ↦ rw w.link-is
+      (λ found below. c.loop-steps_left.invariant found (finds_right _ _ _ _ c.in-Some.ensures.node _ _ w.in-Greater.ensures.order below))
 ]
 
 pub returns : goal.returns

@@ -4,7 +4,8 @@ use Rattle.pfl_containers.proofs.order.search.found.Given as goal
 
 -- what is found from here on is what the search finds
 abbrev pub invariant-loop-steps_left : goal.invariant-loop-steps_left
-invariant-loop-steps_left g l = (found : Option ℕ) → Finds g.K.Ordered.order l.nodes l.link l.key l.steps_left found → Finds g.K.Ordered.order l.nodes l.root l.key l.steps found
+invariant-loop-steps_left g l = (found : Option ℕ) → Finds g.K.Ordered.order l.nodes l.link l.key l.steps_left found
+    → Finds g.K.Ordered.order l.nodes l.root l.key l.steps found
 
 abbrev pub decreases-loop-steps_left : goal.decreases-loop-steps_left
 decreases-loop-steps_left g l = l.steps_left

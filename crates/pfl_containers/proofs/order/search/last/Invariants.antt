@@ -5,7 +5,8 @@ use Rattle.pfl_containers.proofs.order.search.last.Given as goal
 
 -- what is found from here on, or else before, is what the search finds
 abbrev pub invariant-loop-steps_left : goal.invariant-loop-steps_left
-invariant-loop-steps_left g l = (found : Option (g.row.K.Denot × g.row.V.Denot)) → IsLast l.nodes l.link l.steps_left found → IsLast l.nodes l.root l.steps (option_or found l.last)
+invariant-loop-steps_left g l = (found : Option (g.row.K.Denot × g.row.V.Denot)) → IsLast l.nodes l.link l.steps_left found
+    → IsLast l.nodes l.root l.steps (option_or found l.last)
 
 abbrev pub decreases-loop-steps_left : goal.decreases-loop-steps_left
 decreases-loop-steps_left g l = l.steps_left

@@ -11,8 +11,12 @@ returns-in_default g c = record { next = c.loop-steps_left.invariant _ (no_next 
 
 pub loop-steps_left-preserved : goal.loop-steps_left-preserved
 loop-steps_left-preserved g c = elim c.if-is_lt.branch [
-  | then-is_lt w ↦ rw (w.link-is, w.next-is) (next_step _ _ _ _ c.in-Some.ensures.node g.met.K.Ordered.total _ _ c.compare.ensures.order (sym c.is_lt.ensures ∙ w.if-is_lt.true) c.loop-steps_left.invariant)
-  | else-is_lt w ↦ rw (w.link-is, w.next-is) (λ found below. c.loop-steps_left.invariant found (next_right _ _ _ _ c.in-Some.ensures.node g.met.K.Ordered.total _ _ c.compare.ensures.order (sym c.is_lt.ensures ∙ w.if-is_lt.false) below))
+  | then-is_lt w ↦ rw (w.link-is, w.next-is)
+      (next_step _ _ _ _ c.in-Some.ensures.node g.met.K.Ordered.total _ _ c.compare.ensures.order (sym c.is_lt.ensures
+      ∙ w.if-is_lt.true) c.loop-steps_left.invariant)
+  | else-is_lt w ↦ rw (w.link-is, w.next-is)
+      (λ found below. c.loop-steps_left.invariant found
+      (next_right _ _ _ _ c.in-Some.ensures.node g.met.K.Ordered.total _ _ c.compare.ensures.order (sym c.is_lt.ensures ∙ w.if-is_lt.false) below))
 ]
 
 pub returns : goal.returns

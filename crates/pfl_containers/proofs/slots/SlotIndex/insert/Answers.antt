@@ -13,5 +13,8 @@ invariant_of-self g c =
     let none = ap (λ m. maps.get m c.args.slot) made.map ∙ new in
     let same = c.put.auto.words ∙ ap length c.deref_mut.ensures.value in
     let more = rw (c.deref_mut.ensures.value) at c.put.ensures.map in
-    rw (whole _ _ _ same (sym c.deref_mut.ensures.len ∙ ap length c.deref_mut.ensures.value))
-    (fields-put c.with_room-self-inside.new.words.items made.fields c.args.slot c.args.tag c.put.new.words c.put.ensures.words same more none room made.room, made.spare)
+    rw (whole _ _ _ same (sym c.deref_mut.ensures.len ∙ ap length c.deref_mut.ensures.value)) (
+      fields-put c.with_room-self-inside.new.words.items made.fields c.args.slot c.args.tag c.put.new.words c.put.ensures.words same more
+          none room made.room,
+      made.spare,
+    )

@@ -13,5 +13,8 @@ invariant_of-self g c =
     let has = subst (λ (t : Tags). HasTag t.tags c.args.tag c.args.slot) (sym c.self.view_is) c.requires.stands in
     let same = c.take_out.auto.words ∙ ap length c.deref_mut.ensures.value in
     let less = rw (c.deref_mut.ensures.value) at c.take_out.ensures.map in
-    rw (whole _ _ _ same (sym c.deref_mut.ensures.len ∙ ap length c.deref_mut.ensures.value))
-    (fields-taken c.self.inside.words.items c.self.invariant.0 c.args.slot c.args.tag c.take_out.new.words c.take_out.ensures.words same less has, c.self.invariant.1)
+    rw (whole _ _ _ same (sym c.deref_mut.ensures.len ∙ ap length c.deref_mut.ensures.value)) (
+      fields-taken c.self.inside.words.items c.self.invariant.0 c.args.slot c.args.tag c.take_out.new.words c.take_out.ensures.words same
+          less has,
+      c.self.invariant.1,
+    )

@@ -8,7 +8,8 @@ use Rattle.pfl_containers.proofs.slots.words.find_in.Goals.{else-found-tag-via-t
 pub is_it-requires : goal.is_it-requires
 is_it-requires g c =
     let here : entry_at c.args.words.now c.loop-place.place ≡ Some (c.in-Some.slot, c.args.tag) =
-    entry-read c.args.words.now c.loop-place.place _ c.loop-place-test.true ∙ (sym c.entry.ensures.entry ∙ (c.in-Some.is ∙ ap (λ t. Some (c.in-Some.slot, t)) c.if-found-tag.true)) in
+    entry-read c.args.words.now c.loop-place.place _ c.loop-place-test.true
+    ∙ (sym c.entry.ensures.entry ∙ (c.in-Some.is ∙ ap (λ t. Some (c.in-Some.slot, t)) c.if-found-tag.true)) in
     search (of_calls, c.requires.callable _ _ here)
 
 pub loop-place-preserved : goal.loop-place-preserved

@@ -10,7 +10,8 @@ loop-place-preserved c = λ i from before none.
     let at = c.loop-place.place in
     elim (cases_eq i at) [
       | inl same ↦
-          let read : c.entry.result ≡ None = c.entry.ensures.entry ∙ (sym (entry-read c.args.words.now at _ c.loop-place-test.true) ∙ (ap (entry_at c.args.words.now) (sym same) ∙ none)) in
+          let read : c.entry.result ≡ None = c.entry.ensures.entry
+          ∙ (sym (entry-read c.args.words.now at _ c.loop-place-test.true) ∙ (ap (entry_at c.args.words.now) (sym same) ∙ none)) in
           false≢true (ap is_some (sym read) ∙ c.if-is_none.ensures)
       | inr other ↦ c.loop-place.invariant i from (omega arith) none
     ]

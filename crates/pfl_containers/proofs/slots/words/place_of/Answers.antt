@@ -19,5 +19,6 @@ returns c =
     let there = c.requires.stands in
     let upto = c.loop-place.invariant there.0 there.1 there.2 there.3 in
     record {
-      here = number-stands c.args.words.now c.loop-place.place there.0 c.args.slot there.1 (record { slot = 0; tag = 0 }) upto there.3 (c.is_of.ensures.same.0 c.loop-place-test.false);
+      here = number-stands c.args.words.now c.loop-place.place there.0 c.args.slot there.1 (record { slot = 0; tag = 0 }) upto there.3
+          (c.is_of.ensures.same.0 c.loop-place-test.false);
     }

@@ -5,4 +5,5 @@ pub invariant_of-self : goal.invariant_of-self
 invariant_of-self g c = draft-one _ _ _ _ _ c.self.invariant c.set_clock-edit.ensures.makes c.push.ensures.list c.push.ensures.spare
 
 pub returns-clause-writes : goal.returns-clause-writes
-returns-clause-writes g c = rw (← c.self.view_is) (writes-one _ _ _ _ _ c.self.invariant c.set_clock-edit.ensures.makes c.push.ensures.list c.push.ensures.spare)
+returns-clause-writes g c =
+    rw (← c.self.view_is) (writes-one _ _ _ _ _ c.self.invariant c.set_clock-edit.ensures.makes c.push.ensures.list c.push.ensures.spare)

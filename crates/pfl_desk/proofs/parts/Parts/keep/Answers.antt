@@ -21,13 +21,15 @@ invariant_of-self g c =
     let free = subst (λ (m : Node). length m.held.list < m.held.limit) (sym c.self.view_is) c.requires.free in
     let fresh = subst (λ (m : Node). held_of m.held c.args.name ≡ None) (sym c.self.view_is) c.requires.fresh in
     let given = subst (λ (m : Node). IsGiven m c.args.name) (sym c.self.view_is) c.requires.given in
-    let held = c.hold-edits.ensures.deferrals ∙ ap (λ (d : Deferrals). with_held d c.args.name c.args.packet.now c.self.inside.clock) (stays-roomy c.self.inside.held free).1 in
+    let held = c.hold-edits.ensures.deferrals ∙ ap (λ (d : Deferrals). with_held d c.args.name c.args.packet.now c.self.inside.clock)
+    (stays-roomy c.self.inside.held free).1 in
     (c.self.invariant.0, rw held (held-node _ c.args.name c.args.packet.now c.self.invariant.1 given free fresh))
 
 pub returns-clause-node : goal.returns-clause-node
 returns-clause-node g c =
     let free = subst (λ (m : Node). length m.held.list < m.held.limit) (sym c.self.view_is) c.requires.free in
-    let held = c.hold-edits.ensures.deferrals ∙ ap (λ (d : Deferrals). with_held d c.args.name c.args.packet.now c.self.inside.clock) (stays-roomy c.self.inside.held free).1 in
+    let held = c.hold-edits.ensures.deferrals ∙ ap (λ (d : Deferrals). with_held d c.args.name c.args.packet.now c.self.inside.clock)
+    (stays-roomy c.self.inside.held free).1 in
     rw held (ap (λ (m : Node). record m { held = with_held m.held c.args.name c.args.packet.now m.clock }) c.self.view_is)
 
 pub returns-clause-makes : goal.returns-clause-makes

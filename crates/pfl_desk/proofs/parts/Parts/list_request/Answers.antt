@@ -7,7 +7,8 @@ use Rattle.pfl_desk.proofs.Listing.{request-node, request-next, new-request, mak
 use Rattle.pfl_desk.proofs.parts.Parts.list_request.Goals as goal
 
 pub invariant_of-self-in_default-edit : goal.invariant_of-self-in_default-edit
-invariant_of-self-in_default-edit g c = (c.self.invariant.0, rw c.in-Ok.ensures.requested (request-node _ c.args.name c.self.invariant.1 c.in-Ok.ensures.no_fault))
+invariant_of-self-in_default-edit g c =
+    (c.self.invariant.0, rw c.in-Ok.ensures.requested (request-node _ c.args.name c.self.invariant.1 c.in-Ok.ensures.no_fault))
 
 pub invariant_of-self-2 : goal.invariant_of-self-2
 invariant_of-self-2 g c = (c.self.invariant.0, rw c.in-Ok.ensures.requested (request-node _ c.args.name c.self.invariant.1 c.in-Ok.ensures.no_fault))

@@ -28,4 +28,6 @@ invariant_of-self-2 g c =
 
 pub returns-clause-makes : goal.returns-clause-makes
 returns-clause-makes g c =
-    rw (← c.self.view_is) (rw c.in-Ok.ensures.marked (makes_as _ (OfQueue c.in-Ok.edit) (OfQueue (marking c.self.inside.queue c.args.name c.args.kind)) (ap OfQueue c.in-Ok.ensures.edit) c.self.invariant.1 ((refl, refl), λ h. omega arith) (omega arith)))
+    rw (← c.self.view_is) (rw c.in-Ok.ensures.marked
+    (makes_as _ (OfQueue c.in-Ok.edit) (OfQueue (marking c.self.inside.queue c.args.name c.args.kind))
+    (ap OfQueue c.in-Ok.ensures.edit) c.self.invariant.1 ((refl, refl), λ h. omega arith) (omega arith)))

@@ -18,14 +18,19 @@ set_motion-requires g c =
     let n = c.args.self.now in
     let s = c.args.state in
     let was = c.in_ok-edit.ensures.replaced in
-    record { node = rw c.name-name.ensures (subst AreParts (sym (replaced-moved n was.0 s c.in_ok-edit.edit c.in-Some.moved c.in-Some.ensures was.2 was.1)) (replaced-node n s c.known.ensures.parts c.requires.may)) }
+    record {
+      node = rw c.name-name.ensures
+          (subst AreParts (sym (replaced-moved n was.0 s c.in_ok-edit.edit c.in-Some.moved c.in-Some.ensures was.2 was.1))
+          (replaced-node n s c.known.ensures.parts c.requires.may));
+    }
 
 pub returns-in-Some-clause-makes : goal.returns-in-Some-clause-makes
 returns-in-Some-clause-makes g c =
     let n = c.args.self.now in
     let s = c.args.state in
     let was = c.in_ok-edit.ensures.replaced in
-    let now : c.set_motion.new.self ≡ put_state n s = c.set_motion.ensures.node ∙ (ap (λ (name : StateName). record n { states = moved_at n.states name c.in-Some.moved.after }) c.name-name.ensures
+    let now : c.set_motion.new.self ≡ put_state n s = c.set_motion.ensures.node
+    ∙ (ap (λ (name : StateName). record n { states = moved_at n.states name c.in-Some.moved.after }) c.name-name.ensures
     ∙ replaced-moved n was.0 s c.in_ok-edit.edit c.in-Some.moved c.in-Some.ensures was.2 was.1) in
     subst (λ (m : Node). Makes (c.in_ok-edit.edit ∷ []) n m) (sym now) (replaced-makes n was.0 s c.in_ok-edit.edit was.2 c.known.ensures.parts was.1)
 
@@ -38,7 +43,8 @@ returns-clause-makes g c =
     let n = c.args.self.now in
     let s = c.args.state in
     let was = c.in_ok-edit.ensures.replaced in
-    let now : c.set_state.new.self ≡ put_state n s = c.set_state.ensures.node ∙ ap (λ (name : StateName). record n { states = maps.insert n.states name s }) c.name-name.ensures in
+    let now : c.set_state.new.self ≡ put_state n s = c.set_state.ensures.node
+    ∙ ap (λ (name : StateName). record n { states = maps.insert n.states name s }) c.name-name.ensures in
     subst (λ (m : Node). Makes (c.in_ok-edit.edit ∷ []) n m) (sym now) (replaced-makes n was.0 s c.in_ok-edit.edit was.2 c.known.ensures.parts was.1)
 
 pub returns-in-Some-clause-node : goal.returns-in-Some-clause-node

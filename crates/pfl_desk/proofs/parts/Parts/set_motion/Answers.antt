@@ -28,9 +28,12 @@ invariant_of-self g c =
     let to = c.args.motion in
     let seconds = c.timeout_after-timeout.result in
     let at = sym (ap (option_map (λ r. r.1.now)) c.in-Some.is) ∙ c.row_at.ensures.row in
-    let now = moved-states t c.move_at.new.self c.args.name to seconds c.move_at.ensures.moved ∙ ap (λ (m : Node). moved_at m.states c.args.name to) c.self.view_is in (
+    let now = moved-states t c.move_at.new.self c.args.name to seconds c.move_at.ensures.moved
+    ∙ ap (λ (m : Node). moved_at m.states c.args.name to) c.self.view_is in (
       moved-timely c.self.inside.limits c.self.inside.rules t c.move_at.new.self c.args.name c.in-Some.row.now to seconds c.self.invariant.0 at
-          (c.timeout_after-timeout.ensures.timeout ∙ ap (λ (m : Node). timeout_by m.rules (record c.in-Some.row.now.state { class = to.class })) (sym c.self.view_is)) c.move_at.ensures.moved,
+          (c.timeout_after-timeout.ensures.timeout
+          ∙ ap (λ (m : Node). timeout_by m.rules (record c.in-Some.row.now.state { class = to.class }))
+          (sym c.self.view_is)) c.move_at.ensures.moved,
       subst AreParts (sym (whole-with _ n (states_of c.move_at.new.self) (moved_at n.states c.args.name to) c.self.view_is now)) c.requires.node,
     )
 
@@ -38,5 +41,6 @@ pub returns : goal.returns
 returns g c =
     let n = c.args.self.now in
     let to = c.args.motion in
-    let now = moved-states c.self.inside.table c.move_at.new.self c.args.name to c.timeout_after-timeout.result c.move_at.ensures.moved ∙ ap (λ (m : Node). moved_at m.states c.args.name to) c.self.view_is in
+    let now = moved-states c.self.inside.table c.move_at.new.self c.args.name to c.timeout_after-timeout.result c.move_at.ensures.moved
+    ∙ ap (λ (m : Node). moved_at m.states c.args.name to) c.self.view_is in
     record { node = whole-with _ n (states_of c.move_at.new.self) (moved_at n.states c.args.name to) c.self.view_is now }

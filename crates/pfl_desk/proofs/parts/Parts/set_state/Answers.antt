@@ -18,17 +18,22 @@ set-requires g c = record {
 pub invariant_of-self : goal.invariant_of-self
 invariant_of-self g c =
     let now = ap states_of c.set.ensures.set
-    ∙ (states-with c.self.inside.table c.args.self.now.rules c.args.name c.args.at (row_with c.args.at c.timeout_of-timeout.result) (row-by c.args.self.now.rules c.args.at c.timeout_of-timeout.result c.timeout_of-timeout.ensures.timeout)
+    ∙ (states-with c.self.inside.table c.args.self.now.rules c.args.name c.args.at (row_with c.args.at c.timeout_of-timeout.result)
+    (row-by c.args.self.now.rules c.args.at c.timeout_of-timeout.result c.timeout_of-timeout.ensures.timeout)
     ∙ ap (λ (n : Node). set_at n.states c.args.name c.args.at) c.self.view_is) in (
       subst (λ (t : Table). IsTimely c.self.inside.limits c.self.inside.rules t) (sym c.set.ensures.set)
-          (set-timely c.self.inside.limits c.self.inside.rules c.self.inside.table c.args.name c.args.at (row_with c.args.at c.timeout_of-timeout.result) c.self.invariant.0
-          ((row-by c.args.self.now.rules c.args.at c.timeout_of-timeout.result c.timeout_of-timeout.ensures.timeout) ∙ ap (λ (n : Node). row_by n.rules c.args.at) (sym c.self.view_is))),
-      subst AreParts (sym (whole-with _ c.args.self.now (states_of c.set.new.self) (set_at c.args.self.now.states c.args.name c.args.at) c.self.view_is now)) c.requires.node,
+          (set-timely c.self.inside.limits c.self.inside.rules c.self.inside.table c.args.name c.args.at
+          (row_with c.args.at c.timeout_of-timeout.result) c.self.invariant.0
+          ((row-by c.args.self.now.rules c.args.at c.timeout_of-timeout.result c.timeout_of-timeout.ensures.timeout)
+          ∙ ap (λ (n : Node). row_by n.rules c.args.at) (sym c.self.view_is))),
+      subst AreParts (sym (whole-with _ c.args.self.now (states_of c.set.new.self)
+          (set_at c.args.self.now.states c.args.name c.args.at) c.self.view_is now)) c.requires.node,
     )
 
 pub returns : goal.returns
 returns g c =
     let now = ap states_of c.set.ensures.set
-    ∙ (states-with c.self.inside.table c.args.self.now.rules c.args.name c.args.at (row_with c.args.at c.timeout_of-timeout.result) (row-by c.args.self.now.rules c.args.at c.timeout_of-timeout.result c.timeout_of-timeout.ensures.timeout)
+    ∙ (states-with c.self.inside.table c.args.self.now.rules c.args.name c.args.at (row_with c.args.at c.timeout_of-timeout.result)
+    (row-by c.args.self.now.rules c.args.at c.timeout_of-timeout.result c.timeout_of-timeout.ensures.timeout)
     ∙ ap (λ (n : Node). set_at n.states c.args.name c.args.at) c.self.view_is) in
     record { node = whole-with _ c.args.self.now (states_of c.set.new.self) (set_at c.args.self.now.states c.args.name c.args.at) c.self.view_is now }

@@ -10,4 +10,6 @@ invariant_of-self-2 g c = (c.self.invariant.0, rw c.unmark.ensures.unmarked (unm
 
 pub returns-clause-makes : goal.returns-clause-makes
 returns-clause-makes g c =
-    rw (← c.self.view_is) (rw c.unmark.ensures.unmarked (makes_as _ (OfQueue c.in_ok-edit.edit) (OfQueue (unmarking c.self.inside.queue c.args.name)) (ap OfQueue c.in_ok-edit.ensures.edit) c.self.invariant.1 (refl, tt) tt))
+    rw (← c.self.view_is) (rw c.unmark.ensures.unmarked
+    (makes_as _ (OfQueue c.in_ok-edit.edit) (OfQueue (unmarking c.self.inside.queue c.args.name))
+    (ap OfQueue c.in_ok-edit.ensures.edit) c.self.invariant.1 (refl, tt) tt))

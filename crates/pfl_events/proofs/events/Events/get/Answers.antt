@@ -19,5 +19,6 @@ returns-in-Packet g c =
 pub returns-in-Plain : goal.returns-in-Plain
 returns-in-Plain g c =
     let within = subst (λ (es : List Event). c.args.index < length es) (sym c.self.view_is) c.requires.within in
-    let there = got _ _ c.self.invariant _ _ within c.index.ensures c.event.result (ap (whole c.self.inside.packets.items) c.in-Plain.is ∙ sym c.event.ensures.event) in
+    let there = got _ _ c.self.invariant _ _ within c.index.ensures c.event.result (ap (whole c.self.inside.packets.items) c.in-Plain.is
+    ∙ sym c.event.ensures.event) in
     record { event = ap (λ (es : List Event). slice_get es c.args.index) (sym c.self.view_is) ∙ there }

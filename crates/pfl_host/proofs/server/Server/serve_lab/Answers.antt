@@ -8,7 +8,7 @@ pub returns-in-Ok-clause-serves : goal.returns-in-Ok-clause-serves
 returns-in-Ok-clause-serves g c = inl (record {
   first = c.in-Ok.first;
   end = rw (sym c.new-lines.ensures.left) (search (rules, from_device));
-  tells = c.conclude.ensures;
+  reports = c.conclude.ensures;
 })
 
 -- it stopped
@@ -17,6 +17,6 @@ returns-in-Err-clause-serves g c = inr (record {
   fault = c.in-Err.fault;
   why = rw (sym c.new-lines.ensures.left) c.in-Err.ensures.stop;
   device = search (rules, setup_has_failed);
-  told = c.tell.ensures.told;
-  exit = c.tell.ensures.status;
+  printed = c.report_fault.ensures.printed;
+  exit = c.report_fault.ensures.status;
 })

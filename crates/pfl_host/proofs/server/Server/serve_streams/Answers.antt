@@ -13,7 +13,8 @@ seats-requires g c =
 -- the passes of the seats are the lab's
 pub serve_and_close-requires-clause-lab : goal.serve_and_close-requires-clause-lab
 serve_and_close-requires-clause-lab g c = λ κs within.
-    all-mapped (IsPassOf g.J.Which.publisher g.J.Which.tallies) (λ s. s.pass) c.in_ok-seats.seats.items (rw c.in_ok-seats.ensures.passes c.named-lab.ensures.lab)
+    all-mapped (IsPassOf g.J.Which.publisher g.J.Which.tallies) (λ s. s.pass) c.in_ok-seats.seats.items
+    (rw c.in_ok-seats.ensures.passes c.named-lab.ensures.lab)
 
 -- all were served
 pub returns-in-Ok-clause-serves : goal.returns-in-Ok-clause-serves

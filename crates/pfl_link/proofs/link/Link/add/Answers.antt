@@ -13,4 +13,5 @@ set-requires g c =
 
 pub returns-clause-leads_back : goal.returns-clause-leads_back
 returns-clause-leads_back g c =
-    rw (c.new.ensures.edit, c.set.ensures.link, ← c.self.view_is, c.requires.same) (edit-leads_back _ _ c.self.invariant.link (record { frame = next_free _ c.self.invariant.link; next_is = refl }))
+    rw (c.new.ensures.edit, c.set.ensures.link, ← c.self.view_is, c.requires.same)
+    (edit-leads_back _ _ c.self.invariant.link (record { frame = next_free _ c.self.invariant.link; next_is = refl }))

@@ -12,7 +12,8 @@ set-requires-clause-room g c =
     let row = c.row-item.result in
     let within : i < length rows.list = omega (arith, ap length listed) in
     let is : row ≡ get_or rows.list i row = c.row-item.is ∙ ap (λ xs. get_or xs i row) listed in
-    rw (c.loop-row.invariant.map, c.ticket.ensures.ticket, c.in_ok-copy.ensures.same, c.loop-row.invariant.limit, ← c.self.invariant.room) (room_more rows c.as_slice-row-items.ensures.ordered i within row is)
+    rw (c.loop-row.invariant.map, c.ticket.ensures.ticket, c.in_ok-copy.ensures.same, c.loop-row.invariant.limit, ← c.self.invariant.room)
+    (room_more rows c.as_slice-row-items.ensures.ordered i within row is)
 
 pub loop-row-preserved : goal.loop-row-preserved
 loop-row-preserved g c =
@@ -23,7 +24,13 @@ loop-row-preserved g c =
     let within : i < length rows.list = omega (arith, ap length listed) in
     let is : row ≡ get_or rows.list i row = c.row-item.is ∙ ap (λ xs. get_or xs i row) listed in
     record {
-      map = rw (row_more rows c.as_slice-row-items.ensures.ordered i within row is, c.set.ensures.map, c.loop-row.invariant.map, c.ticket.ensures.ticket, c.in_ok-copy.ensures.same);
+      map = rw (
+        row_more rows c.as_slice-row-items.ensures.ordered i within row is,
+        c.set.ensures.map,
+        c.loop-row.invariant.map,
+        c.ticket.ensures.ticket,
+        c.in_ok-copy.ensures.same,
+      );
       limit = c.set.ensures.limit ∙ c.loop-row.invariant.limit;
     }
 

@@ -15,4 +15,5 @@ returns-clause-leads_back g c =
     let whole : Some c.in-Some.frame.now ≡ Some c.in-Some-set.whole = c.in-Some.ensures.frame ∙ sym c.in-Some-set.ensures.former in
     let same : c.in-Some.frame.now ≡ c.in-Some-set.whole = cc in
     let stood = subst (λ (l : Link). maps.get l.frames c.args.ticket ≡ Some c.in-Some-set.whole) (sym c.self.view_is) (sym c.in-Some-set.ensures.former) in
-    rw (c.new.ensures.edit, c.set.ensures.link, c.in_ok-short.ensures.cut, same, ← c.self.view_is) (edit-leads_back _ _ c.self.invariant.link (record { frame = stood; next_is = refl }))
+    rw (c.new.ensures.edit, c.set.ensures.link, c.in_ok-short.ensures.cut, same, ← c.self.view_is)
+    (edit-leads_back _ _ c.self.invariant.link (record { frame = stood; next_is = refl }))

@@ -4,4 +4,8 @@ use Rattle.pfl_link.proofs.Framed.{entries-frames_of}
 use Rattle.pfl_link.proofs.link.Link.frames.Goals as goal
 
 pub returns : goal.returns
-returns g c = rw (← c.self.view_is) (record { frames = ap (map entry_of) (c.of.ensures.entries ∙ c.as_slice.ensures.rows) ∙ sym (entries-frames_of c.self.inside.rows.list c.as_slice.ensures.ordered.rising) })
+returns g c = rw (← c.self.view_is)
+    (record {
+      frames = ap (map entry_of) (c.of.ensures.entries ∙ c.as_slice.ensures.rows)
+          ∙ sym (entries-frames_of c.self.inside.rows.list c.as_slice.ensures.ordered.rising);
+    })

@@ -14,4 +14,5 @@ returns-in-Some-clause-leads_back g c =
     rw (c.new.ensures.edit, c.set.ensures.link, ← c.self.view_is) (edit-leads_back _ _ c.self.invariant.link (record { frame = stood; next_is = refl }))
 
 pub returns-in-None-clause-unchanged : goal.returns-in-None-clause-unchanged
-returns-in-None-clause-unchanged g c = c.set.ensures.link ∙ nothing_taken c.args.self.now c.args.ticket _ (ap (λ (l : Link). l.next) c.self.view_is) c.in-None.ensures.former
+returns-in-None-clause-unchanged g c =
+    c.set.ensures.link ∙ nothing_taken c.args.self.now c.args.ticket _ (ap (λ (l : Link). l.next) c.self.view_is) c.in-None.ensures.former

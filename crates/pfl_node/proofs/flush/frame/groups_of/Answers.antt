@@ -21,4 +21,6 @@ loop-first-preserved g c =
     let made = c.in_ok-messages_of.ensures.messages ∙ ap (flat_map (messages_of n)) c.split_at.ensures.front in
     let more = lists-more c.loop-first.groups.items c.push.new.self.items c.in_ok-messages_of.field-0 c.in_ok-push.ensures.items in
     subst (λ es. IsGrouped n c.args.entries.now es next) (sym c.split_at.ensures.back)
-    (grouped-more n is c.args.entries.now left (lists c.loop-first.groups.items) next c.in_ok-messages_of.field-0.items c.in-Some.first.now c.run_of.result c.loop-first.invariant (sym c.in-Some.ensures.value) run made more)
+    (grouped-more n is c.args.entries.now left
+    (lists c.loop-first.groups.items) next c.in_ok-messages_of.field-0.items c.in-Some.first.now c.run_of.result c.loop-first.invariant
+    (sym c.in-Some.ensures.value) run made more)

@@ -7,11 +7,18 @@ use Rattle.pfl_node.proofs.Grouped.{told-at, messages-more}
 use Rattle.pfl_node.proofs.flush.frame.messages_of.Goals as goal
 
 pub message_of-requires : goal.message_of-requires
-message_of-requires g c = record { told = told-at (IsTold c.args.desk.now.node) c.args.entries.now c.loop-entry.entry-index _ c.requires.told c.loop-entry-test.true }
+message_of-requires g c = record {
+  told = told-at
+      (IsTold c.args.desk.now.node) c.args.entries.now c.loop-entry.entry-index _ c.requires.told c.loop-entry-test.true;
+}
 
 pub loop-entry-preserved : goal.loop-entry-preserved
 loop-entry-preserved g c =
-    messages-more c.args.desk.now.node c.args.entries.now c.loop-entry.entry-index _ c.loop-entry.messages.items _ c.message_of.result c.loop-entry-test.true c.loop-entry.invariant c.message_of.ensures.message c.in_ok-push.ensures.items
+    messages-more c.args.desk.now.node c.args.entries.now c.loop-entry.entry-index _ c.loop-entry.messages.items _ c.message_of.result
+    c.loop-entry-test.true c.loop-entry.invariant c.message_of.ensures.message c.in_ok-push.ensures.items
 
 pub returns : goal.returns
-returns g c = record { messages = c.loop-entry.invariant ∙ ap (flat_map (messages_of c.args.desk.now.node)) (take_all c.loop-entry.entry-index c.args.entries.now c.loop-entry-test.false) }
+returns g c = record {
+  messages = c.loop-entry.invariant
+      ∙ ap (flat_map (messages_of c.args.desk.now.node)) (take_all c.loop-entry.entry-index c.args.entries.now c.loop-entry-test.false);
+}

@@ -16,6 +16,7 @@ invariant_of-result g c =
       subst IsNode (sym same) c.self.invariant.0,
       record {
         none = c.in_ok-desk.ensures.none;
-        room = c.in_ok-desk.ensures.room ∙ (c.most_edits-room.ensures.most ∙ (ap most_edits c.limits.ensures.limits ∙ ap (λ (n : Node). most_edits n.limits) (sym same)));
+        room = c.in_ok-desk.ensures.room
+            ∙ (c.most_edits-room.ensures.most ∙ (ap most_edits c.limits.ensures.limits ∙ ap (λ (n : Node). most_edits n.limits) (sym same)));
       },
     )

@@ -10,7 +10,11 @@ new-requires g c = record { limits = c.requires.limits; room = rw c.most_edits-r
 
 pub invariant_of-result : goal.invariant_of-result
 invariant_of-result g c = (
-  record { parts = c.in_ok-desk.ensures.parts; counted = ap is_overcounted c.in_ok-desk.ensures.new ∙ new_node-counts c.args.limits c.args.rules c.args.creator c.args.next 0 (omega arith) },
+  record {
+    parts = c.in_ok-desk.ensures.parts;
+    counted = ap is_overcounted c.in_ok-desk.ensures.new
+        ∙ new_node-counts c.args.limits c.args.rules c.args.creator c.args.next 0 (omega arith);
+  },
   record {
     none = c.in_ok-desk.ensures.none;
     room = c.in_ok-desk.ensures.room ∙ (c.most_edits-room.ensures.most ∙ ap (λ (n : Node). most_edits n.limits) (sym c.in_ok-desk.ensures.new));

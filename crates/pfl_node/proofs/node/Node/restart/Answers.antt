@@ -24,7 +24,8 @@ ask_first-requires g c =
       room = omega (arith, room, most);
       later = omega (arith, fresh);
       within = c.clock.ensures.within;
-      free = asks-as _ c.limits-limits.result _ c.args.boot c.clock.result c.in_ok-desk.ensures.new (subst (λ (l : Limits). 1 ≤ l.queue) (sym c.limits-limits.ensures.limits) least);
+      free = asks-as _ c.limits-limits.result _ c.args.boot c.clock.result c.in_ok-desk.ensures.new
+          (subst (λ (l : Limits). 1 ≤ l.queue) (sym c.limits-limits.ensures.limits) least);
     }
 
 pub give_up_edits-requires : goal.give_up_edits-requires
@@ -38,15 +39,21 @@ pub invariant_of-result : goal.invariant_of-result
 invariant_of-result g c =
     let limits = c.limits-limits.ensures.limits ∙ ap (λ (n : Node). n.limits) c.self.view_is in
     let is = anew-is c.args.self.now c.in_ok-desk.desk.node _ c.limits-limits.result _ c.args.boot c.clock.result c.in_ok-desk.ensures.new limits
-    (c.in_ok-rules.ensures.same ∙ c.rules.ensures.rules ∙ ap (λ (n : Node). n.rules) c.self.view_is) c.clock.ensures.clock (c.give_up_edits.ensures.node ∙ c.ask_first.ensures.node) in
+    (c.in_ok-rules.ensures.same ∙ c.rules.ensures.rules ∙ ap (λ (n : Node). n.rules) c.self.view_is) c.clock.ensures.clock
+    (c.give_up_edits.ensures.node ∙ c.ask_first.ensures.node) in
     let none = ap (λ (es : List NodeEdit). length es) c.in_ok-desk.ensures.none in
     let given = c.give_up_edits.ensures.room in
     let kept = c.ask_first.ensures.writes.room in
     let room : c.give_up_edits.new.self.edits.spare ≡ c.most_edits-room.result = omega (arith, given, kept, none, c.in_ok-desk.ensures.room) in (
-      record { parts = subst AreParts (sym c.give_up_edits.ensures.node) c.ask_first.ensures.parts; counted = ap is_overcounted is ∙ anew-counts c.args.self.now c.args.boot },
+      record {
+        parts = subst AreParts (sym c.give_up_edits.ensures.node) c.ask_first.ensures.parts;
+        counted = ap is_overcounted is
+            ∙ anew-counts c.args.self.now c.args.boot;
+      },
       record {
         none = c.give_up_edits.ensures.none;
-        room = room ∙ (c.most_edits-room.ensures.most ∙ ap most_edits (limits ∙ sym (ap (λ (n : Node). n.limits) is ∙ anew-limits c.args.self.now c.args.boot)));
+        room = room ∙ (c.most_edits-room.ensures.most
+            ∙ ap most_edits (limits ∙ sym (ap (λ (n : Node). n.limits) is ∙ anew-limits c.args.self.now c.args.boot)));
       },
     )
 
@@ -55,5 +62,6 @@ returns g c =
     let limits = c.limits-limits.ensures.limits ∙ ap (λ (n : Node). n.limits) c.self.view_is in
     record {
       restarted = anew-is c.args.self.now c.in_ok-desk.desk.node _ c.limits-limits.result _ c.args.boot c.clock.result c.in_ok-desk.ensures.new limits
-          (c.in_ok-rules.ensures.same ∙ c.rules.ensures.rules ∙ ap (λ (n : Node). n.rules) c.self.view_is) c.clock.ensures.clock (c.give_up_edits.ensures.node ∙ c.ask_first.ensures.node);
+          (c.in_ok-rules.ensures.same ∙ c.rules.ensures.rules ∙ ap (λ (n : Node). n.rules) c.self.view_is) c.clock.ensures.clock
+          (c.give_up_edits.ensures.node ∙ c.ask_first.ensures.node);
     }

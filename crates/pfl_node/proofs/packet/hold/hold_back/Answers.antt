@@ -19,7 +19,8 @@ hold-requires-clause-free g c = rw c.make_room.ensures.node (room-made c.args.de
 
 pub hold-requires-clause-fresh : goal.hold-requires-clause-fresh
 hold-requires-clause-fresh g c =
-    rw c.make_room.ensures.node (rw c.with_ack_wanted-waiting.ensures (room-made c.args.desk.now.node c.args.state.name c.requires.parts c.requires.fresh).fresh)
+    rw c.make_room.ensures.node
+    (rw c.with_ack_wanted-waiting.ensures (room-made c.args.desk.now.node c.args.state.name c.requires.parts c.requires.fresh).fresh)
 
 pub returns-clause-step : goal.returns-clause-step
 returns-clause-step g c =

@@ -16,7 +16,8 @@ pub returns-then-no_sync : goal.returns-then-no_sync
 returns-then-no_sync g c =
     let s = c.args.state in
     let m = with_new c.args.desk.now.node s in
-    let step : pass c.put_new.new.desk.node (Some c.name-name.result) ≡ pass m (Some s.name) = λ i. pass (c.put_new.ensures.node i) (Some (c.name-name.ensures i)) in
+    let step : pass c.put_new.new.desk.node (Some c.name-name.result) ≡ pass m (Some s.name) =
+    λ i. pass (c.put_new.ensures.node i) (Some (c.name-name.ensures i)) in
     record {
       done = record {
         full = tt;
@@ -40,7 +41,8 @@ returns-in_err-mark g c =
     let m = with_new c.args.desk.now.node s in
     let told = sym c.no_sync.ensures ∙ c.if-no_sync.false in
     let queue = announced-queue m s c.args.dir c.args.packet.now c.requires.parts.deferrals told in
-    let same : mark c.put_new.new.desk.node c.name-name.result Insert ≡ mark m s.name Insert = λ i. mark (c.put_new.ensures.node i) (c.name-name.ensures i) Insert in
+    let same : mark c.put_new.new.desk.node c.name-name.result Insert ≡ mark m s.name Insert =
+    λ i. mark (c.put_new.ensures.node i) (c.name-name.ensures i) Insert in
     record {
       done = rw p.1 (record {
         full = ap (λ (q : Queue). nat_lt q.limit (pending q)) queue ∙ (sym (ap is_overfull same) ∙ c.in_err-mark.ensures.full);
@@ -63,13 +65,15 @@ returns-then-is_deferred g c =
     let s = c.args.state in
     let m = with_new c.args.desk.now.node s in
     let told = sym c.no_sync.ensures ∙ c.if-no_sync.false in
-    let same : mark c.put_new.new.desk.node c.name-name.result Insert ≡ mark m s.name Insert = λ i. mark (c.put_new.ensures.node i) (c.name-name.ensures i) Insert in
+    let same : mark c.put_new.new.desk.node c.name-name.result Insert ≡ mark m s.name Insert =
+    λ i. mark (c.put_new.ensures.node i) (c.name-name.ensures i) Insert in
     let marked = c.in_ok-mark.ensures.node ∙ same in
     let on = ap (λ (k : Node). is_deferred k c.args.dir) (sym marked) ∙ (sym c.is_deferred.ensures.deferred ∙ c.if-is_deferred.true) in
     record {
       done = record {
         full = tt;
-        step = c.hold_back.ensures.step ∙ (ap (λ (k : Node). hold (with_room k) s c.args.packet.now) marked ∙ sym (announced-held m s c.args.dir c.args.packet.now told on));
+        step = c.hold_back.ensures.step
+            ∙ (ap (λ (k : Node). hold (with_room k) s c.args.packet.now) marked ∙ sym (announced-held m s c.args.dir c.args.packet.now told on));
         writes = writes-then 3 6 _ _ _ (writes-then 2 1 _ _ _ c.put_new.ensures.writes c.mark.ensures.writes) c.hold_back.ensures.writes;
       };
     }
@@ -79,14 +83,17 @@ returns g c =
     let s = c.args.state in
     let m = with_new c.args.desk.now.node s in
     let told = sym c.no_sync.ensures ∙ c.if-no_sync.false in
-    let same : mark c.put_new.new.desk.node c.name-name.result Insert ≡ mark m s.name Insert = λ i. mark (c.put_new.ensures.node i) (c.name-name.ensures i) Insert in
+    let same : mark c.put_new.new.desk.node c.name-name.result Insert ≡ mark m s.name Insert =
+    λ i. mark (c.put_new.ensures.node i) (c.name-name.ensures i) Insert in
     let marked = c.in_ok-mark.ensures.node ∙ same in
     let off = ap (λ (k : Node). is_deferred k c.args.dir) (sym marked) ∙ (sym c.is_deferred.ensures.deferred ∙ c.if-is_deferred.false) in
-    let step : pass c.mark.new.self.node (Some c.name-name.result) ≡ pass (mark m s.name Insert) (Some s.name) = λ i. pass (marked i) (Some (c.name-name.ensures i)) in
+    let step : pass c.mark.new.self.node (Some c.name-name.result) ≡ pass (mark m s.name Insert) (Some s.name) =
+    λ i. pass (marked i) (Some (c.name-name.ensures i)) in
     record {
       done = record {
         full = tt;
         step = c.pass-2.ensures.step ∙ (step ∙ sym (announced-passed m s c.args.dir c.args.packet.now told off));
-        writes = writes-more 4 9 _ _ (omega arith) (writes-then 3 1 _ _ _ (writes-then 2 1 _ _ _ c.put_new.ensures.writes c.mark.ensures.writes) c.pass-2.ensures.writes);
+        writes = writes-more 4 9 _ _ (omega arith)
+            (writes-then 3 1 _ _ _ (writes-then 2 1 _ _ _ c.put_new.ensures.writes c.mark.ensures.writes) c.pass-2.ensures.writes);
       };
     }

@@ -37,7 +37,13 @@ returns-in_default-rule g c =
     let pass = ap (λ (x : Verdict). x.pass) (sym v) ∙ passes in
     let gone = ap (λ (r : Rules). slice_get r.list c.in-Some.number) (sym c.rules-2.ensures.rules) ∙ (sym c.rule.ensures ∙ c.in_default-rule.is) in
     let why = judged-rule n c.args.dir p c.in-Some.number _ pass (ap (λ (x : Verdict). x.rule) (sym v) ∙ c.in-Some.is) gone in
-    record { done = record { full = tt; step = c.pass-in_default-rule.ensures.step ∙ sym why; writes = writes-more 1 9 _ _ (omega arith) c.pass-in_default-rule.ensures.writes } }
+    record {
+      done = record {
+        full = tt;
+        step = c.pass-in_default-rule.ensures.step ∙ sym why;
+        writes = writes-more 1 9 _ _ (omega arith) c.pass-in_default-rule.ensures.writes;
+      };
+    }
 
 pub start-requires-clause-fits : goal.start-requires-clause-fits
 start-requires-clause-fits g c =
@@ -47,7 +53,8 @@ start-requires-clause-fits g c =
     let passes : c.verdict-verdict.result.pass ≡ true = search rules in
     let pass = ap (λ (x : Verdict). x.pass) (sym v) ∙ passes in
     let there = ap (λ (r : Rules). slice_get r.list c.in-Some.number) (sym c.rules-2.ensures.rules) ∙ sym c.in-Some-rule.ensures in
-    judged-fits n.rules.list p c.args.dir c.in-Some.number c.in-Some-rule.rule c.requires.packet.family pass (ap (λ (x : Verdict). x.rule) (sym v) ∙ c.in-Some.is) there
+    judged-fits n.rules.list p c.args.dir c.in-Some.number c.in-Some-rule.rule c.requires.packet.family pass
+    (ap (λ (x : Verdict). x.rule) (sym v) ∙ c.in-Some.is) there
 
 pub returns : goal.returns
 returns g c =

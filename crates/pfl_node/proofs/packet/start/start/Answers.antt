@@ -29,7 +29,13 @@ returns-then-is_full g c =
     let r = c.args.rule.now in
     let full = c.is_full.ensures.states ∙ (λ i. nat_le (c.states.ensures.limit i) (maps.len (c.states.ensures.states i))) in
     let why = started-full n c.args.dir p c.args.number r (sym c.is_at_max.ensures.most ∙ c.if-is_at_max.false) (sym full ∙ c.if-is_full.true) in
-    record { done = record { full = tt; step = c.drop_packet-then-is_full.ensures.step ∙ sym why; writes = writes-more 1 9 _ _ (omega arith) c.drop_packet-then-is_full.ensures.writes } }
+    record {
+      done = record {
+        full = tt;
+        step = c.drop_packet-then-is_full.ensures.step ∙ sym why;
+        writes = writes-more 1 9 _ _ (omega arith) c.drop_packet-then-is_full.ensures.writes;
+      };
+    }
 
 pub returns-then-has_either : goal.returns-then-has_either
 returns-then-has_either g c =
@@ -38,9 +44,16 @@ returns-then-has_either g c =
     let r = c.args.rule.now in
     let full = c.is_full.ensures.states ∙ (λ i. nat_le (c.states.ensures.limit i) (maps.len (c.states.ensures.states i))) in
     let keys = c.new_keys-keys.ensures.keys ∙ ap (λ (m : States). new_keys m r (key p c.args.dir)) c.states-2.ensures.states in
-    let used : is_taken n.states (new_keys n.states r (key p c.args.dir)) ≡ true = (λ i. is_taken (sym c.states-3.ensures.states i) (sym keys i)) ∙ (sym c.has_either.ensures.taken ∙ c.if-has_either.true) in
+    let used : is_taken n.states (new_keys n.states r (key p c.args.dir)) ≡ true =
+    (λ i. is_taken (sym c.states-3.ensures.states i) (sym keys i)) ∙ (sym c.has_either.ensures.taken ∙ c.if-has_either.true) in
     let why = started-key n c.args.dir p c.args.number r (sym c.is_at_max.ensures.most ∙ c.if-is_at_max.false) (sym full ∙ c.if-is_full.false) used in
-    record { done = record { full = tt; step = c.drop_packet-then-has_either.ensures.step ∙ sym why; writes = writes-more 1 9 _ _ (omega arith) c.drop_packet-then-has_either.ensures.writes } }
+    record {
+      done = record {
+        full = tt;
+        step = c.drop_packet-then-has_either.ensures.step ∙ sym why;
+        writes = writes-more 1 9 _ _ (omega arith) c.drop_packet-then-has_either.ensures.writes;
+      };
+    }
 
 pub announce-requires-clause-known : goal.announce-requires-clause-known
 announce-requires-clause-known g c =
@@ -50,9 +63,13 @@ announce-requires-clause-known g c =
     let full = c.is_full.ensures.states ∙ (λ i. nat_le (c.states.ensures.limit i) (maps.len (c.states.ensures.states i))) in
     let clock = c.clock.ensures.clock in
     let name = c.next_name-name.ensures.name in
-    let same = c.start_state-state.ensures.state ∙ (λ i. start_state (name i) c.new_keys-keys.result.wire c.new_keys-keys.result.stack c.args.dir p (Some c.args.number) r.no_sync (clock i)) in
+    let same = c.start_state-state.ensures.state
+    ∙ (λ i. start_state (name i) c.new_keys-keys.result.wire c.new_keys-keys.result.stack c.args.dir p (Some c.args.number) r.no_sync
+    (clock i)) in
     subst (MayStart n) (sym same)
-    (new-starts n c.new_keys-keys.result.wire c.new_keys-keys.result.stack c.args.dir p c.args.number r r.no_sync c.requires.packet c.has_either.ensures.keys ((λ i. is_taken (sym c.states-3.ensures.states i) c.new_keys-keys.result) ∙ (sym c.has_either.ensures.taken ∙ c.if-has_either.false)) (sym full ∙ c.if-is_full.false) c.requires.stands)
+    (new-starts n c.new_keys-keys.result.wire c.new_keys-keys.result.stack c.args.dir p c.args.number r r.no_sync c.requires.packet
+    c.has_either.ensures.keys ((λ i. is_taken (sym c.states-3.ensures.states i) c.new_keys-keys.result)
+    ∙ (sym c.has_either.ensures.taken ∙ c.if-has_either.false)) (sym full ∙ c.if-is_full.false) c.requires.stands)
 
 pub returns : goal.returns
 returns g c =
@@ -61,10 +78,12 @@ returns g c =
     let r = c.args.rule.now in
     let full = c.is_full.ensures.states ∙ (λ i. nat_le (c.states.ensures.limit i) (maps.len (c.states.ensures.states i))) in
     let keys = c.new_keys-keys.ensures.keys ∙ ap (λ (m : States). new_keys m r (key p c.args.dir)) c.states-2.ensures.states in
-    let used : is_taken n.states (new_keys n.states r (key p c.args.dir)) ≡ false = (λ i. is_taken (sym c.states-3.ensures.states i) (sym keys i)) ∙ (sym c.has_either.ensures.taken ∙ c.if-has_either.false) in
+    let used : is_taken n.states (new_keys n.states r (key p c.args.dir)) ≡ false =
+    (λ i. is_taken (sym c.states-3.ensures.states i) (sym keys i)) ∙ (sym c.has_either.ensures.taken ∙ c.if-has_either.false) in
     let clock = c.clock.ensures.clock in
     let name = c.next_name-name.ensures.name in
-    let same : c.start_state-state.result ≡ new_state n c.args.dir p c.args.number r = c.start_state-state.ensures.state ∙ (λ i. start_state (name i) ((keys i).wire) ((keys i).stack) c.args.dir p (Some c.args.number) r.no_sync (clock i)) in
+    let same : c.start_state-state.result ≡ new_state n c.args.dir p c.args.number r = c.start_state-state.ensures.state
+    ∙ (λ i. start_state (name i) ((keys i).wire) ((keys i).stack) c.args.dir p (Some c.args.number) r.no_sync (clock i)) in
     let why = started-new n c.args.dir p c.args.number r (sym c.is_at_max.ensures.most ∙ c.if-is_at_max.false) (sym full ∙ c.if-is_full.false) used in
     let whole = ap (λ (s : State). announced (with_new n s) s c.args.dir p) same ∙ sym why in
     record { done = subst (λ (h : Handled). Tried 9 c.announce.result c.args.desk.now c.announce.new.desk h) whole c.announce.ensures.done }

@@ -28,7 +28,8 @@ insert-requires g c =
     let inside = c.self.inside in
     let room = subst (λ (d : Lists Mark). maps.len (marks_of d.lists) < d.limit) (sym c.self.view_is) c.requires.room in
     let links = all_links inside.queues.lists in
-    let few : length links < inside.queues.limit = omega (arith, room, len-marks inside.queues inside.names inside.order c.self.invariant, count-all inside.queues.lists) in
+    let few : length links < inside.queues.limit =
+    omega (arith, room, len-marks inside.queues inside.names inside.order c.self.invariant, count-all inside.queues.lists) in
     let put = c.put_in_order-slot.ensures in
     record {
       small = omega (arith, put.below, ap (λ (d : Lists Mark). d.limit) put.others, c.self.invariant.bound);
@@ -41,7 +42,8 @@ insert-requires-2 g c =
     let inside = c.self.inside in
     let room = subst (λ (d : Lists Mark). maps.len (marks_of d.lists) < d.limit) (sym c.self.view_is) c.requires.room in
     let links = all_links inside.queues.lists in
-    let few : length links < inside.queues.limit = omega (arith, room, len-marks inside.queues inside.names inside.order c.self.invariant, count-all inside.queues.lists) in
+    let few : length links < inside.queues.limit =
+    omega (arith, room, len-marks inside.queues inside.names inside.order c.self.invariant, count-all inside.queues.lists) in
     record { room = index-room turn_total turn_exact turn_of inside.queues.limit _ links _ c.self.invariant.ordered.turns c.self.invariant.order_room few }
 
 pub invariant_of-self : goal.invariant_of-self
@@ -51,8 +53,10 @@ invariant_of-self g c =
     let new = subst (λ (d : Lists Mark). IsNew (marks_of d.lists) c.args.mark.number) (sym c.self.view_is) c.requires.new in
     let here = kind-within inside.queues inside.order c.self.invariant.ordered c.args.mark.kind (kind_place c.args.mark.kind) refl in
     let put = c.put_in_order-slot.ensures in
-    marked-more inside.queues _ inside.names inside.order c.self.invariant c.args.mark (kind_place c.args.mark.kind) c.put_in_order-slot.result refl here put.inserted put.others off
-    new put.fresh _ c.tag.result c.tag.ensures.tag c.insert.ensures.tags c.insert.ensures.limit _ c.of.result c.of.ensures.turn c.insert-2.ensures.map c.insert-2.ensures.limit
+    marked-more inside.queues _ inside.names inside.order c.self.invariant c.args.mark
+    (kind_place c.args.mark.kind) c.put_in_order-slot.result refl here put.inserted put.others off
+    new put.fresh _ c.tag.result c.tag.ensures.tag c.insert.ensures.tags c.insert.ensures.limit _ c.of.result c.of.ensures.turn
+    c.insert-2.ensures.map c.insert-2.ensures.limit
 
 pub returns-clause-marks : goal.returns-clause-marks
 returns-clause-marks g c =
@@ -60,4 +64,5 @@ returns-clause-marks g c =
     let off = subst (λ (d : Lists Mark). maps.get (marks_of d.lists) c.args.mark.name ≡ None) (sym c.self.view_is) c.requires.off in
     let here = kind-within inside.queues inside.order c.self.invariant.ordered c.args.mark.kind (kind_place c.args.mark.kind) refl in
     let put = c.put_in_order-slot.ensures in
-    rw (← c.self.view_is) (marks-more inside.queues _ inside.names inside.order c.self.invariant c.args.mark (kind_place c.args.mark.kind) c.put_in_order-slot.result refl here put.inserted put.others off)
+    rw (← c.self.view_is) (marks-more inside.queues _ inside.names inside.order c.self.invariant c.args.mark
+    (kind_place c.args.mark.kind) c.put_in_order-slot.result refl here put.inserted put.others off)

@@ -11,19 +11,25 @@ remove-gone-requires g c = record { stands = (name-place c.self.inside.queues c.
 pub remove-requires : goal.remove-requires
 remove-requires g c =
     let place = name-place c.self.inside.queues c.args.name c.in-Some.slot (sym c.in-Some.is ∙ c.slot_of.ensures.slot) in
-    record { stands = name-tagged c.self.inside.queues c.self.inside.names c.self.inside.order c.self.invariant c.args.name c.in-Some.slot place c.tag.result c.tag.ensures.tag }
+    record {
+      stands = name-tagged c.self.inside.queues c.self.inside.names c.self.inside.order c.self.invariant c.args.name c.in-Some.slot
+          place c.tag.result c.tag.ensures.tag;
+    }
 
 pub invariant_of-self : goal.invariant_of-self
 invariant_of-self g c =
     let place = name-place c.self.inside.queues c.args.name c.in-Some.slot (sym c.in-Some.is ∙ c.slot_of.ensures.slot) in
-    marked-less c.self.inside.queues _ c.self.inside.names c.self.inside.order c.self.invariant c.args.name c.in-Some.slot place (c.remove-gone.ensures.removed place.at) _ c.remove.ensures.tags c.remove.ensures.limit
+    marked-less c.self.inside.queues _ c.self.inside.names c.self.inside.order c.self.invariant c.args.name c.in-Some.slot place
+    (c.remove-gone.ensures.removed place.at) _ c.remove.ensures.tags c.remove.ensures.limit
     _ c.of.result (c.of.ensures.turn ∙ ap turn_of (c.remove-gone.ensures.value place.at)) c.remove-in-Some.ensures.map c.remove-in-Some.ensures.limit
 
 pub returns-in-Some : goal.returns-in-Some
 returns-in-Some g c =
     let place = name-place c.self.inside.queues c.args.name c.in-Some.slot (sym c.in-Some.is ∙ c.slot_of.ensures.slot) in
     record {
-      marks = rw (← c.self.view_is) (marks-less c.self.inside.queues _ c.self.inside.names c.self.inside.order c.self.invariant c.args.name c.in-Some.slot place (c.remove-gone.ensures.removed place.at));
+      marks = rw (← c.self.view_is)
+          (marks-less c.self.inside.queues _ c.self.inside.names c.self.inside.order c.self.invariant c.args.name c.in-Some.slot place
+          (c.remove-gone.ensures.removed place.at));
       limit = rw (← c.self.view_is) (ap (λ (d : Lists Mark). d.limit) (c.remove-gone.ensures.removed place.at));
     }
 

@@ -18,7 +18,9 @@ returns-clause-edits g c =
 
 pub returns-clause-one_each : goal.returns-clause-one_each
 returns-clause-one_each g c =
-    let edits = c.record.ensures.edits ∙ (ap (λ (es : List QueueEdit). es ++ map taking c.deref.result.now) (c.in_ok-reserve.ensures.list ∙ c.new-change.ensures.list) ∙ ap (map taking) c.deref.ensures.value) in
+    let edits = c.record.ensures.edits
+    ∙ (ap (λ (es : List QueueEdit). es ++ map taking c.deref.result.now) (c.in_ok-reserve.ensures.list ∙ c.new-change.ensures.list)
+    ∙ ap (map taking) c.deref.ensures.value) in
     ap length edits ∙ (length-map c.in_ok-entries.entries.items taking ∙ ap length c.in_ok-entries.ensures.frame)
 
 pub returns-clause-leads_back : goal.returns-clause-leads_back

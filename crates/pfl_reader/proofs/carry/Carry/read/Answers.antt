@@ -31,7 +31,9 @@ returns-then-byte-eq-LINE_FEED-clause-turns g c = CountsTurns-then _ _ _ c.loop-
 pub loop-byte-preserved : goal.loop-byte-preserved
 loop-byte-preserved g c =
     let taken = subst (TakesByte c.loop-byte.feed.left c.take_byte.new.self.left) c.in-Some.is c.in_ok-byte.ensures.byte in
-    let less : room (idle c.take_byte.new.self) < room (idle c.loop-byte.feed) = subst (λ (o : Option ℕ). IfSome o (λ _. room (idle c.take_byte.new.self) < room (idle c.loop-byte.feed))) c.in-Some.is c.in_ok-byte.ensures.room in
+    let less : room (idle c.take_byte.new.self) < room (idle c.loop-byte.feed) =
+    subst (λ (o : Option ℕ). IfSome o (λ _. room (idle c.take_byte.new.self) < room (idle c.loop-byte.feed))) c.in-Some.is
+    c.in_ok-byte.ensures.room in
     record {
       reads = rw c.add.ensures (Reads-added _ _ _ _ _ c.loop-byte.invariant.reads taken c.if-byte-eq-LINE_FEED.false);
       within = omega (arith, less);

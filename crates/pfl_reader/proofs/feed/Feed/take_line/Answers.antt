@@ -9,6 +9,7 @@ returns-clause-line g c =
     let within = waits-within c.self.inside.block c.self.inside.start c.self.inside.end c.in_ok-found.found found.0.high in
     rw (← c.self.view_is) (record {
       line = TakesLine-whole c.self.inside.block c.self.inside.start c.self.inside.end c.in_ok-found.found c.body_len-len.result _
-          found.0.high c.body_len-len.ensures.within (eqb-true _ _ found.1) (λ j l e. found.0.before j (omega arith) l (eq-eqb _ _ e)) c.body_len-len.ensures.body;
+          found.0.high c.body_len-len.ensures.within (eqb-true _ _ found.1)
+          (λ j l e. found.0.before j (omega arith) l (eq-eqb _ _ e)) c.body_len-len.ensures.body;
       less = omega (arith, within);
     })

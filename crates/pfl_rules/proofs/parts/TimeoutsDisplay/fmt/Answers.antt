@@ -12,7 +12,8 @@ loop-number-preserved g c plain =
       | in-Some+in_ok-write w ↦
           rw w.f-is
           (has_written_of_eq _ _ _ _ _
-          (class_more c.args.self.now.0.now c.loop-number.number _ (grind (arith, nat_tests, w.in-Some.ensures.lookup.0)) c.loop-number-test.true w.in-Some.ensures.lookup.1)
+          (class_more c.args.self.now.0.now c.loop-number.number _
+          (grind (arith, nat_tests, w.in-Some.ensures.lookup.0)) c.loop-number-test.true w.in-Some.ensures.lookup.1)
           (has_written_append _ _ _ _ _ _ so_far (w.in_ok-write.ensures.writes so_far.plain refl)))
       | in_default w ↦
           rw w.f-is

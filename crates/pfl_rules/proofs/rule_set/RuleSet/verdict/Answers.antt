@@ -15,7 +15,8 @@ loop-number-init g c =
 pub returns-then-rule : goal.returns-then-rule
 returns-then-rule g c =
     rw c.is_pass.ensures
-    (quick c.args.packet.now c.args.dir _ _ _ _ c.rule-item.is c.loop-number-test.true (sym c.matches.ensures ∙ c.if-matches.true) c.if-rule.true ∙ c.loop-number.invariant.whole)
+    (quick c.args.packet.now c.args.dir _ _ _ _ c.rule-item.is c.loop-number-test.true (sym c.matches.ensures
+    ∙ c.if-matches.true) c.if-rule.true ∙ c.loop-number.invariant.whole)
 
 pub loop-number-preserved : goal.loop-number-preserved
 loop-number-preserved g c = record {
@@ -25,10 +26,12 @@ loop-number-preserved g c = record {
       elim c.if-matches.branch [
         | then-matches+else-rule w ↦
             rw (w.verdict-is, w.is_pass.ensures)
-            (taken c.args.packet.now c.args.dir _ _ _ _ c.rule-item.is c.loop-number-test.true (sym c.matches.ensures ∙ w.if-matches.true) w.if-rule.false ∙ c.loop-number.invariant.whole)
+            (taken c.args.packet.now c.args.dir _ _ _ _ c.rule-item.is c.loop-number-test.true (sym c.matches.ensures
+            ∙ w.if-matches.true) w.if-rule.false ∙ c.loop-number.invariant.whole)
         | else-matches w ↦
             rw w.verdict-is
-            (passed_by c.args.packet.now c.args.dir _ _ _ _ c.rule-item.is c.loop-number-test.true (sym c.matches.ensures ∙ w.if-matches.false) ∙ c.loop-number.invariant.whole)
+            (passed_by c.args.packet.now c.args.dir _ _ _ _ c.rule-item.is c.loop-number-test.true (sym c.matches.ensures
+            ∙ w.if-matches.false) ∙ c.loop-number.invariant.whole)
       ];
 }
 

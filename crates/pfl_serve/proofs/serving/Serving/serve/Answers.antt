@@ -29,7 +29,8 @@ returns-in_err-advance-clause-until g c =
     rw (p.1, p.2) (until-read _ _ _ _ _ _ _ _ _ c.loop-said.invariant.served _ _)
 
 pub returns-in_err-advance-clause-reads : goal.returns-in_err-advance-clause-reads
-returns-in_err-advance-clause-reads g c = Counts-more c.args.seat.now.reader c.loop-said.seat.reader c.advance.new.self c.loop-said.invariant.reads c.advance.ensures.turns
+returns-in_err-advance-clause-reads g c =
+    Counts-more c.args.seat.now.reader c.loop-said.seat.reader c.advance.new.self c.loop-said.invariant.reads c.advance.ensures.turns
 
 pub returns-in_err-advance-clause-few : goal.returns-in_err-advance-clause-few
 returns-in_err-advance-clause-few g c = c.advance.ensures.few c.loop-said.invariant.most
@@ -46,7 +47,9 @@ returns-in_err-answer-clause-until g c =
     rw (p.1, p.2, c.answer.ensures.reader) (until-answer _ _ _ _ _ _ _ _ _ _ _ _ _ c.loop-said.invariant.served reads _ breaks)
 
 pub returns-in_err-answer-clause-reads : goal.returns-in_err-answer-clause-reads
-returns-in_err-answer-clause-reads g c = rw c.answer.ensures.reader (Counts-more c.args.seat.now.reader c.loop-said.seat.reader c.advance.new.self c.loop-said.invariant.reads c.advance.ensures.turns)
+returns-in_err-answer-clause-reads g c =
+    rw c.answer.ensures.reader
+    (Counts-more c.args.seat.now.reader c.loop-said.seat.reader c.advance.new.self c.loop-said.invariant.reads c.advance.ensures.turns)
 
 pub returns-in_err-answer-clause-few : goal.returns-in_err-answer-clause-few
 returns-in_err-answer-clause-few g c = rw c.answer.ensures.reader (c.advance.ensures.few c.loop-said.invariant.most)
@@ -66,7 +69,8 @@ loop-said-preserved g c =
       few = rw c.answer.ensures.reader (omega (arith, less));
       fewer = omega (arith, one_if-le c.is_fault.result);
       lines = rw (c.answer.ensures.reader, c.more-ended.ensures.lines) (omega (arith, lines, c.loop-said.invariant.lines));
-      reads = rw c.answer.ensures.reader (Counts-more c.args.seat.now.reader c.loop-said.seat.reader c.advance.new.self c.loop-said.invariant.reads c.advance.ensures.turns);
+      reads = rw c.answer.ensures.reader
+          (Counts-more c.args.seat.now.reader c.loop-said.seat.reader c.advance.new.self c.loop-said.invariant.reads c.advance.ensures.turns);
       most = rw c.answer.ensures.reader (c.advance.ensures.few c.loop-said.invariant.most);
       stays = rw c.answer.ensures.reader (c.in_ok-advance.ensures.stays ∙ c.loop-said.invariant.stays);
       writer_stays = c.in_ok-answer.ensures.stays ∙ c.loop-said.invariant.writer_stays;

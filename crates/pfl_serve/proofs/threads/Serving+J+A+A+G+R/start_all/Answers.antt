@@ -10,7 +10,9 @@ loop-seat-preserved-in-Some-start g c =
       lab = (rw steps.0 at was.lab).1;
       split = elim was.split [
         | inl refused ↦ inl refused
-        | inr split ↦ inr (rw c.push_reserved.ensures.items (taken-more (λ h. h.promise.seat.value) c.loop-seat.handles.items c.in-Some-start.handle c.in-Some.seat _ _ c.in-Some-start.ensures.promise (rw steps.0 at split)))
+        | inr split ↦ inr (rw c.push_reserved.ensures.items
+            (taken-more (λ h. h.promise.seat.value) c.loop-seat.handles.items c.in-Some-start.handle c.in-Some.seat _ _
+            c.in-Some-start.ensures.promise (rw steps.0 at split)))
       ];
       room = omega (arith, steps.1);
       short = λ refused. let fewer = was.short refused in omega (arith, steps.1, fewer);

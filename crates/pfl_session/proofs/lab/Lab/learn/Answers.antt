@@ -9,6 +9,7 @@ invariant_of-pass g c = (
   refl,
   c.pass.invariant.3,
   c.learn-learnt.ensures.closed,
-  seen-on _ _ c.in-Some.viewer c.pass.invariant.0 _ (sym c.in-Some.is ∙ (c.take.ensures.value ∙ c.pass.invariant.2)) c.learn-learnt.ensures.seen.1 c.pass.invariant.5,
+  seen-on _ _ c.in-Some.viewer c.pass.invariant.0 _ (sym c.in-Some.is
+      ∙ (c.take.ensures.value ∙ c.pass.invariant.2)) c.learn-learnt.ensures.seen.1 c.pass.invariant.5,
   c.pass.invariant.6,
 )

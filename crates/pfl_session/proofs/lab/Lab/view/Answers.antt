@@ -14,14 +14,17 @@ invariant_of-pass g c = (
   refl,
   c.pass.invariant.3,
   c.read-read.ensures.closed,
-  seen-on _ _ c.in-Some.viewer c.pass.invariant.0 _ (sym c.in-Some.is ∙ (c.take.ensures.value ∙ c.pass.invariant.2)) c.read-read.ensures.seen.1 c.pass.invariant.5,
+  seen-on _ _ c.in-Some.viewer c.pass.invariant.0 _ (sym c.in-Some.is
+      ∙ (c.take.ensures.value ∙ c.pass.invariant.2)) c.read-read.ensures.seen.1 c.pass.invariant.5,
   c.pass.invariant.6,
 )
 
 pub returns-clause-loaded : goal.returns-clause-loaded
 returns-clause-loaded g c =
-    let same : c.in-Some.viewer ≡ c.args.pass.now.viewer = ap viewer_in (sym c.in-Some.is ∙ c.take.ensures.value) ∙ ap (λ (s : Seen g.row.A.Denot). s.viewer) c.pass.view_is in
+    let same : c.in-Some.viewer ≡ c.args.pass.now.viewer = ap viewer_in (sym c.in-Some.is ∙ c.take.ensures.value)
+    ∙ ap (λ (s : Seen g.row.A.Denot). s.viewer) c.pass.view_is in
     subst
-    (λ (v : Viewer (Mark g.row.A.Denot)). IfOk c.read-read.result (λ r. (now : ℕ) × (count : ℕ) × MakesTries v c.read-read.new.viewer count (slice_index r.words 0) now × (count ≤ c.args.tries - 1)))
+    (λ (v : Viewer (Mark g.row.A.Denot)). IfOk c.read-read.result (λ r. (now : ℕ) × (count : ℕ)
+    × MakesTries v c.read-read.new.viewer count (slice_index r.words 0) now × (count ≤ c.args.tries - 1)))
     same
     (loads-of (λ r. r.words) c.read-read.result c.in-Some.viewer c.read-read.new.viewer (c.args.tries - 1) c.read-read.ensures.ok)

@@ -24,14 +24,32 @@ invariant_of-self-in_err-reserve-2 g c =
 pub invariant_of-self-in_err-reserve-3 : goal.invariant_of-self-in_err-reserve-3
 invariant_of-self-in_err-reserve-3 g c =
     let is = c.self.invariant in
-    let same = c.in_ok-reserve.ensures.items in
-    (is.0, is.1, is.2, is.3, counts-kept _ _ _ _ _ same c.in_ok-reserve-2.ensures.items is.4, passes-kept _ _ _ _ _ _ same c.in_err-reserve-3.ensures.items is.5, is.6, is.7)
+    let same = c.in_ok-reserve.ensures.items in (
+      is.0,
+      is.1,
+      is.2,
+      is.3,
+      counts-kept _ _ _ _ _ same c.in_ok-reserve-2.ensures.items is.4,
+      passes-kept _ _ _ _ _ _ same
+          c.in_err-reserve-3.ensures.items is.5,
+      is.6,
+      is.7,
+    )
 
 pub invariant_of-self-in_err-tally : goal.invariant_of-self-in_err-tally
 invariant_of-self-in_err-tally g c =
     let is = c.self.invariant in
-    let same = c.in_ok-reserve.ensures.items in
-    (is.0, is.1, is.2, is.3, counts-kept _ _ _ _ _ same c.in_ok-reserve-2.ensures.items is.4, passes-kept _ _ _ _ _ _ same c.in_ok-reserve-3.ensures.items is.5, is.6, is.7)
+    let same = c.in_ok-reserve.ensures.items in (
+      is.0,
+      is.1,
+      is.2,
+      is.3,
+      counts-kept _ _ _ _ _ same c.in_ok-reserve-2.ensures.items is.4,
+      passes-kept _ _ _ _ _ _ same
+          c.in_ok-reserve-3.ensures.items is.5,
+      is.6,
+      is.7,
+    )
 
 pub invariant_of-pass : goal.invariant_of-pass
 invariant_of-pass g c =
@@ -60,7 +78,15 @@ invariant_of-self-2 g c =
       is.2,
       is.3,
       counts-added _ _ _ _ _ _ _ is.1 is.4 made.tables.0 made.counts.0 tallies halves,
-      passes-added _ _ _ _ _ _ c.in_ok-tally.tally new is.5 (record { session_is = omega (arith, next, many); tally_is = made.tables.1; publisher_is = split.tables.1 ∙ table; seen_is = split.seen.1 ∙ seen; called = made.counts.1; loaded = split.loads.1 }) tallies passes,
+      passes-added _ _ _ _ _ _ c.in_ok-tally.tally new is.5
+          (record {
+            session_is = omega (arith, next, many);
+            tally_is = made.tables.1;
+            publisher_is = split.tables.1 ∙ table;
+            seen_is = split.seen.1 ∙ seen;
+            called = made.counts.1;
+            loaded = split.loads.1;
+          }) tallies passes,
       is.6,
       is.7,
     )
@@ -71,4 +97,15 @@ returns g c =
     let tallies : c.push_reserved.new.self.items ≡ c.args.self.now.tallies ++ c.in_ok-tally.tally ∷ [] =
     c.push_reserved.ensures.items
     ∙ (ap (λ (l : List TableId). l ++ c.in_ok-tally.tally ∷ []) c.in_ok-reserve.ensures.items ∙ ap (λ (s : Setup). s.tallies ++ c.in_ok-tally.tally ∷ []) is) in
-    record { added = (c.in_ok-tally.tally, λ z. record { publisher = (is z).publisher; tallies = tallies z; opening = (is z).opening; setup = (is z).setup; limit = (is z).limit }) }
+    record {
+      added = (
+        c.in_ok-tally.tally,
+        λ z. record {
+          publisher = (is z).publisher;
+          tallies = tallies z;
+          opening = (is z).opening;
+          setup = (is z).setup;
+          limit = (is z).limit;
+        },
+      );
+    }

@@ -9,8 +9,8 @@ use Rattle.pfl_session.proofs.Growth.{more_room}
 use Rattle.pfl_session.proofs.Seatings.{passes-of}
 use Rattle.pfl_session.proofs.opened.Opened.named.Goals as goal
 
-pub invariant_of-desk : goal.invariant_of-desk
-invariant_of-desk g c =
+pub invariant_of-ledger : goal.invariant_of-ledger
+invariant_of-ledger g c =
     let is = c.self.invariant in
     let js = c.self.inside.journal.items in
     let none : js ≡ [] = is.1 in
@@ -22,7 +22,8 @@ invariant_of-desk g c =
       (c.self.inside.writer, refl, is.2 ∙ publisher, is.3 ∙ ap (λ (t : Timeline). revisions_of t js) opening),
       is.4 ∙ ap (λ (ts : List TableId). counts_of 1 ts js) tallies,
       record {
-        journal = subst (IsJournal g.J.Which.opening (length g.J.Which.tallies) g.J.Which.limit) (sym none) (record { legal = tt; sessions = tt; short = omega arith });
+        journal = subst (IsJournal g.J.Which.opening (length g.J.Which.tallies) g.J.Which.limit) (sym none)
+            (record { legal = tt; sessions = tt; short = omega arith });
         timeline_is = opening ∙ sym (ap (replay g.J.Which.opening) none);
         few = more_room 4294967295 (length js + 4294967295) c.self.inside.timeline (omega arith) is.6;
         bound_is = limit;
@@ -36,4 +37,5 @@ returns-clause-lab g c =
     let publisher : c.self.inside.publisher ≡ g.J.Which.publisher = ap (λ (s : Setup). s.publisher) c.self.view_is ∙ c.requires.tables.0 in
     let tallies : c.self.inside.tallies.items ≡ g.J.Which.tallies = ap (λ (s : Setup). s.tallies) c.self.view_is ∙ c.requires.tables.1 in
     subst (λ (ts : List TableId). AllByRecursion (IsPassOf g.J.Which.publisher ts) ps) tallies
-    (subst (λ (p : TableId). AllByRecursion (IsPassOf p c.self.inside.tallies.items) ps) publisher (passes-of c.self.inside.publisher _ c.self.inside.tallies.items ps c.self.invariant.5))
+    (subst (λ (p : TableId). AllByRecursion (IsPassOf p c.self.inside.tallies.items) ps) publisher
+    (passes-of c.self.inside.publisher _ c.self.inside.tallies.items ps c.self.invariant.5))

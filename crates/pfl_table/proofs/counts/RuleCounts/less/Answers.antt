@@ -6,5 +6,6 @@ pub index_mut-requires : goal.index_mut-requires
 index_mut-requires g c =
     let rule = c.in-Some.rule in
     let within : rule < length c.self.inside.counts.items =
-    subst (λ (counts : List ℕ). rule < length counts) (sym c.self.view_is) (counted-within c.args.self.now rule c.args.rule c.in-Some.is (c.requires.counted rule)) in
+    subst (λ (counts : List ℕ). rule < length counts) (sym c.self.view_is)
+    (counted-within c.args.self.now rule c.args.rule c.in-Some.is (c.requires.counted rule)) in
     omega arith

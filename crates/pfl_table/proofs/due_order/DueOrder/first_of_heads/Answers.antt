@@ -11,7 +11,8 @@ pub returns-in_err-slot : goal.returns-in_err-slot
 returns-in_err-slot g c =
     let before = entry_before c.args.adaptive c.args.states in
     let all = c.first_due.ensures.first ∙ (ap (λ (hs : List Head). foremost before (map entry_of hs)) c.as_slice.ensures.rows
-    ∙ (heads-first c.args.adaptive c.args.states c.self.inside.heads.list c.self.inside.order.list c.known.ensures.entries.sorted c.as_slice.ensures.ordered.rising c.self.invariant.1.first
+    ∙ (heads-first c.args.adaptive c.args.states c.self.inside.heads.list c.self.inside.order.list c.known.ensures.entries.sorted
+    c.as_slice.ensures.ordered.rising c.self.invariant.1.first
     ∙ ap (λ d. foremost before d.list) c.self.view_is)) in
     record { first = c.from_residual.ensures ∙ ap (option_map (λ e. e.1)) (sym c.in_err-slot.was ∙ all) }
 
@@ -19,6 +20,7 @@ pub returns : goal.returns
 returns g c =
     let before = entry_before c.args.adaptive c.args.states in
     let all = c.first_due.ensures.first ∙ (ap (λ (hs : List Head). foremost before (map entry_of hs)) c.as_slice.ensures.rows
-    ∙ (heads-first c.args.adaptive c.args.states c.self.inside.heads.list c.self.inside.order.list c.known.ensures.entries.sorted c.as_slice.ensures.ordered.rising c.self.invariant.1.first
+    ∙ (heads-first c.args.adaptive c.args.states c.self.inside.heads.list c.self.inside.order.list c.known.ensures.entries.sorted
+    c.as_slice.ensures.ordered.rising c.self.invariant.1.first
     ∙ ap (λ d. foremost before d.list) c.self.view_is)) in
     record { first = ap (option_map (λ e. e.1)) (sym c.in_ok-slot.was ∙ all) }

@@ -15,10 +15,14 @@ insert-requires-clause-new g c =
     let old = c.args.self.now in
     let row = c.args.row.now in
     let are = c.known-2.ensures.filed in
-    table-no_key old row are.stated c.known.ensures (names-apart old are) (not_found old.links row.state.name (sym c.requires.new ∙ get-rows_of old.links row.state.name)) c.requires.table
+    table-no_key old row are.stated c.known.ensures (names-apart old are)
+    (not_found old.links row.state.name (sym c.requires.new ∙ get-rows_of old.links row.state.name)) c.requires.table
 
 pub returns : goal.returns
 returns g c =
     let old = c.args.self.now in
     let row = c.args.row.now in
-    record { set = table-put old old _ row refl c.insert.ensures.gains (not_found old.links row.state.name (sym c.requires.new ∙ get-rows_of old.links row.state.name)) }
+    record {
+      set = table-put old old _ row refl c.insert.ensures.gains
+          (not_found old.links row.state.name (sym c.requires.new ∙ get-rows_of old.links row.state.name));
+    }

@@ -16,25 +16,34 @@ use Rattle.pfl_table.proofs.stored.Stored.after.Goals as goal
 pub at-requires : goal.at-requires
 at-requires g c =
     let links = c.args.self.now.links in
-    let i = subst (λ (f : Filing). IsIndex by_name_cmp by_name f.links (maps.from_sorted c.self.inside.indexes.order.list)) c.self.view_is c.self.invariant.indexes.order in
+    let i = subst (λ (f : Filing). IsIndex by_name_cmp by_name f.links (maps.from_sorted c.self.inside.indexes.order.list)) c.self.view_is
+    c.self.invariant.indexes.order in
     let rising = subst (λ (f : Filing). IsRising name_cmp (key_of name_of) f.links) c.self.view_is c.self.invariant.rising in
-    let first = some_row _ _ _ (c.after.ensures.next ∙ find-listed c.self.inside.indexes.order.list links c.known.ensures.entries.sorted i rising c.args.name) c.in-Some.is in
+    let first = some_row _ _ _ (c.after.ensures.next
+    ∙ find-listed c.self.inside.indexes.order.list links c.known.ensures.entries.sorted i rising c.args.name) c.in-Some.is in
     record { stands = above-found links c.args.name first.row c.in-Some.slot first.is first.slot }
 
 pub returns-in-Some : goal.returns-in-Some
 returns-in-Some g c =
     let links = c.args.self.now.links in
     let test = λ (r : Row). is_lt (name_cmp c.args.name r.state.name) in
-    let i = subst (λ (f : Filing). IsIndex by_name_cmp by_name f.links (maps.from_sorted c.self.inside.indexes.order.list)) c.self.view_is c.self.invariant.indexes.order in
+    let i = subst (λ (f : Filing). IsIndex by_name_cmp by_name f.links (maps.from_sorted c.self.inside.indexes.order.list)) c.self.view_is
+    c.self.invariant.indexes.order in
     let rising = subst (λ (f : Filing). IsRising name_cmp (key_of name_of) f.links) c.self.view_is c.self.invariant.rising in
-    let first = some_row _ _ _ (c.after.ensures.next ∙ find-listed c.self.inside.indexes.order.list links c.known.ensures.entries.sorted i rising c.args.name) c.in-Some.is in
-    record { row = c.at.ensures.row (above-found links c.args.name first.row c.in-Some.slot first.is first.slot) ∙ sym (find-map row_of_link test links ∙ ap (option_map row_of_link) first.is) }
+    let first = some_row _ _ _ (c.after.ensures.next
+    ∙ find-listed c.self.inside.indexes.order.list links c.known.ensures.entries.sorted i rising c.args.name) c.in-Some.is in
+    record {
+      row = c.at.ensures.row (above-found links c.args.name first.row c.in-Some.slot first.is first.slot)
+          ∙ sym (find-map row_of_link test links ∙ ap (option_map row_of_link) first.is);
+    }
 
 pub returns-in-None : goal.returns-in-None
 returns-in-None g c =
     let links = c.args.self.now.links in
     let test = λ (r : Row). is_lt (name_cmp c.args.name r.state.name) in
-    let i = subst (λ (f : Filing). IsIndex by_name_cmp by_name f.links (maps.from_sorted c.self.inside.indexes.order.list)) c.self.view_is c.self.invariant.indexes.order in
+    let i = subst (λ (f : Filing). IsIndex by_name_cmp by_name f.links (maps.from_sorted c.self.inside.indexes.order.list)) c.self.view_is
+    c.self.invariant.indexes.order in
     let rising = subst (λ (f : Filing). IsRising name_cmp (key_of name_of) f.links) c.self.view_is c.self.invariant.rising in
-    let none = no_row _ _ (c.after.ensures.next ∙ find-listed c.self.inside.indexes.order.list links c.known.ensures.entries.sorted i rising c.args.name) c.in-None.is in
+    let none = no_row _ _ (c.after.ensures.next
+    ∙ find-listed c.self.inside.indexes.order.list links c.known.ensures.entries.sorted i rising c.args.name) c.in-None.is in
     record { row = sym (find-map row_of_link test links ∙ ap (option_map row_of_link) none) }

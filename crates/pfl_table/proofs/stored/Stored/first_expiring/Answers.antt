@@ -17,7 +17,9 @@ pub at-first-requires : goal.at-first-requires
 at-first-requires g c =
     let rows = c.self.inside.rows in
     let d = c.self.inside.indexes.expiries in
-    let f = first-filed c.args.adaptive c.args.states d.filed (links_of rows 0) d.list c.known-2.ensures.entries.sorted c.self.invariant.indexes.expiries.order c.in_ok-slot.slot c.in_ok-slot.ensures.first in
+    let f = first-filed c.args.adaptive c.args.states d.filed
+    (links_of rows 0) d.list c.known-2.ensures.entries.sorted c.self.invariant.indexes.expiries.order c.in_ok-slot.slot
+    c.in_ok-slot.ensures.first in
     record { stands = (its-place rows c.self.invariant.one c.in_ok-slot.slot f.row f.stands).at }
 
 pub returns-in_err-slot : goal.returns-in_err-slot
@@ -25,7 +27,9 @@ returns-in_err-slot g c =
     let d = c.self.inside.indexes.expiries in
     record {
       row = rw (← c.self.view_is) (ap option_copied c.from_residual.ensures
-          ∙ sym (none-filed c.args.adaptive c.args.states d.filed (links_of c.self.inside.rows 0) d.list c.known-2.ensures.entries.sorted c.self.invariant.indexes.expiries.order c.in_err-slot.ensures.first));
+          ∙ sym (none-filed c.args.adaptive c.args.states d.filed
+          (links_of c.self.inside.rows 0) d.list c.known-2.ensures.entries.sorted c.self.invariant.indexes.expiries.order
+          c.in_err-slot.ensures.first));
     }
 
 pub returns-then-is_stale : goal.returns-then-is_stale
@@ -38,7 +42,8 @@ returns g c =
     let rows = c.self.inside.rows in
     let d = c.self.inside.indexes.expiries in
     let slot = c.in_ok-slot.slot in
-    let f = first-filed c.args.adaptive c.args.states d.filed (links_of rows 0) d.list c.known-2.ensures.entries.sorted c.self.invariant.indexes.expiries.order slot c.in_ok-slot.ensures.first in
+    let f = first-filed c.args.adaptive c.args.states d.filed
+    (links_of rows 0) d.list c.known-2.ensures.entries.sorted c.self.invariant.indexes.expiries.order slot c.in_ok-slot.ensures.first in
     let row = its-row rows c.self.invariant.one slot f.row f.stands c.at-first.result.now c.at-first.ensures.value in
     let names = Distinct-rising name_cmp (key_of name_of) (links_of rows 0) c.self.invariant.rising in
     let not = subst (λ (r : Row). r.state.last ≤ get_or d.filed slot 0) row (not_used _ _ _ c.is_stale.ensures.stale c.if-is_stale.false) in

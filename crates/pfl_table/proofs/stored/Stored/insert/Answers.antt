@@ -22,17 +22,25 @@ insert-requires g c =
     let gap = subst (λ (n : StateName). NameGap rows n c.behind-behind.result) c.name.ensures c.behind-behind.ensures.gap in
     let none = subst (λ (f : Filing). HasNoKey f.links c.args.row) (sym c.self.view_is) c.requires.new in
     let room = subst (λ (f : Filing). length f.links < f.limit) (sym c.self.view_is) c.requires.room in
-    record { new = may-gain rows _ c.self.inside.indexes c.self.invariant c.insert_after-slot.result c.args.row c.behind-behind.result gap (c.insert_after-slot.ensures.inserted gap.gap) c.known.ensures.lists room none }
+    record {
+      new = may-gain rows _ c.self.inside.indexes c.self.invariant c.insert_after-slot.result c.args.row c.behind-behind.result gap
+          (c.insert_after-slot.ensures.inserted gap.gap) c.known.ensures.lists room none;
+    }
 
 pub invariant_of-self : goal.invariant_of-self
 invariant_of-self g c =
     let rows = c.self.inside.rows in
     let gap = subst (λ (n : StateName). NameGap rows n c.behind-behind.result) c.name.ensures c.behind-behind.ensures.gap in
     let none = subst (λ (f : Filing). HasNoKey f.links c.args.row) (sym c.self.view_is) c.requires.new in
-    stored-gains rows _ c.self.inside.indexes _ c.self.invariant c.insert_after-slot.result c.args.row c.behind-behind.result gap (c.insert_after-slot.ensures.inserted gap.gap) c.known.ensures.lists c.insert.ensures.gains none c.requires.stated
+    stored-gains rows _ c.self.inside.indexes _ c.self.invariant c.insert_after-slot.result c.args.row c.behind-behind.result gap
+    (c.insert_after-slot.ensures.inserted gap.gap) c.known.ensures.lists c.insert.ensures.gains none c.requires.stated
 
 pub returns : goal.returns
 returns g c =
     let rows = c.self.inside.rows in
     let gap = subst (λ (n : StateName). NameGap rows n c.behind-behind.result) c.name.ensures c.behind-behind.ensures.gap in
-    record { gains = rw (← c.self.view_is) (gains-row rows _ c.self.inside.indexes c.self.invariant c.insert_after-slot.result c.args.row c.behind-behind.result gap (c.insert_after-slot.ensures.inserted gap.gap)) }
+    record {
+      gains = rw (← c.self.view_is)
+          (gains-row rows _ c.self.inside.indexes c.self.invariant c.insert_after-slot.result c.args.row c.behind-behind.result gap
+          (c.insert_after-slot.ensures.inserted gap.gap));
+    }

@@ -12,7 +12,10 @@ put-requires g c =
     let t = table_of c.args.self.now in
     let name = c.args.name in
     let named = subst (λ (o : Option Row). IfSome o (λ r. r.state.name ≡ name)) c.in-Some.is (own_name t name c.args.at.now c.requires.table) in
-    record { table = subst (λ (n : StateName). IsTable (with_row t n (Some c.in-Some.row))) (sym named) (subst (λ (o : Option Row). IsTable (with_row t name o)) c.in-Some.is c.requires.table) }
+    record {
+      table = subst (λ (n : StateName). IsTable (with_row t n (Some c.in-Some.row))) (sym named)
+          (subst (λ (o : Option Row). IsTable (with_row t name o)) c.in-Some.is c.requires.table);
+    }
 
 pub returns-in-Some-clause-former : goal.returns-in-Some-clause-former
 returns-in-Some-clause-former g c =

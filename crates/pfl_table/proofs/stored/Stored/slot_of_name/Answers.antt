@@ -25,7 +25,9 @@ returns g c =
     let rows = c.self.inside.rows in
     record {
       slot = subst (λ (f : Filing). c.find.result ≡ option_map slot_of_link (row_at name_cmp (key_of name_of) f.links c.args.name)) c.self.view_is
-          (tagged-found by_name_total by_name_exact by_name name_tag (λ slot is_it. (at : Place rows slot) → IsTrue is_it ↔ (name_of at.value ≡ c.args.name)) (links_of rows 0) _ (record { 0 = c.args.name }) c.tag_of_name.result c.find.result c.self.invariant.indexes.names c.tag_of_name.ensures.tag
+          (tagged-found by_name_total by_name_exact by_name name_tag (λ slot is_it. (at : Place rows slot)
+          → IsTrue is_it ↔ (name_of at.value ≡ c.args.name)) (links_of rows 0) _
+          (record { 0 = c.args.name }) c.tag_of_name.result c.find.result c.self.invariant.indexes.names c.tag_of_name.ensures.tag
           c.find.ensures.found
           (λ slot v stands its. ap (λ n. record { 0 = n }) ((its (stands-place rows c.self.invariant.one slot v stands)).0 refl))
           (λ slot v stands other its. true_is_false (sym ((other (stands-place rows c.self.invariant.one slot v stands)).1 (ap (λ (n : ByName). n.0) its))))

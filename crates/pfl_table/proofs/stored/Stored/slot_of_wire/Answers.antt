@@ -25,7 +25,9 @@ returns g c =
     let tag : c.tag_of_flow.result ≡ flow_tag (flow_of key) = c.tag_of_flow.ensures.tag ∙ sym (ap (λ (k : Key). flow_tag (flow_of k)) c.of-packed.ensures) in
     record {
       slot = subst (λ (f : Filing). c.find.result ≡ option_map slot_of_link (row_at flow_cmp (key_of wire_flow) f.links (flow_of key))) c.self.view_is
-          (tagged-found flow_total flow_exact wire_flow flow_tag (λ slot is_it. (at : Place rows slot) → IsTrue is_it ↔ (wire_flow at.value ≡ flow_of key)) (links_of rows 0) _ (flow_of key) c.tag_of_flow.result c.find.result c.self.invariant.indexes.wires tag c.find.ensures.found
+          (tagged-found flow_total flow_exact wire_flow flow_tag (λ slot is_it. (at : Place rows slot)
+          → IsTrue is_it ↔ (wire_flow at.value ≡ flow_of key)) (links_of rows 0) _
+          (flow_of key) c.tag_of_flow.result c.find.result c.self.invariant.indexes.wires tag c.find.ensures.found
           (λ slot v stands its. (its (stands-place rows c.self.invariant.one slot v stands)).0 refl)
           (λ slot v stands other its. true_is_false (sym ((other (stands-place rows c.self.invariant.one slot v stands)).1 its))))
           ∙ ap (λ (k : Key). option_map slot_of_link (row_at flow_cmp (key_of wire_flow) c.args.self.now.links (flow_of k))) c.of-packed.ensures;

@@ -11,5 +11,6 @@ returns g c =
     let are = c.known.ensures.filed in
     record {
       state = rw (← c.self.view_is) (c.state_of.ensures ∙ (ap (option_map (λ (r : Row). r.state)) c.by_stack.ensures.row
-          ∙ (mapped_twice (λ (r : Row). r.state) row_of_link _ ∙ sym (find-key c.self.inside.stored are.rising (λ (s : State). s.stack) are.stacks c.args.key.now))));
+          ∙ (mapped_twice (λ (r : Row). r.state) row_of_link _
+          ∙ sym (find-key c.self.inside.stored are.rising (λ (s : State). s.stack) are.stacks c.args.key.now))));
     }

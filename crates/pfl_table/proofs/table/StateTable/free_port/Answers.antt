@@ -9,5 +9,6 @@ returns-then-not-has_translated g c =
     let m = states_of c.args.self.now in
     let r = c.args.rule.now in
     let free : is_free m r c.args.key c.loop-port.port ≡ true =
-    ap not (ap (translated_in_use m r) (sym (c.set_port.ensures ∙ c.loop-port.invariant.key c.loop-port.port)) ∙ (sym c.has_translated.ensures ∙ c.if-not-has_translated.true)) in
+    ap not (ap (translated_in_use m r) (sym (c.set_port.ensures ∙ c.loop-port.invariant.key c.loop-port.port))
+    ∙ (sym c.has_translated.ensures ∙ c.if-not-has_translated.true)) in
     passes_here (is_free m r c.args.key) c.args.ports.last c.loop-port.port free ∙ c.loop-port.invariant.rest

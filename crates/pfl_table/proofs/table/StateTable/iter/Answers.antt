@@ -12,4 +12,5 @@ pub returns-clause-states : goal.returns-clause-states
 returns-clause-states g c = ap (map (λ (r : Row). r.state)) (returns-clause-rows g c) ∙ sym (values-states_of c.args.self.now)
 
 pub returns-clause-names : goal.returns-clause-names
-returns-clause-names g c = rw (← c.self.view_is) (ap (map name_of) c.iter.ensures.rows ∙ keys-rows_of _ c.known.ensures.filed.rising) ∙ sym (keys-states_of c.args.self.now)
+returns-clause-names g c = rw (← c.self.view_is) (ap (map name_of) c.iter.ensures.rows ∙ keys-rows_of _ c.known.ensures.filed.rising)
+    ∙ sym (keys-states_of c.args.self.now)

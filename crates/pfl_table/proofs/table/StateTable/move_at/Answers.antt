@@ -14,13 +14,16 @@ use Rattle.pfl_table.proofs.table.StateTable.move_at.Goals as goal
 pub returns-in_err-place-clause-former : goal.returns-in_err-place-clause-former
 returns-in_err-place-clause-former g c =
     let t = table_of c.self.inside.stored in
-    rw (← c.self.view_is) (rw c.from_residual.ensures (ap (λ (o : Option Row). option_map motion (option_map (λ (r : Row). r.state) o)) (c.in_err-place.ensures.row ∙ sym (get-rows_of c.self.inside.stored.links c.args.name))
+    rw (← c.self.view_is) (rw c.from_residual.ensures
+    (ap (λ (o : Option Row). option_map motion (option_map (λ (r : Row). r.state) o)) (c.in_err-place.ensures.row
+    ∙ sym (get-rows_of c.self.inside.stored.links c.args.name))
     ∙ sym (ap (option_map motion) (get-states_of t c.args.name))))
 
 pub returns-in_err-place-clause-moved : goal.returns-in_err-place-clause-moved
 returns-in_err-place-clause-moved g c =
     subst (λ (t : Table). t ≡ with_moved t c.args.name c.args.motion.now c.args.timeout) c.self.view_is
-    (moved-none (table_of c.self.inside.stored) c.args.name c.args.motion.now c.args.timeout (get-rows_of c.self.inside.stored.links c.args.name ∙ sym c.in_err-place.ensures.row))
+    (moved-none (table_of c.self.inside.stored) c.args.name c.args.motion.now c.args.timeout
+    (get-rows_of c.self.inside.stored.links c.args.name ∙ sym c.in_err-place.ensures.row))
 
 pub renew-requires-clause-table : goal.renew-requires-clause-table
 renew-requires-clause-table g c =
@@ -55,7 +58,8 @@ pub returns-clause-former : goal.returns-clause-former
 returns-clause-former g c =
     let t = table_of c.self.inside.stored in
     let at = c.in_ok-place.ensures.row ∙ sym (get-rows_of c.self.inside.stored.links c.args.name) in
-    ap Some c.motion-former.ensures ∙ subst (λ (u : Table). Some (motion c.in_ok-place.row.now.state) ≡ option_map motion (maps.get (states_of u) c.args.name)) c.self.view_is
+    ap Some c.motion-former.ensures
+    ∙ subst (λ (u : Table). Some (motion c.in_ok-place.row.now.state) ≡ option_map motion (maps.get (states_of u) c.args.name)) c.self.view_is
     (moved-former t c.args.name c.args.motion.now c.args.timeout c.self.invariant c.in_ok-place.row.now at)
 
 pub returns-clause-moved : goal.returns-clause-moved

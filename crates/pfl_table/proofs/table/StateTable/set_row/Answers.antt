@@ -8,7 +8,8 @@ pub set-before-requires : goal.set-before-requires
 set-before-requires g c = record { table = subst (λ (t : Table). IsTable (with_row t c.args.name c.args.at.now)) (sym c.self.view_is) c.requires }
 
 pub invariant_of-self : goal.invariant_of-self
-invariant_of-self g c = subst IsTable (sym c.set-before.ensures.set) (subst (λ (t : Table). IsTable (with_row t c.args.name c.args.at.now)) (sym c.self.view_is) c.requires)
+invariant_of-self g c = subst IsTable (sym c.set-before.ensures.set)
+    (subst (λ (t : Table). IsTable (with_row t c.args.name c.args.at.now)) (sym c.self.view_is) c.requires)
 
 pub returns-clause-set : goal.returns-clause-set
 returns-clause-set g c = rw (← c.self.view_is) c.set-before.ensures.set

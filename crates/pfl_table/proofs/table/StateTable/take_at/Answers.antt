@@ -12,7 +12,8 @@ invariant_of-self g c = subst IsTable (sym c.take.ensures.taken) (table_without 
 
 pub returns-in_err-row-clause-state : goal.returns-in_err-row-clause-state
 returns-in_err-row-clause-state g c =
-    rw (← c.self.view_is) (rw c.from_residual.ensures (ap (option_map (λ (r : Row). r.state)) c.in_err-row.ensures.former ∙ sym (get-states_of (table_of c.self.inside.stored) c.args.name)))
+    rw (← c.self.view_is) (rw c.from_residual.ensures (ap (option_map (λ (r : Row). r.state)) c.in_err-row.ensures.former
+    ∙ sym (get-states_of (table_of c.self.inside.stored) c.args.name)))
 
 pub invariant_of-self-2 : goal.invariant_of-self-2
 invariant_of-self-2 g c = subst IsTable (sym c.take.ensures.taken) (table_without _ c.args.name c.self.invariant)

@@ -11,7 +11,8 @@ pub overflow_cast-first : goal.overflow_cast-first
 overflow_cast-first g c =
     let r = c.args.self.now in
     let next : c.next.result ≡ r.opening.link.next + senders (standing r.branch) =
-    c.next.ensures.next ∙ ap (λ (l : Link). l.next) c.link.ensures.link ∙ next-ticket c.frames_are_counted.ensures.tickets r c.world.result.now c.world.ensures.world in
+    c.next.ensures.next ∙ ap (λ (l : Link). l.next) c.link.ensures.link
+    ∙ next-ticket c.frames_are_counted.ensures.tickets r c.world.result.now c.world.ensures.world in
     let sent : c.count_senders-sent.result ≡ senders (standing r.branch) =
     c.count_senders-sent.ensures ∙ standing-senders r c.cursor.result c.events-events.result.now c.cursor.ensures.cursor c.events-events.ensures.events in
     omega (arith, next, sent)
@@ -20,7 +21,8 @@ pub overflow_sub-first : goal.overflow_sub-first
 overflow_sub-first g c =
     let r = c.args.self.now in
     let next : c.next.result ≡ r.opening.link.next + senders (standing r.branch) =
-    c.next.ensures.next ∙ ap (λ (l : Link). l.next) c.link.ensures.link ∙ next-ticket c.frames_are_counted.ensures.tickets r c.world.result.now c.world.ensures.world in
+    c.next.ensures.next ∙ ap (λ (l : Link). l.next) c.link.ensures.link
+    ∙ next-ticket c.frames_are_counted.ensures.tickets r c.world.result.now c.world.ensures.world in
     let sent : c.count_senders-sent.result ≡ senders (standing r.branch) =
     c.count_senders-sent.ensures ∙ standing-senders r c.cursor.result c.events-events.result.now c.cursor.ensures.cursor c.events-events.ensures.events in
     omega (arith, next, sent)
@@ -29,7 +31,8 @@ pub returns-clause-place : goal.returns-clause-place
 returns-clause-place g c =
     let r = c.args.self.now in
     let next : c.next.result ≡ r.opening.link.next + senders (standing r.branch) =
-    c.next.ensures.next ∙ ap (λ (l : Link). l.next) c.link.ensures.link ∙ next-ticket c.frames_are_counted.ensures.tickets r c.world.result.now c.world.ensures.world in
+    c.next.ensures.next ∙ ap (λ (l : Link). l.next) c.link.ensures.link
+    ∙ next-ticket c.frames_are_counted.ensures.tickets r c.world.result.now c.world.ensures.world in
     let sent : c.count_senders-sent.result ≡ senders (standing r.branch) =
     c.count_senders-sent.ensures ∙ standing-senders r c.cursor.result c.events-events.result.now c.cursor.ensures.cursor c.events-events.ensures.events in
     let first : c.next.result - c.count_senders-sent.result ≡ r.opening.link.next = omega (arith, next, sent) in

@@ -28,5 +28,6 @@ returns-clause-answer g c =
     let there : slice_get b.events (k - 1) ≡ Some e =
     ap (λ (es : List Event). slice_get es (k - 1)) (sym c.events-2.ensures.events)
     ∙ c.get.ensures.event in
-    explained-by k c.args.self.now c.self.inside.name c.self.inside.history.value c.deref_mut.result.now (option_map box_value c.self.inside.former) c.self.view_is c.deref_mut.ensures.value
+    explained-by k c.args.self.now c.self.inside.name c.self.inside.history.value c.deref_mut.result.now
+    (option_map box_value c.self.inside.former) c.self.view_is c.deref_mut.ensures.value
     (has-event k b c.if-place-eq0.false within) e there _ _ c.in_ok-look_at.field-0 c.in_ok-look_at.ensures.seen

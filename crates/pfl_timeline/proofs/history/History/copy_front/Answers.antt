@@ -15,19 +15,24 @@ pub copy_below-requires : goal.copy_below-requires
 copy_below-requires g c =
     let h = c.self.inside in
     let read = c.mark_of-mark.ensures.mark ∙ ap (λ (ns : List ℕ). mark_at h.tape.list ns c.args.standing) c.deref.ensures.value in
-    record { within = mark-kept h.world h.events h.tape.list h.marks.items c.self.invariant c.args.self.now c.self.view_is c.args.standing c.requires.few c.mark_of-mark.result read }
+    record {
+      within = mark-kept h.world h.events h.tape.list h.marks.items c.self.invariant c.args.self.now c.self.view_is c.args.standing
+          c.requires.few c.mark_of-mark.result read;
+    }
 
 pub undo_copies_to-requires-clause-within : goal.undo_copies_to-requires-clause-within
 undo_copies_to-requires-clause-within g c =
     let h = c.self.inside in
     let read = c.mark_of-mark.ensures.mark ∙ ap (λ (ns : List ℕ). mark_at h.tape.list ns c.args.standing) c.deref.ensures.value in
-    mark-kept h.world h.events h.tape.list h.marks.items c.self.invariant c.args.self.now c.self.view_is c.args.standing c.requires.few c.mark_of-mark.result read
+    mark-kept h.world h.events h.tape.list h.marks.items c.self.invariant c.args.self.now c.self.view_is c.args.standing c.requires.few
+    c.mark_of-mark.result read
 
 pub undo_copies_to-requires-clause-fits : goal.undo_copies_to-requires-clause-fits
 undo_copies_to-requires-clause-fits g c =
     let h = c.self.inside in
     let read = c.mark_of-mark.ensures.mark ∙ ap (λ (ns : List ℕ). mark_at h.tape.list ns c.args.standing) c.deref.ensures.value in
-    fits-copied h.world h.events h.tape.list h.marks.items c.self.invariant c.args.self.now c.self.view_is c.args.standing c.requires.few c.mark_of-mark.result read c.in_ok-world.world c.in_ok-world.ensures.same
+    fits-copied h.world h.events h.tape.list h.marks.items c.self.invariant c.args.self.now c.self.view_is c.args.standing c.requires.few
+    c.mark_of-mark.result read c.in_ok-world.world c.in_ok-world.ensures.same
 
 pub invariant_of-result : goal.invariant_of-result
 invariant_of-result g c =
@@ -35,7 +40,9 @@ invariant_of-result g c =
     let read = c.mark_of-mark.ensures.mark ∙ ap (λ (ns : List ℕ). mark_at h.tape.list ns c.args.standing) c.deref.ensures.value in
     let events = c.in_ok-events.ensures.events in
     let marks = c.in_ok-marks.ensures.items ∙ ap (take c.args.standing) c.deref-2.ensures.value in
-    kept-copied h.world h.events h.tape.list h.marks.items c.self.invariant c.args.self.now c.self.view_is c.args.standing c.requires.few c.mark_of-mark.result read c.args.count c.requires.within c.requires.enough c.in_ok-world.world c.undo_copies_to.new.value c.in_ok-world.ensures.same c.in_ok-undo_copies_to.ensures.value
+    kept-copied h.world h.events h.tape.list h.marks.items c.self.invariant c.args.self.now c.self.view_is c.args.standing c.requires.few
+    c.mark_of-mark.result read c.args.count c.requires.within c.requires.enough c.in_ok-world.world c.undo_copies_to.new.value
+    c.in_ok-world.ensures.same c.in_ok-undo_copies_to.ensures.value
     c.in_ok-tape.tape.list c.in_ok-tape.ensures.edits c.in_ok-marks.marks.items marks c.in_ok-events.events events
 
 pub returns : goal.returns
@@ -45,6 +52,8 @@ returns g c =
     let events = c.in_ok-events.ensures.events in
     let marks = c.in_ok-marks.ensures.items ∙ ap (take c.args.standing) c.deref-2.ensures.value in
     record {
-      history = history-copied h.world h.events h.tape.list h.marks.items c.self.invariant c.args.self.now c.self.view_is c.args.standing c.requires.few c.mark_of-mark.result read c.args.count c.requires.within c.requires.enough c.in_ok-world.world c.undo_copies_to.new.value c.in_ok-world.ensures.same c.in_ok-undo_copies_to.ensures.value
+      history = history-copied h.world h.events h.tape.list h.marks.items c.self.invariant c.args.self.now c.self.view_is c.args.standing
+          c.requires.few c.mark_of-mark.result read c.args.count c.requires.within c.requires.enough c.in_ok-world.world
+          c.undo_copies_to.new.value c.in_ok-world.ensures.same c.in_ok-undo_copies_to.ensures.value
           c.in_ok-tape.tape.list c.in_ok-tape.ensures.edits c.in_ok-marks.marks.items marks c.in_ok-events.events events;
     }

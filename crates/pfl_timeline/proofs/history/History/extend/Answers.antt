@@ -17,8 +17,12 @@ undo_to-requires g c = record {
 }
 
 pub returns-in-Err-put-clause-refused : goal.returns-in-Err-put-clause-refused
-returns-in-Err-put-clause-refused g c =
-    (c.self.inside.world, ap reached (sym c.self.view_is) ∙ reached-kept _ _ _ _ c.self.invariant, event_wants c.self.inside.world c.args.event.now _ c.in-Ok.ensures.step)
+returns-in-Err-put-clause-refused g c = (
+  c.self.inside.world,
+  ap reached (sym c.self.view_is)
+      ∙ reached-kept _ _ _ _ c.self.invariant,
+  event_wants c.self.inside.world c.args.event.now _ c.in-Ok.ensures.step,
+)
 
 pub returns-in-Ok-put-clause-stepped : goal.returns-in-Ok-put-clause-stepped
 returns-in-Ok-put-clause-stepped g c =
@@ -28,11 +32,13 @@ pub invariant_of-self-in-Ok-put : goal.invariant_of-self-in-Ok-put
 invariant_of-self-in-Ok-put g c =
     let events = c.in-Ok-put.ensures.events in
     let items = c.in-Ok-put.ensures.marks ∙ ap (λ n. c.self.inside.marks.items ++ n ∷ []) c.len-mark.ensures.length in
-    kept-extended _ _ _ _ _ _ c.args.event.now _ c.self.invariant c.in-Ok.ensures.step c.apply_on.ensures.taped c.in-Ok.ensures.fits c.in-Ok.ensures.back _ _ items events
+    kept-extended _ _ _ _ _ _ c.args.event.now _ c.self.invariant c.in-Ok.ensures.step c.apply_on.ensures.taped c.in-Ok.ensures.fits
+    c.in-Ok.ensures.back _ _ items events
 
 pub returns-in-Ok-put-clause-extended : goal.returns-in-Ok-put-clause-extended
 returns-in-Ok-put-clause-extended g c =
     let events = c.in-Ok-put.ensures.events in
     let items = c.in-Ok-put.ensures.marks ∙ ap (λ n. c.self.inside.marks.items ++ n ∷ []) c.len-mark.ensures.length in
-    history-extended _ _ _ _ _ _ c.args.event.now _ c.self.invariant c.in-Ok.ensures.step c.apply_on.ensures.taped c.in-Ok.ensures.fits c.in-Ok.ensures.back _ _ items events
+    history-extended _ _ _ _ _ _ c.args.event.now _ c.self.invariant c.in-Ok.ensures.step c.apply_on.ensures.taped c.in-Ok.ensures.fits
+    c.in-Ok.ensures.back _ _ items events
     ∙ ap (λ (v : History). continued v c.args.event.now) c.self.view_is

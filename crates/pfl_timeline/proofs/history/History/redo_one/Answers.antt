@@ -10,15 +10,21 @@ pub invariant_of-self-in-Ok : goal.invariant_of-self-in-Ok
 invariant_of-self-in-Ok g c =
     let within = subst (λ (r : History). r.cursor < length r.events) (sym c.self.view_is) c.requires.within in
     let e = c.get-event.result in
-    let next = sym (get_or_from_slice_get c.self.inside.events c.cursor.result e e c.get-event.ensures.event) ∙ ap (λ n. get_or c.self.inside.events n e) (c.cursor.ensures.cursor ∙ sym (ap (λ (r : History). r.cursor) c.self.view_is)) in
-    let items = (rw c.unwrap.ensures at c.push.ensures.items) ∙ ap (λ (ns : List ℕ). ns ++ c.len-mark.result ∷ []) c.reserve.ensures.items ∙ ap (λ n. c.self.inside.marks.items ++ n ∷ []) c.len-mark.ensures.length in
-    kept-redone _ _ _ _ _ _ e _ c.self.invariant c.in-Ok.ensures.step c.apply_on.ensures.taped c.in-Ok.ensures.fits c.in-Ok.ensures.back _ _ items refl within next
+    let next = sym (get_or_from_slice_get c.self.inside.events c.cursor.result e e c.get-event.ensures.event)
+    ∙ ap (λ n. get_or c.self.inside.events n e) (c.cursor.ensures.cursor ∙ sym (ap (λ (r : History). r.cursor) c.self.view_is)) in
+    let items = (rw c.unwrap.ensures at c.push.ensures.items) ∙ ap (λ (ns : List ℕ). ns ++ c.len-mark.result ∷ []) c.reserve.ensures.items
+    ∙ ap (λ n. c.self.inside.marks.items ++ n ∷ []) c.len-mark.ensures.length in
+    kept-redone _ _ _ _ _ _ e _ c.self.invariant c.in-Ok.ensures.step c.apply_on.ensures.taped c.in-Ok.ensures.fits c.in-Ok.ensures.back _
+    _ items refl within next
 
 pub returns-in-Ok-clause-history : goal.returns-in-Ok-clause-history
 returns-in-Ok-clause-history g c =
     let within = subst (λ (r : History). r.cursor < length r.events) (sym c.self.view_is) c.requires.within in
     let e = c.get-event.result in
-    let next = sym (get_or_from_slice_get c.self.inside.events c.cursor.result e e c.get-event.ensures.event) ∙ ap (λ n. get_or c.self.inside.events n e) (c.cursor.ensures.cursor ∙ sym (ap (λ (r : History). r.cursor) c.self.view_is)) in
-    let items = (rw c.unwrap.ensures at c.push.ensures.items) ∙ ap (λ (ns : List ℕ). ns ++ c.len-mark.result ∷ []) c.reserve.ensures.items ∙ ap (λ n. c.self.inside.marks.items ++ n ∷ []) c.len-mark.ensures.length in
-    history-redone _ _ _ _ _ _ e _ c.self.invariant c.in-Ok.ensures.step c.apply_on.ensures.taped c.in-Ok.ensures.fits c.in-Ok.ensures.back _ _ items refl within next
+    let next = sym (get_or_from_slice_get c.self.inside.events c.cursor.result e e c.get-event.ensures.event)
+    ∙ ap (λ n. get_or c.self.inside.events n e) (c.cursor.ensures.cursor ∙ sym (ap (λ (r : History). r.cursor) c.self.view_is)) in
+    let items = (rw c.unwrap.ensures at c.push.ensures.items) ∙ ap (λ (ns : List ℕ). ns ++ c.len-mark.result ∷ []) c.reserve.ensures.items
+    ∙ ap (λ n. c.self.inside.marks.items ++ n ∷ []) c.len-mark.ensures.length in
+    history-redone _ _ _ _ _ _ e _ c.self.invariant c.in-Ok.ensures.step c.apply_on.ensures.taped c.in-Ok.ensures.fits c.in-Ok.ensures.back
+    _ _ items refl within next
     ∙ ap (λ (r : History). standing_at r (r.cursor + 1)) c.self.view_is

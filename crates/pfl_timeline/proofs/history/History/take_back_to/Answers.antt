@@ -16,7 +16,8 @@ undo_to-requires g c =
     let is = mark-read c.self.inside.tape.list c.self.inside.marks.items c.args.place _ _ under c.index.ensures in
     record {
       within = subst (λ n. n ≤ length c.self.inside.tape.list) (sym is) (mark-there _ _ _ _ c.self.invariant c.args.place (omega (arith, under)));
-      fits = subst (λ n. Fits Finds IsWorld put_back (above n c.self.inside.tape.list) c.self.inside.world) (sym is) (fits-above _ _ _ _ c.self.invariant c.args.place (omega (arith, under)));
+      fits = subst (λ n. Fits Finds IsWorld put_back (above n c.self.inside.tape.list) c.self.inside.world) (sym is)
+          (fits-above _ _ _ _ c.self.invariant c.args.place (omega (arith, under)));
     }
 
 pub invariant_of-self : goal.invariant_of-self
@@ -30,6 +31,7 @@ returns-then-place-len g c =
     let under : c.args.place < length c.self.inside.marks.items = omega arith in
     let is = mark-read c.self.inside.tape.list c.self.inside.marks.items c.args.place _ _ under c.index.ensures in
     record {
-      history = history-back _ _ _ _ c.self.invariant c.args.place (omega (arith, under)) _ is _ _ _ c.undo_to.ensures.value c.undo_to.ensures.list c.truncate.ensures.items
+      history = history-back _ _ _ _ c.self.invariant c.args.place
+          (omega (arith, under)) _ is _ _ _ c.undo_to.ensures.value c.undo_to.ensures.list c.truncate.ensures.items
           ∙ ap (λ (r : History). standing_at r c.args.place) c.self.view_is;
     }

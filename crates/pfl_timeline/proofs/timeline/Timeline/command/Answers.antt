@@ -1,7 +1,9 @@
 use Rattle.std.proofs.Common.{◌∙◌}
 use Rattle.std.proofs.lemmas.Result.{IfOk-weaker, on_err_weaker}
-use Rattle.pfl_timeline.proofs.Asked.{is-step, is-back, is-forward, is-fork, is-drop, is-show, is-past, is-why, is-why_step, is-frame, is-names, is-excise, is-restore, is-log, anyway}
-use Rattle.pfl_timeline.proofs.Wants.{step_wants, forward_wants, fork_wants, show_wants, past_wants, why_wants, why_step_wants, frame_wants, names_wants, excise_wants, log_wants}
+use Rattle.pfl_timeline.proofs.Asked.{is-step, is-back, is-forward, is-fork, is-drop, is-show, is-past, is-why, is-why_step, is-frame, is-names}
+use Rattle.pfl_timeline.proofs.Asked.{is-excise, is-restore, is-log, anyway}
+use Rattle.pfl_timeline.proofs.Wants.{step_wants, forward_wants, fork_wants, show_wants, past_wants, why_wants, why_step_wants, frame_wants}
+use Rattle.pfl_timeline.proofs.Wants.{names_wants, excise_wants, log_wants}
 use Rattle.pfl_timeline.proofs.timeline.Timeline.command.Goals as goal
 
 pub returns-in-Step-clause-step : goal.returns-in-Step-clause-step

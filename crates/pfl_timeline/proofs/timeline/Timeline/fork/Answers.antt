@@ -15,11 +15,13 @@ use Rattle.pfl_timeline.proofs.timeline.Timeline.fork.Goals as goal
 pub returns-in_default-clause-step : goal.returns-in_default-clause-step
 returns-in_default-clause-step g c =
     fork-asks _ _ _ _
-    ∙ told-none (λ t b. fork_reply t c.args.place c.args.name b) c.args.from.now _ _ (Refusing refused.NoBranch) c.self.view_is c.self.invariant c.in_default.ensures.value refl
+    ∙ told-none (λ t b. fork_reply t c.args.place c.args.name b) c.args.from.now _ _
+    (Refusing refused.NoBranch) c.self.view_is c.self.invariant c.in_default.ensures.value refl
 
 pub returns-in-Some-fork_refusal-clause-step : goal.returns-in-Some-fork_refusal-clause-step
 returns-in-Some-fork_refusal-clause-step g c =
-    fork-asks _ _ _ _ ∙ told-why c.args.from.now _ _ _ c.self.view_is c.self.invariant c.in-Some.ensures.value c.args.place c.args.name _ c.in-Some-fork_refusal.ensures
+    fork-asks _ _ _ _ ∙ told-why c.args.from.now _ _ _ c.self.view_is c.self.invariant c.in-Some.ensures.value c.args.place c.args.name _
+    c.in-Some-fork_refusal.ensures
 
 pub forked-requires : goal.forked-requires
 forked-requires g c =
@@ -31,19 +33,25 @@ forked-requires g c =
 
 pub returns-in_err-branch-clause-memory : goal.returns-in_err-branch-clause-memory
 returns-in_err-branch-clause-memory g c =
-    anyway _ (accepted-free c.args.from.now _ _ _ c.self.view_is c.self.invariant c.in-Some.ensures.value c.args.place c.args.name c.in_default-fork_refusal.ensures)
+    anyway _ (accepted-free c.args.from.now _ _ _ c.self.view_is c.self.invariant c.in-Some.ensures.value c.args.place c.args.name
+    c.in_default-fork_refusal.ensures)
 
 pub returns-in_err-reserve-clause-memory : goal.returns-in_err-reserve-clause-memory
 returns-in_err-reserve-clause-memory g c =
-    anyway _ (accepted-free c.args.from.now _ _ _ c.self.view_is c.self.invariant c.in-Some.ensures.value c.args.place c.args.name c.in_default-fork_refusal.ensures)
+    anyway _ (accepted-free c.args.from.now _ _ _ c.self.view_is c.self.invariant c.in-Some.ensures.value c.args.place c.args.name
+    c.in_default-fork_refusal.ensures)
 
 pub invariant_of-self-2 : goal.invariant_of-self-2
 invariant_of-self-2 g c =
-    let last = (rw c.unwrap.ensures at c.insert.ensures.entries) ∙ ap (λ (es : Entries). insert_entry same_name es c.args.name c.in_ok-branch.branch) c.in_ok-reserve.ensures.entries in
-    kept-forked c.args.from.now _ _ _ c.self.view_is c.self.invariant c.in-Some.ensures.value c.args.place c.args.name c.in_default-fork_refusal.ensures _ _ c.in_ok-branch.ensures.branch last
+    let last = (rw c.unwrap.ensures at c.insert.ensures.entries)
+    ∙ ap (λ (es : Entries). insert_entry same_name es c.args.name c.in_ok-branch.branch) c.in_ok-reserve.ensures.entries in
+    kept-forked c.args.from.now _ _ _ c.self.view_is c.self.invariant c.in-Some.ensures.value c.args.place c.args.name
+    c.in_default-fork_refusal.ensures _ _ c.in_ok-branch.ensures.branch last
 
 pub returns-clause-step : goal.returns-clause-step
 returns-clause-step g c =
-    let last = (rw c.unwrap.ensures at c.insert.ensures.entries) ∙ ap (λ (es : Entries). insert_entry same_name es c.args.name c.in_ok-branch.branch) c.in_ok-reserve.ensures.entries in
+    let last = (rw c.unwrap.ensures at c.insert.ensures.entries)
+    ∙ ap (λ (es : Entries). insert_entry same_name es c.args.name c.in_ok-branch.branch) c.in_ok-reserve.ensures.entries in
     fork-asks _ _ _ _
-    ∙ told-forked c.args.from.now _ _ _ c.self.view_is c.self.invariant c.in-Some.ensures.value c.args.place c.args.name c.in_default-fork_refusal.ensures _ _ c.in_ok-branch.ensures.branch last
+    ∙ told-forked c.args.from.now _ _ _ c.self.view_is c.self.invariant c.in-Some.ensures.value c.args.place c.args.name
+    c.in_default-fork_refusal.ensures _ _ c.in_ok-branch.ensures.branch last

@@ -30,7 +30,8 @@ returns-then-len-ge-MOST_BRANCHES g c =
     let b = ap not (sym c.is_name.ensures ∙ c.if-not-is_name.false) in
     let events = ap length c.events.ensures.events in
     let far = le-ltb (length c.args.from.now.branch.events) c.args.place (omega (arith, events, c.len.ensures.length, c.if-len-place.false)) in
-    let d = le-leb 16 (length c.args.self.now.branches) (omega (arith, how_many _ _ c.self.view_is, c.len-else-len-place.ensures.len, c.if-len-ge-MOST_BRANCHES.true)) in
+    let d = le-leb 16 (length c.args.self.now.branches)
+    (omega (arith, how_many _ _ c.self.view_is, c.len-else-len-place.ensures.len, c.if-len-ge-MOST_BRANCHES.true)) in
     is_full c.args.self.now c.args.place c.args.name.now c.args.from.now.branch a b far d
 
 pub returns-else-len-ge-MOST_BRANCHES : goal.returns-else-len-ge-MOST_BRANCHES
@@ -39,5 +40,6 @@ returns-else-len-ge-MOST_BRANCHES g c =
     let b = ap not (sym c.is_name.ensures ∙ c.if-not-is_name.false) in
     let events = ap length c.events.ensures.events in
     let far = le-ltb (length c.args.from.now.branch.events) c.args.place (omega (arith, events, c.len.ensures.length, c.if-len-place.false)) in
-    let d = lt-leb 16 (length c.args.self.now.branches) (omega (arith, how_many _ _ c.self.view_is, c.len-else-len-place.ensures.len, c.if-len-ge-MOST_BRANCHES.false)) in
+    let d = lt-leb 16 (length c.args.self.now.branches)
+    (omega (arith, how_many _ _ c.self.view_is, c.len-else-len-place.ensures.len, c.if-len-ge-MOST_BRANCHES.false)) in
     is_free c.args.self.now c.args.place c.args.name.now c.args.from.now.branch a b far d

@@ -12,17 +12,21 @@ use Rattle.pfl_timeline.proofs.Wants.{forward_accepts}
 pub invariant_of-self-2 : goal.invariant_of-self-2
 invariant_of-self-2 g c =
     let w = c.get_mut.follows.holds c.forward-cursor.new.self in
-    kept-at c.args.name.now _ _ _ c.self.view_is c.self.invariant c.in-Some.ensures.value _ _ w.0 c.forward-cursor.ensures.opening c.forward-cursor.ensures.name c.known.ensures.branch
+    kept-at c.args.name.now _ _ _ c.self.view_is c.self.invariant c.in-Some.ensures.value _ _ w.0 c.forward-cursor.ensures.opening
+    c.forward-cursor.ensures.name c.known.ensures.branch
 
 pub invariant_of-self-in_err-cursor : goal.invariant_of-self-in_err-cursor
 invariant_of-self-in_err-cursor g c =
     let w = c.get_mut.follows.holds c.forward-cursor.new.self in
-    kept-at c.args.name.now _ _ _ c.self.view_is c.self.invariant c.in-Some.ensures.value _ _ w.0 c.forward-cursor.ensures.opening c.forward-cursor.ensures.name c.known.ensures.branch
+    kept-at c.args.name.now _ _ _ c.self.view_is c.self.invariant c.in-Some.ensures.value _ _ w.0 c.forward-cursor.ensures.opening
+    c.forward-cursor.ensures.name c.known.ensures.branch
 
 pub returns-in_default-clause-step : goal.returns-in_default-clause-step
 returns-in_default-clause-step g c =
     forward-asks _ _ _
-    ∙ told-none-still (λ t b. forward_reply t c.args.n b) c.args.name.now _ _ _ (Refusing refused.NoBranch) c.self.view_is c.self.invariant c.in_default.ensures.value (ap (λ m. m.entries) c.get_mut.follows.holds-at-none) refl
+    ∙ told-none-still (λ t b. forward_reply t c.args.n b) c.args.name.now _ _ _
+    (Refusing refused.NoBranch) c.self.view_is c.self.invariant c.in_default.ensures.value
+    (ap (λ m. m.entries) c.get_mut.follows.holds-at-none) refl
 
 pub returns-clause-step : goal.returns-clause-step
 returns-clause-step g c =

@@ -14,13 +14,16 @@ use Rattle.pfl_timeline.proofs.timeline.Timeline.frame.Goals as goal
 pub returns-in_default-clause-step : goal.returns-in_default-clause-step
 returns-in_default-clause-step g c =
     frame-asks _ _ _
-    ∙ told-none-still (λ t b. frame_reply t c.args.ticket b) c.args.name.now _ _ _ (Refusing refused.NoBranch) c.self.view_is c.self.invariant c.in_default.ensures.value (ap (λ m. m.entries) c.get_mut.follows.holds-at-none) refl
+    ∙ told-none-still (λ t b. frame_reply t c.args.ticket b) c.args.name.now _ _ _
+    (Refusing refused.NoBranch) c.self.view_is c.self.invariant c.in_default.ensures.value
+    (ap (λ m. m.entries) c.get_mut.follows.holds-at-none) refl
 
 pub invariant_of-self-2 : goal.invariant_of-self-2
 invariant_of-self-2 g c =
     let w = c.get_mut.follows.holds c.frame-traced.new.self in
     let same = c.frame-traced.ensures.unchanged in
-    kept-at c.args.name.now _ _ _ c.self.view_is c.self.invariant c.in-Some.ensures.value _ _ w.0 (ap (λ (r : Rooted). r.opening) same) (ap (λ (r : Rooted). r.branch.name) same) c.known.ensures.branch
+    kept-at c.args.name.now _ _ _ c.self.view_is c.self.invariant c.in-Some.ensures.value _ _ w.0 (ap (λ (r : Rooted). r.opening) same)
+    (ap (λ (r : Rooted). r.branch.name) same) c.known.ensures.branch
 
 pub returns-clause-step : goal.returns-clause-step
 returns-clause-step g c =
@@ -35,7 +38,8 @@ pub returns-clause-memory : goal.returns-clause-memory
 returns-clause-memory g c =
     on_err_weaker c.frame-traced.result
     (λ accepted. subst IsAccepted (sym (frame-asks _ _ _))
-    (accepted-at c.args.name.now _ _ _ c.self.view_is c.self.invariant c.in-Some.ensures.value (λ t b. frame_reply t c.args.ticket b) (frame_accepts _ c.args.ticket accepted)))
+    (accepted-at c.args.name.now _ _ _ c.self.view_is c.self.invariant c.in-Some.ensures.value (λ t b. frame_reply t c.args.ticket b)
+    (frame_accepts _ c.args.ticket accepted)))
     c.frame-traced.ensures.memory
 
 pub returns-clause-unchanged : goal.returns-clause-unchanged

@@ -11,4 +11,5 @@ pub invariant_of-result : goal.invariant_of-result
 invariant_of-result g c =
     kept-first c.args.world c.in_ok-main.main _ _ c.known.ensures.world c.main-name.ensures
     c.in_ok-main.ensures.branch
-    ((rw c.unwrap.ensures at c.insert.ensures.entries) ∙ ap (λ (es : Entries). insert_entry same_name es c.main-name.result c.in_ok-main.main) c.in_ok-branches.ensures.empty)
+    ((rw c.unwrap.ensures at c.insert.ensures.entries)
+    ∙ ap (λ (es : Entries). insert_entry same_name es c.main-name.result c.in_ok-main.main) c.in_ok-branches.ensures.empty)

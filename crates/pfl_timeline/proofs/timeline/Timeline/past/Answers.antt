@@ -18,7 +18,8 @@ use Rattle.pfl_timeline.proofs.timeline.Timeline.past.Goals.{in-Some-2, in-None}
 pub returns-in_default-clause-refused : goal.returns-in_default-clause-refused
 returns-in_default-clause-refused g c =
     past-asks _ _ _
-    ∙ told-none (λ t b. past_reply t c.args.place b) c.args.name.now _ _ (Refusing refused.NoBranch) c.self.view_is c.self.invariant c.in_default.ensures.value refl
+    ∙ told-none (λ t b. past_reply t c.args.place b) c.args.name.now _ _
+    (Refusing refused.NoBranch) c.self.view_is c.self.invariant c.in_default.ensures.value refl
 
 pub returns-in_default-clause-still : goal.returns-in_default-clause-still
 returns-in_default-clause-still g c = past-still _ _ _
@@ -27,7 +28,8 @@ pub invariant_of-self-in_err-seen : goal.invariant_of-self-in_err-seen
 invariant_of-self-in_err-seen g c =
     let w = c.get_mut.follows.holds c.look_at-seen.new.self in
     let same = c.look_at-seen.ensures.unchanged in
-    kept-at c.args.name.now _ _ _ c.self.view_is c.self.invariant c.in-Some.ensures.value _ _ w.0 (ap (λ (r : Rooted). r.opening) same) (ap (λ (r : Rooted). r.branch.name) same) c.known.ensures.branch
+    kept-at c.args.name.now _ _ _ c.self.view_is c.self.invariant c.in-Some.ensures.value _ _ w.0 (ap (λ (r : Rooted). r.opening) same)
+    (ap (λ (r : Rooted). r.branch.name) same) c.known.ensures.branch
 
 pub returns-in_err-seen-clause-refused : goal.returns-in_err-seen-clause-refused
 returns-in_err-seen-clause-refused g c =
@@ -51,18 +53,22 @@ pub invariant_of-self-2 : goal.invariant_of-self-2
 invariant_of-self-2 g c =
     let w = c.get_mut.follows.holds c.look_at-seen.new.self in
     let same = c.look_at-seen.ensures.unchanged in
-    kept-at c.args.name.now _ _ _ c.self.view_is c.self.invariant c.in-Some.ensures.value _ _ w.0 (ap (λ (r : Rooted). r.opening) same) (ap (λ (r : Rooted). r.branch.name) same) c.known.ensures.branch
+    kept-at c.args.name.now _ _ _ c.self.view_is c.self.invariant c.in-Some.ensures.value _ _ w.0 (ap (λ (r : Rooted). r.opening) same)
+    (ap (λ (r : Rooted). r.branch.name) same) c.known.ensures.branch
 
 pub returns-clause-seen : goal.returns-clause-seen
 returns-clause-seen g c =
     let old = c.in-Some.branch.now in
     elim c.match-branch-2.branch [
       | in-Some-2 w ↦
-          let s = subst (λ o. SeesAt (g.L.Look.sees c.args.look.now) old.branch.name old.opening old.branch.events c.args.place c.args.writer.now c.look_at-seen.new.writer o) w.in-Some-2.is c.in_ok-seen.ensures.seen in
+          let s = subst (λ o. SeesAt
+          (g.L.Look.sees c.args.look.now) old.branch.name old.opening old.branch.events c.args.place c.args.writer.now
+          c.look_at-seen.new.writer o) w.in-Some-2.is c.in_ok-seen.ensures.seen in
           if_ok _ _ _ w.result-is (
             Shown old.branch.name (length old.branch.events) c.args.place s.1.world,
             past-asks _ _ _
-                ∙ told-still c.args.name.now _ _ _ c.self.view_is c.self.invariant c.in-Some.ensures.value (λ t b. past_reply t c.args.place b) _ (told-past old c.args.place s.1.world s.0 s.1.run_to),
+                ∙ told-still c.args.name.now _ _ _ c.self.view_is c.self.invariant c.in-Some.ensures.value
+                (λ t b. past_reply t c.args.place b) _ (told-past old c.args.place s.1.world s.0 s.1.run_to),
             s.1.sees_it,
           )
       | in-None w ↦ not_ok _ _ _ w.result-is
@@ -73,12 +79,15 @@ returns-clause-accepted g c =
     let old = c.in-Some.branch.now in
     elim c.match-branch-2.branch [
       | in-Some-2 w ↦
-          let s = subst (λ o. SeesAt (g.L.Look.sees c.args.look.now) old.branch.name old.opening old.branch.events c.args.place c.args.writer.now c.look_at-seen.new.writer o) w.in-Some-2.is c.in_ok-seen.ensures.seen in
+          let s = subst (λ o. SeesAt
+          (g.L.Look.sees c.args.look.now) old.branch.name old.opening old.branch.events c.args.place c.args.writer.now
+          c.look_at-seen.new.writer o) w.in-Some-2.is c.in_ok-seen.ensures.seen in
           ok_anyway _
           (subst (λ (done : Replied). IsAccepted done)
           (sym
           (past-asks _ _ _
-          ∙ told-still c.args.name.now _ _ _ c.self.view_is c.self.invariant c.in-Some.ensures.value (λ t b. past_reply t c.args.place b) _ (told-past old c.args.place s.1.world s.0 s.1.run_to))) refl)
+          ∙ told-still c.args.name.now _ _ _ c.self.view_is c.self.invariant c.in-Some.ensures.value (λ t b. past_reply t c.args.place b) _
+          (told-past old c.args.place s.1.world s.0 s.1.run_to))) refl)
       | in-None w ↦ no_ok _ _ _ w.result-is
     ]
 
@@ -90,8 +99,10 @@ returns-clause-refused g c =
       | in-None w ↦
           if_err _ _ _ w.result-is
           (past-asks _ _ _
-          ∙ told-still c.args.name.now _ _ _ c.self.view_is c.self.invariant c.in-Some.ensures.value (λ t b. past_reply t c.args.place b) _ (told-no_past old c.args.place
-          (subst (λ o. SeesAt (g.L.Look.sees c.args.look.now) old.branch.name old.opening old.branch.events c.args.place c.args.writer.now c.look_at-seen.new.writer o) w.in-None.is c.in_ok-seen.ensures.seen).0))
+          ∙ told-still c.args.name.now _ _ _ c.self.view_is c.self.invariant c.in-Some.ensures.value (λ t b. past_reply t c.args.place b) _
+          (told-no_past old c.args.place
+          (subst (λ o. SeesAt (g.L.Look.sees c.args.look.now) old.branch.name old.opening old.branch.events c.args.place c.args.writer.now
+          c.look_at-seen.new.writer o) w.in-None.is c.in_ok-seen.ensures.seen).0))
     ]
 
 pub returns-clause-still : goal.returns-clause-still

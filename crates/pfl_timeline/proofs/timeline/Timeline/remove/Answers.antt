@@ -13,7 +13,8 @@ use Rattle.pfl_timeline.proofs.timeline.Timeline.remove.Goals as goal
 pub returns-then-not-contains_key : goal.returns-then-not-contains_key
 returns-then-not-contains_key g c = record {
   step = drop-asks _ _
-      ∙ told-none (λ t b. drop_reply t b) c.args.name.now _ _ (Refusing refused.NoBranch) c.self.view_is c.self.invariant (none_there _ (sym c.contains_key.ensures ∙ c.if-not-contains_key.true)) refl;
+      ∙ told-none (λ t b. drop_reply t b) c.args.name.now _ _ (Refusing refused.NoBranch) c.self.view_is c.self.invariant
+      (none_there _ (sym c.contains_key.ensures ∙ c.if-not-contains_key.true)) refl;
 }
 
 pub returns-then-len-le1 : goal.returns-then-len-le1

@@ -10,12 +10,15 @@ use Rattle.pfl_timeline.proofs.timeline.Timeline.restore.Goals as goal
 pub invariant_of-self-2 : goal.invariant_of-self-2
 invariant_of-self-2 g c =
     let w = c.get_mut.follows.holds c.restore-cursor.new.self in
-    kept-at c.args.name.now _ _ _ c.self.view_is c.self.invariant c.in-Some.ensures.value _ _ w.0 c.restore-cursor.ensures.opening c.restore-cursor.ensures.name c.known.ensures.branch
+    kept-at c.args.name.now _ _ _ c.self.view_is c.self.invariant c.in-Some.ensures.value _ _ w.0 c.restore-cursor.ensures.opening
+    c.restore-cursor.ensures.name c.known.ensures.branch
 
 pub returns-in_default : goal.returns-in_default
 returns-in_default g c = record {
   step = restore-asks _ _
-      ∙ told-none-still (λ t b. restore_reply t b) c.args.name.now _ _ _ (Refusing refused.NoBranch) c.self.view_is c.self.invariant c.in_default.ensures.value (ap (λ m. m.entries) c.get_mut.follows.holds-at-none) refl;
+      ∙ told-none-still (λ t b. restore_reply t b) c.args.name.now _ _ _
+      (Refusing refused.NoBranch) c.self.view_is c.self.invariant c.in_default.ensures.value
+      (ap (λ m. m.entries) c.get_mut.follows.holds-at-none) refl;
 }
 
 pub returns : goal.returns

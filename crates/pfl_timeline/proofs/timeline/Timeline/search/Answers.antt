@@ -17,7 +17,8 @@ pub invariant_of-self-2 : goal.invariant_of-self-2
 invariant_of-self-2 g c =
     let w = c.get_mut.follows.holds c.search-searched.new.self in
     let same = c.search-searched.ensures.unchanged in
-    kept-at c.args.name.now _ _ _ c.self.view_is c.self.invariant c.in-Some.ensures.value _ _ w.0 (ap (λ (r : Rooted). r.opening) same) (ap (λ (r : Rooted). r.branch.name) same) c.known.ensures.branch
+    kept-at c.args.name.now _ _ _ c.self.view_is c.self.invariant c.in-Some.ensures.value _ _ w.0 (ap (λ (r : Rooted). r.opening) same)
+    (ap (λ (r : Rooted). r.branch.name) same) c.known.ensures.branch
 
 pub returns-clause-finding : goal.returns-clause-finding
 returns-clause-finding g c =
@@ -26,7 +27,8 @@ returns-clause-finding g c =
     let here = found c.args.name.now _ _ _ c.self.view_is c.self.invariant c.in-Some.ensures.value in
     let begins = begins-there c.args.name.now _ _ _ c.self.view_is c.self.invariant c.in-Some.ensures.value in
     IfOk-weaker c.search-searched.result _ _
-    (λ f h. finding-at t c.args.name.now (sought c.args.goal.now c.args.depth c.args.choices.now c.args.most) old.branch h.0 _ here (world_at t old begins ∙ h.1) h.2)
+    (λ f h. finding-at t c.args.name.now (sought c.args.goal.now c.args.depth c.args.choices.now c.args.most) old.branch h.0 _ here
+    (world_at t old begins ∙ h.1) h.2)
     c.search-searched.ensures.finding
 
 pub returns-clause-means : goal.returns-clause-means
@@ -36,7 +38,8 @@ returns-clause-means g c =
     let here = found c.args.name.now _ _ _ c.self.view_is c.self.invariant c.in-Some.ensures.value in
     let begins = begins-there c.args.name.now _ _ _ c.self.view_is c.self.invariant c.in-Some.ensures.value in
     IfOk-weaker c.search-searched.result _ _
-    (λ f h. means-at t c.args.name.now (sought c.args.goal.now c.args.depth c.args.choices.now c.args.most) old.branch h.0 _ here (world_at t old begins ∙ h.1) h.2)
+    (λ f h. means-at t c.args.name.now (sought c.args.goal.now c.args.depth c.args.choices.now c.args.most) old.branch h.0 _ here
+    (world_at t old begins ∙ h.1) h.2)
     c.search-searched.ensures.means
 
 pub returns-clause-memory : goal.returns-clause-memory

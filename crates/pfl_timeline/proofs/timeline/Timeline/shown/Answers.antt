@@ -11,7 +11,8 @@ pub returns-in-Some-clause-branch : goal.returns-in-Some-clause-branch
 returns-in-Some-clause-branch g c =
     some-shown _ _ c.world-world.ensures.world
     (show-asks _ _
-    ∙ told-still c.args.name.now _ _ _ c.self.view_is c.self.invariant c.in-Some.ensures.value (λ t b. show_reply t b) _ (told-shown _ _ c.world-world.ensures.world))
+    ∙ told-still c.args.name.now _ _ _ c.self.view_is c.self.invariant c.in-Some.ensures.value (λ t b. show_reply t b) _
+    (told-shown _ _ c.world-world.ensures.world))
 
 pub returns-in-None-clause-refused : goal.returns-in-None-clause-refused
 returns-in-None-clause-refused g c =

@@ -14,13 +14,16 @@ use Rattle.pfl_timeline.proofs.timeline.Timeline.why.Goals as goal
 pub returns-in_default-clause-step : goal.returns-in_default-clause-step
 returns-in_default-clause-step g c =
     why-asks _ _ _
-    ∙ told-none-still (λ t b. why_reply t c.args.place b) c.args.name.now _ _ _ (Refusing refused.NoBranch) c.self.view_is c.self.invariant c.in_default.ensures.value (ap (λ m. m.entries) c.get_mut.follows.holds-at-none) refl
+    ∙ told-none-still (λ t b. why_reply t c.args.place b) c.args.name.now _ _ _
+    (Refusing refused.NoBranch) c.self.view_is c.self.invariant c.in_default.ensures.value
+    (ap (λ m. m.entries) c.get_mut.follows.holds-at-none) refl
 
 pub invariant_of-self-2 : goal.invariant_of-self-2
 invariant_of-self-2 g c =
     let w = c.get_mut.follows.holds c.why-explained.new.self in
     let same = c.why-explained.ensures.unchanged in
-    kept-at c.args.name.now _ _ _ c.self.view_is c.self.invariant c.in-Some.ensures.value _ _ w.0 (ap (λ (r : Rooted). r.opening) same) (ap (λ (r : Rooted). r.branch.name) same) c.known.ensures.branch
+    kept-at c.args.name.now _ _ _ c.self.view_is c.self.invariant c.in-Some.ensures.value _ _ w.0 (ap (λ (r : Rooted). r.opening) same)
+    (ap (λ (r : Rooted). r.branch.name) same) c.known.ensures.branch
 
 pub returns-clause-step : goal.returns-clause-step
 returns-clause-step g c =
@@ -35,7 +38,8 @@ pub returns-clause-memory : goal.returns-clause-memory
 returns-clause-memory g c =
     on_err_weaker c.why-explained.result
     (λ accepted. subst IsAccepted (sym (why-asks _ _ _))
-    (accepted-at c.args.name.now _ _ _ c.self.view_is c.self.invariant c.in-Some.ensures.value (λ t b. why_reply t c.args.place b) (why_accepts _ c.args.place accepted)))
+    (accepted-at c.args.name.now _ _ _ c.self.view_is c.self.invariant c.in-Some.ensures.value (λ t b. why_reply t c.args.place b)
+    (why_accepts _ c.args.place accepted)))
     c.why-explained.ensures.memory
 
 pub returns-clause-unchanged : goal.returns-clause-unchanged

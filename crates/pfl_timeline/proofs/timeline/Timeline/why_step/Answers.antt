@@ -15,13 +15,16 @@ use Rattle.pfl_timeline.proofs.timeline.Timeline.why_step.Goals as goal
 pub returns-in_default-clause-step : goal.returns-in_default-clause-step
 returns-in_default-clause-step g c =
     why_step-asks _ _ _
-    ∙ told-none-still (λ t b. why_step_reply t c.args.event.now b) c.args.name.now _ _ _ (Refusing refused.NoBranch) c.self.view_is c.self.invariant c.in_default.ensures.value (ap (λ m. m.entries) c.get_mut.follows.holds-at-none) refl
+    ∙ told-none-still (λ t b. why_step_reply t c.args.event.now b) c.args.name.now _ _ _
+    (Refusing refused.NoBranch) c.self.view_is c.self.invariant c.in_default.ensures.value
+    (ap (λ m. m.entries) c.get_mut.follows.holds-at-none) refl
 
 pub invariant_of-self-2 : goal.invariant_of-self-2
 invariant_of-self-2 g c =
     let w = c.get_mut.follows.holds c.why_step-explained.new.self in
     let same = c.why_step-explained.ensures.unchanged in
-    kept-at c.args.name.now _ _ _ c.self.view_is c.self.invariant c.in-Some.ensures.value _ _ w.0 (ap (λ (r : Rooted). r.opening) same) (ap (λ (r : Rooted). r.branch.name) same) c.known.ensures.branch
+    kept-at c.args.name.now _ _ _ c.self.view_is c.self.invariant c.in-Some.ensures.value _ _ w.0 (ap (λ (r : Rooted). r.opening) same)
+    (ap (λ (r : Rooted). r.branch.name) same) c.known.ensures.branch
 
 pub returns-clause-step : goal.returns-clause-step
 returns-clause-step g c =
@@ -36,7 +39,8 @@ pub returns-clause-memory : goal.returns-clause-memory
 returns-clause-memory g c =
     let is = subst (λ (r : Rooted). IsBranch r.opening r.branch) c.why_step-explained.ensures.unchanged c.known.ensures.branch in
     anyway _ (subst IsAccepted (sym (why_step-asks _ _ _))
-    (accepted-at c.args.name.now _ _ _ c.self.view_is c.self.invariant c.in-Some.ensures.value (λ t b. why_step_reply t c.args.event.now b) (why_step_accepts _ c.args.event.now is)))
+    (accepted-at c.args.name.now _ _ _ c.self.view_is c.self.invariant c.in-Some.ensures.value (λ t b. why_step_reply t c.args.event.now b)
+    (why_step_accepts _ c.args.event.now is)))
 
 pub returns-clause-unchanged : goal.returns-clause-unchanged
 returns-clause-unchanged g c =

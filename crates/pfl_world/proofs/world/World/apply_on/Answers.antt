@@ -13,7 +13,8 @@ pub returns-clause-back : goal.returns-clause-back
 returns-clause-back g c = on_ok c.apply_to.result (λ (r : Recorded _ _ _ _ _). back_since r) c.apply_to.ensures.recorded
 
 pub returns-clause-weight : goal.returns-clause-weight
-returns-clause-weight g c = on_ok c.apply_to.result (few_since c.args.tape.now.list c.apply_to.new.to.list (weight c.args.self.now c.args.event.now)) c.apply_to.ensures.few
+returns-clause-weight g c =
+    on_ok c.apply_to.result (few_since c.args.tape.now.list c.apply_to.new.to.list (weight c.args.self.now c.args.event.now)) c.apply_to.ensures.few
 
 pub returns-clause-small : goal.returns-clause-small
 returns-clause-small g c = on_ok c.apply_to.result (λ (r : Recorded _ _ _ _ _). kind_since r) c.apply_to.ensures.recorded

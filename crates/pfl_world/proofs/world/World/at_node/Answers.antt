@@ -1,36 +1,23 @@
-use Rattle.std.proofs.Common.{◌∙◌, refl}
+use Rattle.std.proofs.Common.{refl}
+use Rattle.std.proofs.lemmas.Result.{err_from_is_err_and}
 use Rattle.pfl_world.specs.Worlds.{joined}
-use Rattle.pfl_world.proofs.Leads.{agrees_after, fits_after, back_after, where_err}
-use Rattle.pfl_world.proofs.Recording.{recorded-as}
-use Rattle.pfl_world.proofs.Stepping.{stepped_from}
+use Rattle.pfl_world.proofs.Recording.{recorded_at, agrees_at}
+use Rattle.pfl_world.proofs.Stepping.{refused_from}
 use Rattle.pfl_world.proofs.world.World.at_node.Goals as goal
+
+pub returns-in_err-outcome-clause-refused : goal.returns-in_err-outcome-clause-refused
+returns-in_err-outcome-clause-refused g c =
+    let w = joined c.self.inside.nodes c.self.inside.link c.self.inside.next_boot in
+    let p = err_from_is_err_and c.from_residual.result c.from_residual.ensures.1 in
+    rw (p.1, p.2) (refused_from w c.args.self.now c.args.node c.args.event.now c.at_mut.result.now c.in_err-outcome.field-0.0
+    c.at_mut.ensures.node c.self.view_is c.in_err-outcome.ensures.refused)
 
 pub invariant_of-self-2 : goal.invariant_of-self-2
 invariant_of-self-2 g c =
-    agrees_after (joined c.self.inside.nodes c.self.inside.link c.self.inside.next_boot) c.args.node c.at_mut.ensures.node c.in_ok-outcome.ensures.leads_back
-    c.self.invariant
-
-pub lift-requires : goal.lift-requires
-lift-requires g c =
-    record {
-      fits = fits_after (joined c.self.inside.nodes c.self.inside.link c.self.inside.next_boot) c.args.node c.at_mut.ensures.node c.in_ok-outcome.ensures.leads_back;
-    }
-
-pub returns-in_err-lift-clause-unchanged : goal.returns-in_err-lift-clause-unchanged
-returns-in_err-lift-clause-unchanged g c =
-    where_err c.from_residual-in_err-lift.result
-    (c.in_err-lift.ensures.undone
-    ∙ back_after (joined c.self.inside.nodes c.self.inside.link c.self.inside.next_boot) c.args.node c.at_mut.ensures.node c.in_ok-outcome.ensures.leads_back
-    ∙ c.self.view_is)
-
-pub returns-clause-step : goal.returns-clause-step
-returns-clause-step g c =
-    stepped_from (joined c.self.inside.nodes c.self.inside.link c.self.inside.next_boot) c.args.self.now c.lift.new.self c.args.node c.args.event.now
-    c.at_mut.result.now (record { node = c.step.new.self; outcome = c.in_ok-outcome.outcome })
-    c.at_mut.ensures.node c.self.view_is c.in_ok-lift.ensures.kept c.in_ok-outcome.ensures.step
+    let w = joined c.self.inside.nodes c.self.inside.link c.self.inside.next_boot in
+    agrees_at w c.args.node c.at_mut.ensures.node c.in_ok-outcome.ensures.recorded c.self.invariant
 
 pub returns-clause-recorded : goal.returns-clause-recorded
 returns-clause-recorded g c =
-    recorded-as c.in_ok-lift.ensures.recorded
-    (back_after (joined c.self.inside.nodes c.self.inside.link c.self.inside.next_boot) c.args.node c.at_mut.ensures.node c.in_ok-outcome.ensures.leads_back
-    ∙ c.self.view_is) refl
+    let w = joined c.self.inside.nodes c.self.inside.link c.self.inside.next_boot in
+    recorded_at w c.args.node c.at_mut.ensures.node c.in_ok-outcome.ensures.recorded c.args.self.now _ c.self.view_is c.known.ensures.world refl

@@ -15,19 +15,28 @@ use Rattle.pfl_world.proofs.world.World.begin_anew.Goals as goal
 pub invariant_of-self : goal.invariant_of-self
 invariant_of-self g c =
     let w = joined c.self.inside.nodes c.self.inside.link c.self.inside.next_boot in
-    let fresh = c.swap.ensures.x_after ∙ (c.as_mut.ensures.value ∙ (c.in_ok-other.ensures.value ∙ (c.in_ok-fresh.ensures.restarted ∙ ap (λ (n : Node). restarted n c.self.inside.next_boot) c.at.ensures.node))) in
+    let fresh = c.swap.ensures.x_after
+    ∙ (c.as_mut.ensures.value
+    ∙ (c.in_ok-other.ensures.value
+    ∙ (c.in_ok-fresh.ensures.restarted ∙ ap (λ (n : Node). restarted n c.self.inside.next_boot) c.at.ensures.node))) in
     let low = subst (λ (v : World). v.next_boot < greatest) (sym c.self.view_is) c.requires.countable in
     rw fresh (begun-agrees w c.self.invariant c.args.node low)
 
 pub returns-clause-world : goal.returns-clause-world
 returns-clause-world g c =
-    let fresh = c.swap.ensures.x_after ∙ (c.as_mut.ensures.value ∙ (c.in_ok-other.ensures.value ∙ (c.in_ok-fresh.ensures.restarted ∙ ap (λ (n : Node). restarted n c.self.inside.next_boot) c.at.ensures.node))) in
+    let fresh = c.swap.ensures.x_after
+    ∙ (c.as_mut.ensures.value
+    ∙ (c.in_ok-other.ensures.value
+    ∙ (c.in_ok-fresh.ensures.restarted ∙ ap (λ (n : Node). restarted n c.self.inside.next_boot) c.at.ensures.node))) in
     rw fresh (ap (λ (v : World). begun v c.args.node) c.self.view_is)
 
 pub returns-clause-recorded : goal.returns-clause-recorded
 returns-clause-recorded g c =
     let w = joined c.self.inside.nodes c.self.inside.link c.self.inside.next_boot in
-    let fresh = c.swap.ensures.x_after ∙ (c.as_mut.ensures.value ∙ (c.in_ok-other.ensures.value ∙ (c.in_ok-fresh.ensures.restarted ∙ ap (λ (n : Node). restarted n c.self.inside.next_boot) c.at.ensures.node))) in
+    let fresh = c.swap.ensures.x_after
+    ∙ (c.as_mut.ensures.value
+    ∙ (c.in_ok-other.ensures.value
+    ∙ (c.in_ok-fresh.ensures.restarted ∙ ap (λ (n : Node). restarted n c.self.inside.next_boot) c.at.ensures.node))) in
     let former = c.swap.ensures.y_after ∙ c.at_mut.ensures.node in
     let edit = c.new.ensures.edit ∙ ap (λ (n : Node). record { node = c.args.node; former = n; boot = c.self.inside.next_boot }) former in
     let list = c.push.ensures.list ∙ ap (λ (es : List (WorldEdit _)). es ++ OfRestart c.new.result ∷ []) c.reserve.ensures.list in

@@ -7,7 +7,7 @@ use Rattle.pfl_world.proofs.world.World.lift_link.Goals as goal
 
 pub push-requires : goal.push-requires
 push-requires g c =
-    let room : 1 ≤ (g.R.Recorder.edits c.reserve.new.self).spare = where_ok c.reserve.result (sym c.is_err.ensures.value ∙ c.if-is_err.false) c.reserve.ensures.room in
+    let room : 1 ≤ g.R.Recorder.spare c.reserve.new.self = where_ok c.reserve.result (sym c.is_err.ensures.value ∙ c.if-is_err.false) c.reserve.ensures.room in
     record { room = omega (arith, room) }
 
 pub returns-clause-recorded : goal.returns-clause-recorded

@@ -10,7 +10,9 @@ use Rattle.pfl_world.proofs.world.World.take_off.Goals as goal
 pub unreachable-requires : goal.unreachable-requires
 unreachable-requires g c =
     let w = joined c.self.inside.nodes c.self.inside.link c.self.inside.next_boot in
-    not_missing w c.args.ticket _ (subst (λ (v : World). IsTrue (is_some (maps.get v.link.frames c.args.ticket))) (sym c.self.view_is) c.requires.there) c.in_default.ensures.refused
+    not_missing w c.args.ticket _
+    (subst (λ (v : World). IsTrue (is_some (maps.get v.link.frames c.args.ticket)))
+    (sym c.self.view_is) c.requires.there) c.in_default.ensures.refused
 
 pub invariant_of-self : goal.invariant_of-self
 invariant_of-self g c = record {
@@ -23,4 +25,6 @@ invariant_of-self g c = record {
 pub returns-clause-recorded : goal.returns-clause-recorded
 returns-clause-recorded g c =
     let w = joined c.self.inside.nodes c.self.inside.link c.self.inside.next_boot in
-    recorded-as (recorded_link _ _ w (subst IsWorld (sym c.self.view_is) c.known.ensures.world) c.in-Ok.edit c.take.new.self c.in-Ok.ensures.leads_back c.push.ensures.list) c.self.view_is refl
+    recorded-as (recorded_link _ _ w
+    (subst IsWorld (sym c.self.view_is) c.known.ensures.world) c.in-Ok.edit c.take.new.self c.in-Ok.ensures.leads_back
+    c.push.ensures.list) c.self.view_is refl

@@ -70,7 +70,8 @@ allocate_spec 𝓤 𝓛 𝓜 𝓡 w =
     let Self = ‵ ((ShrRef (named 0) κ R).own_val self vs) in
     let called = framed 𝓤 𝓛.H 𝓜 𝓣 in
     let y : W.Ghost = ((κs, qs, bounds, a, (vs, (uint_vals w64 size, (uint_vals w64 align, tt)))), ty) in
-    qed 𝓛 (((‵ (flft κ q) ⊛ ‵ ftrue) ⊛ Self ⊛ ‵ (u64.own_val size (uint_vals w64 size)) ⊛ ‵ (u64.own_val align (uint_vals w64 align)) ⊛ ‵ ftrue) ∷ raw (fact 𝓤 (HasLayout ty size align)) ∷ []) ∵
+    qed 𝓛 (((‵ (flft κ q) ⊛ ‵ ftrue) ⊛ Self ⊛ ‵ (u64.own_val size (uint_vals w64 size)) ⊛ ‵
+    (u64.own_val align (uint_vals w64 align)) ⊛ ‵ ftrue) ∷ raw (fact 𝓤 (HasLayout ty size align)) ∷ []) ∵
     move ! (1 ∷ []) $ heard ! _ (λ layout. split ! $ split ! $ move ! (2 ∷ []) $ split ! $ keep ! (0 ∷ 2 ∷ []) $
     use1 𝓛 (Self ⊛ Self) ((shr_copy 𝓛 (named 0) κ R laws.the_row_laws.shr_laws).twice self vs) $ split ! $
     enter ! _ _ _ _ _ $ alloc_all ! (λ l. pass_all ! refl ((tt, tt), ((tt, record { fits = are.1.0.1 }), ((tt, record { fits = are.1.1.0.1 }), tt))) $
@@ -129,7 +130,8 @@ allocate_spec 𝓤 𝓛 𝓜 𝓡 w =
     calls_at ! called Passes (passed_met.met 𝓤 𝓛 𝓜 𝓡 (code.calls-std_heap::GlobalAllocator::allocate 𝓡.env w)) passing
     (and_then ! (get ! refl) (and_then ! (get ! refl) (and_then ! (get ! refl) (no_more !)))) (λ v″.
     use1 𝓛 (later (some (λ (r : Answer.Denot). ((‵ (flft κ q) ⊛ ‵ ftrue) ⊛ ‵ (Answer.own_val r (v″ ∷ []))) ⊛
-    some (λ (ws : Unit {0} × (Unit {0} × (Unit {0} × Unit {0}))). ‵ (lasts passed.ended κs passing.0.3 ws) ⊛ ‵ (block_if_ok (ghosts.dealloc_token h.now) ty r))))) (id⊢ 𝓤 _) $
+    some (λ (ws : Unit {0} × (Unit {0} × (Unit {0} × Unit {0}))). ‵ (lasts passed.ended κs passing.0.3 ws) ⊛ ‵
+    (block_if_ok (ghosts.dealloc_token h.now) ty r))))) (id⊢ 𝓤 _) $
     await ! tt $ pick ! (λ r. split ! $ split ! $ split ! $ move ! (3 ∷ []) $ pick ! (λ ws. split ! $ drop ! $
     -- [the block; the token; nothing; the answer]
     move ! (3 ∷ 0 ∷ 1 ∷ []) $ peeks ! Answer _ (shows 𝓛 Answer) r (v″ ∷ []) (λ has.

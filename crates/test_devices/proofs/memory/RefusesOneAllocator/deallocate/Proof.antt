@@ -19,7 +19,8 @@ use mir.Syntax.{named, ty_unit}
 use mir.Val.{Val, vunit, has_ty, WT}
 use contract.Monad.{fact, fact_i}
 use contract.Running.{tables}
-use types.Kit.{‵, use0, raw, ◌⊛◌, some, later, at_ret, ◌$◌, ◌∵◌, !, qed, done, move, keep, use1, use2, split, join, feq_i, feq_l, pick, await, rewrite, suffices, group}
+use types.Kit.{‵, use0, raw, ◌⊛◌, some, later, at_ret, ◌$◌, ◌∵◌, !, qed, done, move, keep, use1, use2, split, join, feq_i, feq_l, pick, await}
+use types.Kit.{rewrite, suffices, group}
 use types.Run.{enter, of_opd, unit_lit, no_more, and_then, first, blocks, exec, returns}
 use types.ByLocal.{alloc_all, pass_all, free_all, look_at, get, sets, lands_as, lands_last, env}
 use denote.Builtin.{u64, unit, RefOf}
@@ -46,7 +47,8 @@ pub deallocate_spec : {M : Type 1} → statement M
 deallocate_spec 𝓤 𝓛 𝓜 𝓡 w =
     let c = f.clauses 𝓛 𝓜.mem 𝓡.returns in let W = walk_of 𝓛 f.ended stayed c in let 𝓣 = tables 𝓤 𝓛.H 𝓜 𝓡 𝓡.env in
     let number = Goes-dropped 𝓛 1 (plain (λ _. u64)) yes (λ κs x v. refl) in
-    proved 𝓛 f.ended stayed c 𝓜 𝓡 (Goes-dropped 𝓛 1 By_ref yes (λ κs x v. refl), (Goes-dropped 𝓛 1 (plain (λ _. RawPtr)) yes (λ κs x v. refl), (number, (number, tt))))
+    proved 𝓛 f.ended stayed c 𝓜 𝓡
+    (Goes-dropped 𝓛 1 By_ref yes (λ κs x v. refl), (Goes-dropped 𝓛 1 (plain (λ _. RawPtr)) yes (λ κs x v. refl), (number, (number, tt))))
     f.Key.name code.function (code.unfolded 𝓤 𝓛.H 𝓜 𝓡 w)
     (λ κs. (shr_vals, (rawptr_vals, (uint_vals w64, (uint_vals w64, tt)))))
     (λ κs. (shr_Tells (named 0) κs.0 R, (rawptr_Tells, (uint_Tells w64, (uint_Tells w64, tt)))))
@@ -55,10 +57,18 @@ deallocate_spec 𝓤 𝓛 𝓜 𝓡 w =
     let Self = ‵ ((ShrRef (named 0) κ R).own_val self vs) in
     let called = framed 𝓤 𝓛.H 𝓜 𝓣 in
     let y : W.Ghost = ((κs, qs, bounds, a, (vs, (rawptr_vals ptr, (uint_vals w64 size, (uint_vals w64 align, tt))))), ty) in
-    qed 𝓛 (((‵ (flft κ q) ⊛ ‵ ftrue) ⊛ Self ⊛ ‵ (RawPtr.own_val ptr (rawptr_vals ptr)) ⊛ ‵ (u64.own_val size (uint_vals w64 size)) ⊛ ‵ (u64.own_val align (uint_vals w64 align)) ⊛ ‵ ftrue)
+    qed 𝓛 (((‵ (flft κ q) ⊛ ‵ ftrue) ⊛ Self ⊛ ‵ (RawPtr.own_val ptr (rawptr_vals ptr)) ⊛ ‵ (u64.own_val size (uint_vals w64 size)) ⊛ ‵
+    (u64.own_val align (uint_vals w64 align)) ⊛ ‵ ftrue)
     ∷ (raw (fact 𝓤 (HasLayout ty size align)) ⊛ ‵ (owned_block (ghosts.dealloc_token self.now.heap) ty ptr)) ∷ []) ∵
     move ! (1 ∷ []) $ split ! $ heard ! _ (λ layout. move ! (1 ∷ []) $ split ! $ split ! $ move ! (2 ∷ []) $ split ! $ keep ! (0 ∷ 2 ∷ 4 ∷ []) $
-    enter ! _ _ _ _ _ $ alloc_all ! (λ l. pass_all ! refl ((tt, tt), (((rawptr_Lawful 𝓛).typed ptr (rawptr_vals ptr) refl).0, ((tt, record { fits = are.1.1.0.1 }), ((tt, record { fits = are.1.1.1.0.1 }), tt)))) $
+    enter ! _ _ _ _ _ $ alloc_all !
+    (λ l. pass_all ! refl (
+      (tt, tt),
+      (
+        ((rawptr_Lawful 𝓛).typed ptr (rawptr_vals ptr) refl).0,
+        ((tt, record { fits = are.1.1.0.1 }), ((tt, record { fits = are.1.1.1.0.1 }), tt)),
+      ),
+    ) $
     -- [self; the token; the block]
     let Lends = triple_of 𝓛 heap.signature (heap.spec 𝓛 𝓜.mem 𝓡.returns) in
     let lending : Lends.Ghost = ((κs, qs, tt, (self, tt), (vs, tt)), tt) in
@@ -75,7 +85,8 @@ deallocate_spec 𝓤 𝓛 𝓜 𝓡 w =
     rewrite ! 0 (λ (us : List Val). ‵ ((ShrRef (named 0) κ G).own_val h us)) word refl $
     -- [the heap; the token; the block]
     let Passes = triple_of 𝓛 passed.signature (passed.spec 𝓛 𝓜.mem 𝓡.returns) in
-    let passing : Passes.Ghost = ((κs, qs, tt, (h, (ptr, (size, (align, tt)))), (shr_vals h, (rawptr_vals ptr, (uint_vals w64 size, (uint_vals w64 align, tt))))), ty) in
+    let passing : Passes.Ghost =
+    ((κs, qs, tt, (h, (ptr, (size, (align, tt)))), (shr_vals h, (rawptr_vals ptr, (uint_vals w64 size, (uint_vals w64 align, tt))))), ty) in
     nothing ! $ owned ! u64 _ (uint_Makes 𝓛 w64) align _ (refl, are.1.1.1.0.1) $ join ! $
     owned ! u64 _ (uint_Makes 𝓛 w64) size _ (refl, are.1.1.0.1) $ join ! $
     owned ! RawPtr _ (rawptr_Makes 𝓛) ptr (rawptr_vals ptr) refl $ join ! $

@@ -7,28 +7,38 @@ pub slice_bounds-turns-end : goal.slice_bounds-turns-end
 slice_bounds-turns-end g c =
     let f = c.self.inside in
     let within = subst (λ (es : List _). c.args.mark ≤ length es) (sym c.self.view_is) c.requires.within in
-    turns_below g.E.Packed.whole_small g.E.Packed.whole_middle f.turns.now f.small.now f.larger_turns.now f.middle.now f.large.now c.self.invariant.0 c.self.invariant.1 c.args.mark within
+    turns_below g.E.Packed.whole_small g.E.Packed.whole_middle f.turns.now f.small.now f.larger_turns.now f.middle.now f.large.now
+    c.self.invariant.0 c.self.invariant.1 c.args.mark within
 
 pub slice_bounds-larger_turns-length : goal.slice_bounds-larger_turns-length
 slice_bounds-larger_turns-length g c =
     let f = c.self.inside in
     let within = subst (λ (es : List _). c.args.mark ≤ length es) (sym c.self.view_is) c.requires.within in
-    larger_turns_below g.E.Packed.whole_small g.E.Packed.whole_middle f.turns.now f.small.now f.larger_turns.now f.middle.now f.large.now c.self.invariant.0 c.self.invariant.1 c.args.mark within c.count_marked-small.result c.count_marked-small.ensures.count
+    larger_turns_below g.E.Packed.whole_small g.E.Packed.whole_middle f.turns.now f.small.now f.larger_turns.now f.middle.now f.large.now
+    c.self.invariant.0 c.self.invariant.1 c.args.mark within c.count_marked-small.result c.count_marked-small.ensures.count
 
 pub slice_bounds-result-end-3 : goal.slice_bounds-result-end-3
 slice_bounds-result-end-3 g c =
     let f = c.self.inside in
     let within = subst (λ (es : List _). c.args.mark ≤ length es) (sym c.self.view_is) c.requires.within in
-    large_below g.E.Packed.whole_small g.E.Packed.whole_middle f.turns.now f.small.now f.larger_turns.now f.middle.now f.large.now c.self.invariant.0 c.self.invariant.1 c.args.mark within c.count_marked-small.result c.count_marked-small.ensures.count c.count_marked-middle.result c.count_marked-middle.ensures.count
+    large_below g.E.Packed.whole_small g.E.Packed.whole_middle f.turns.now f.small.now f.larger_turns.now f.middle.now f.large.now
+    c.self.invariant.0 c.self.invariant.1 c.args.mark within c.count_marked-small.result c.count_marked-small.ensures.count
+    c.count_marked-middle.result c.count_marked-middle.ensures.count
 
 pub invariant_of-result : goal.invariant_of-result
 invariant_of-result g c =
     let f = c.self.inside in
     let within = subst (λ (es : List _). c.args.mark ≤ length es) (sym c.self.view_is) c.requires.within in
-    turns_front g.E.Packed.whole_small g.E.Packed.whole_middle f.turns.now f.small.now f.larger_turns.now f.middle.now f.large.now c.self.invariant.0 c.self.invariant.1 c.args.mark within c.count_marked-small.result c.count_marked-small.ensures.count c.count_marked-middle.result c.count_marked-middle.ensures.count
+    turns_front g.E.Packed.whole_small g.E.Packed.whole_middle f.turns.now f.small.now f.larger_turns.now f.middle.now f.large.now
+    c.self.invariant.0 c.self.invariant.1 c.args.mark within c.count_marked-small.result c.count_marked-small.ensures.count
+    c.count_marked-middle.result c.count_marked-middle.ensures.count
 
 pub returns : goal.returns
 returns g c =
     let f = c.self.inside in
     let within = subst (λ (es : List _). c.args.mark ≤ length es) (sym c.self.view_is) c.requires.within in
-    record { edits = edits_front g.E.Packed.whole_small g.E.Packed.whole_middle f.turns.now f.small.now f.larger_turns.now f.middle.now f.large.now c.self.invariant.0 c.self.invariant.1 c.args.mark within c.count_marked-small.result c.count_marked-small.ensures.count c.count_marked-middle.result c.count_marked-middle.ensures.count ∙ ap (below c.args.mark) c.self.view_is }
+    record {
+      edits = edits_front g.E.Packed.whole_small g.E.Packed.whole_middle f.turns.now f.small.now f.larger_turns.now f.middle.now
+          f.large.now c.self.invariant.0 c.self.invariant.1 c.args.mark within c.count_marked-small.result c.count_marked-small.ensures.count
+          c.count_marked-middle.result c.count_marked-middle.ensures.count ∙ ap (below c.args.mark) c.self.view_is;
+    }

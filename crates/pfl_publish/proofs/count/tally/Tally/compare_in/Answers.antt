@@ -9,11 +9,13 @@ join_seat-requires g c = let wide = c.self.invariant in (cc, cc, c.mine.invarian
 pub load-requires : goal.load-requires
 load-requires g c =
     let wide = c.self.invariant in
-    let all = united_parts c.join_seat.new.seat.me c.kept.inside.seat.me.0 c.mine.inside.seat.me.0 _ c.join_seat.ensures.2 c.kept.invariant.1 c.mine.invariant.1 in
+    let all = united_parts c.join_seat.new.seat.me c.kept.inside.seat.me.0 c.mine.inside.seat.me.0 _ c.join_seat.ensures.2
+    c.kept.invariant.1 c.mine.invariant.1 in
     (cc, omega arith, compares _ _ c.join_seat.new.seat.me (omega arith))
 
 pub split_seat-seat-requires : goal.split_seat-seat-requires
 split_seat-seat-requires g c =
     let wide = c.self.invariant in
-    let whole_is = united_whole c.join_seat.new.seat.me c.load.new.seat.me c.kept.inside.seat.me.0 c.mine.inside.seat.me.0 _ c.join_seat.ensures.2 c.load.ensures.2.0 c.load.ensures.2.1 c.kept.invariant.1 c.mine.invariant.1 in
+    let whole_is = united_whole c.join_seat.new.seat.me c.load.new.seat.me c.kept.inside.seat.me.0 c.mine.inside.seat.me.0 _
+    c.join_seat.ensures.2 c.load.ensures.2.0 c.load.ensures.2.1 c.kept.invariant.1 c.mine.invariant.1 in
     (cc, omega arith, splits _ _ (ap (λ (v : View). v.parts) whole_is.1))

@@ -1,5 +1,0 @@
-use Rattle.pfl_timeline.proofs.Wants.{no_reply-tells}
-use Rattle.pfl_timeline.proofs.laws.no_reply_tells_want_of_memory.Goals as goal
-
-pub returns : goal.returns
-returns c = no_reply-tells
