@@ -103,6 +103,13 @@ class Releases(SmallTree):
         path.write_text(path.read_text().replace("release 1", "release 2"))
         self.assertEqual(self.run_it(NO_CHECKER, "test")[0], 1)
 
+    def test_a_tree_that_changes_while_it_is_built_is_not_packed(self) -> None:
+        self.change_source()
+        changing = QUICK + f'if [ "$crate" = pfl_lab ]; then echo "//! More." >> {self.top}/crates/pfl_side/src/lib.rt; fi\n'
+        status, _, said = self.run_it(changing, "lab", "release")
+        self.assertEqual((status, said.splitlines()[-1][:53]), (125, "lab: the sources changed while they were built, and t"))
+        self.assertRegex((self.top / releases.RECORD).read_text(), r"^release 1\n")
+
     def test_a_changed_tree_has_the_next_number(self) -> None:
         self.assertIn("release 1, sources ", (self.top / releases.STAMP).read_text())
         self.run_it(QUICK, "lab", "release")
