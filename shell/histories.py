@@ -6,9 +6,10 @@ from dataclasses import replace
 from functools import lru_cache, partial
 from typing import Callable, Iterator, Sequence
 
-from .explanations import Explanation
+from .explanations import Explanation, read_explanation
 from .flights import Flight
 from .laboratory import Laboratory
+from .language.commands import STEP, WHY
 from .pair import Pair
 
 
@@ -21,11 +22,18 @@ class History:
         self.explained: Callable[[int], Explanation] = lru_cache(maxsize=None)(partial(lab.explanation, branch))
         self.pair: Callable[[int], Pair] = lru_cache(maxsize=None)(partial(lab.past, branch))
         self.sent: Callable[[int], Flight] = lru_cache(maxsize=None)(partial(lab.flight, branch))
+        # What would come of an event right after these, and why; the setup has to be known.
+        self.would_come: Callable[[str], Explanation] = lru_cache(maxsize=None)(self._tried)
 
     def flight(self, ticket: int) -> Flight:
         """A frame that an event of the branch sent, and what these events did to it."""
         it = self.sent(ticket)
         return replace(it, later=[one for one in it.later if one.number <= len(self.lines)])
+
+    def _tried(self, event: str) -> Explanation:
+        """The answer of a run of its own, since the branch may stand elsewhere."""
+        stepped = [f"{STEP.word} main {it}" for it in self.lines]
+        return read_explanation(self.lab.run([*stepped, f"{WHY.word} main {event}"])[-1])
 
     def newest_flights(self) -> Iterator[Flight]:
         """The frames that these events sent, newest first: tickets are counted from 1."""

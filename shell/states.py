@@ -4,7 +4,7 @@ from __future__ import annotations
 from dataclasses import dataclass
 from typing import Optional, Sequence, Tuple
 
-from .language.names import Name, number_or_none
+from .language.names import FIN_WAIT_2, Name, number_or_none
 from .language.packets import Key
 
 
@@ -36,6 +36,11 @@ class Flow:
     source: End
     destination: End
     timeout_class: str
+
+
+def is_closed(it: Flow) -> bool:
+    """Whether it is a connection of TCP that both ends have closed."""
+    return it.protocol == "tcp" and min(it.source.level, it.destination.level) >= FIN_WAIT_2
 
 
 # How many words of a line describe a flow, from its name on.

@@ -2,7 +2,7 @@
 from __future__ import annotations
 
 import textwrap
-from typing import Dict, List, Optional
+from typing import List, Optional
 
 from .checksums import rules_checksum
 from .colours import Paint
@@ -10,7 +10,6 @@ from .flights import Flight
 from .frames import HEADER, Frame
 from .language.events import MOST_TRIES
 from .language.names import COUNTERS, NODES, Name
-from .language.records import BULK_STATUS, CLEAR, QUEUES, UPDATE_REQUEST
 from .language.setups import BULK_MS, DEFER_MS
 from .pair import Held, Node, Pair, other
 from .records import record_line
@@ -21,13 +20,11 @@ from .words import (
     UNKNOWN_SETUP,
     bulk_client,
     bulk_server,
-    bulk_status,
-    cleared,
     counted,
     expiry,
     milliseconds_left,
     near_and_far,
-    request,
+    pending_words,
     rule_number,
     scaling,
     seconds,
@@ -116,19 +113,9 @@ def _counters(node: Node) -> str:
 
 def _to_be_sent(node: Node, paint: Paint, width: int) -> List[str]:
     """What a flush has to send, by kind, and whether the frame is wanted soon."""
-    kinds: Dict[str, List[str]] = {}
-    for it in node.queue:
-        kinds.setdefault(QUEUES[it.kind], []).append(str(it.name))
-    if node.asks:
-        kinds[UPDATE_REQUEST.name] = [request(it) for it in node.asks]
-    if node.statuses:
-        kinds[BULK_STATUS.name] = [bulk_status(it) for it in node.statuses]
-    if node.clears:
-        kinds[CLEAR.name] = [cleared(it) for it in node.clears]
-    push = ", push asked" if node.push else ""
-    if not kinds:
+    push, text = ", push asked" if node.push else "", pending_words(node)
+    if not text:
         return [paint.note("  nothing to send to the peer, push asked")] if push else []
-    text = "; ".join(f"{kind} {', '.join(those)}" for kind, those in kinds.items())
     lines = textwrap.wrap(f"to send to {other(node.id)} ({node.pending}{push}): {text}", width, break_long_words=False)
     return [paint.note(" " * (FURTHER if at else 2) + it) for at, it in enumerate(lines)]
 

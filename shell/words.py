@@ -1,9 +1,10 @@
 """States, ends, queues and bulk updates in words: those of pfctl(8) and pfsync(4)."""
 from __future__ import annotations
 
-from typing import Dict, Optional, Tuple
+from typing import Dict, List, Optional, Tuple
 
 from .language.names import ALL_STATES, BULK_STATUSES, Name, level_name
+from .language.records import BULK_STATUS, CLEAR, QUEUES, UPDATE_REQUEST
 from .language.setups import NO_SYNC
 from .pair import Cleared, Node
 from .setups import Adaptive, Setup
@@ -163,6 +164,20 @@ def cleared(it: Cleared) -> str:
 
 def bulk_status(status: int) -> str:
     return BULK_STATUSES.get(status, str(status))
+
+
+def pending_words(node: Node) -> str:
+    """What a node has to send, by kind; empty if that is nothing."""
+    kinds: Dict[str, List[str]] = {}
+    for it in node.queue:
+        kinds.setdefault(QUEUES[it.kind], []).append(str(it.name))
+    if node.asks:
+        kinds[UPDATE_REQUEST.name] = [request(it) for it in node.asks]
+    if node.statuses:
+        kinds[BULK_STATUS.name] = [bulk_status(it) for it in node.statuses]
+    if node.clears:
+        kinds[CLEAR.name] = [cleared(it) for it in node.clears]
+    return "; ".join(f"{kind} {', '.join(those)}" for kind, those in kinds.items())
 
 
 # ---- bulk updates

@@ -9,7 +9,7 @@ TCP_LEVELS = (
     *("CLOSED", "LISTEN", "SYN_SENT", "SYN_RCVD", "ESTABLISHED", "CLOSE_WAIT", "FIN_WAIT_1", "CLOSING", "LAST_ACK"),
     *("FIN_WAIT_2", "TIME_WAIT"),
 )
-SYN_SENT = TCP_LEVELS.index("SYN_SENT")
+SYN_SENT, CLOSING, FIN_WAIT_2 = (TCP_LEVELS.index(it) for it in ("SYN_SENT", "CLOSING", "FIN_WAIT_2"))
 OTHER_LEVELS = ("NO_TRAFFIC", "SINGLE", "MULTIPLE")
 
 
@@ -28,11 +28,12 @@ class CounterName(NamedTuple):
     counts: str
 
 
+LOST = CounterName("lost", "held packets lost with their state")
 COUNTERS: Tuple[CounterName, ...] = (
     CounterName("passed", "packets passed"),
     CounterName("blocked", "packets dropped"),
     CounterName("freed", "held packets let go"),
-    CounterName("lost", "held packets lost with their state"),
+    LOST,
     CounterName("bad", "records not taken"),
     CounterName("stale", "updates older than the state"),
     CounterName("broken", "frames that could not be read"),

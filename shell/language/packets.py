@@ -7,6 +7,11 @@ from typing import Optional
 CIRCLE = 2**32
 
 
+def reaches(one: int, two: int) -> bool:
+    """Whether a sequence number is the other one, or after it: ahead of it by less than half the circle."""
+    return (one - two) % CIRCLE < CIRCLE // 2
+
+
 @dataclass(frozen=True)
 class Key:
     """The two ends of a flow, each `ADDRESS:PORT`, far from the node or near to it."""

@@ -48,6 +48,8 @@ class Known:
     lines: List[str] = field(default_factory=list)
     explained: List[Tuple[Explanation, Optional[Flight]]] = field(default_factory=list)
     flights: Dict[int, Flight] = field(default_factory=dict)
+    # What would have come of the newest event, if it is a packet, at the other node.
+    at_peer: Optional[Explanation] = None
 
     def history(self, lab: Laboratory, look: Look) -> History:
         """The events before the newest one, with nearly all that a reason needs at hand."""
@@ -57,6 +59,8 @@ class Known:
         history.explained = lambda place: self.explained[place - 1][0]
         history.pair = lambda place: pairs[place] if place in pairs else past(place)
         history.sent = self.flights.__getitem__
+        if self.at_peer is not None:
+            history.would_come = {self.at_peer.event.line: self.at_peer}.__getitem__
         return history
 
 

@@ -14,9 +14,10 @@ from ..laboratory import Laboratory, Unknown
 from ..explanations import read_explanation
 from ..flights import read_flight
 from ..language.commands import BACK, FRAME, SHOW, STEP, WHY
-from ..language.events import FLUSH, OF_FRAME, REPEAT
+from ..language.events import FLUSH, OF_FRAME, PACKET, REPEAT
 from ..language.names import Name
 from ..pair import Pair
+from ..reasons.questions import at_other_node
 from ..setups import Setup
 
 # How many lines of shown pairs are read for the new events of a branch, besides those after the last one. In a longer run the pair is
@@ -89,15 +90,20 @@ class Record:
 
     def _step(self, event: str, at: int, last: int) -> None:
         """Steps an event: the one at this place among the new ones."""
-        number, sends = len(self.moments) + 1, event.split()[0] in (FLUSH.word, REPEAT.word)
+        number, word = len(self.moments) + 1, event.split()[0]
+        sends = word in (FLUSH.word, REPEAT.word)
         is_seen, was_seen = self._affords(at, last), self._looked == number - 1
         lines = [f"{STEP.word} main {event}", f"{WHY.word} main {number}"]
         # (tickets are counted from 1)
         lines += [f"{FRAME.word} main {len(self._known.flights) + 1}"] * sends + [f"{SHOW.word} main"] * is_seen
-        (stepped, *_), why, *replies = self._session.ask_together(lines)
+        # What a packet would do at the other node is asked before it comes.
+        asked = [f"{WHY.word} main {at_other_node(event)}"] * (word == PACKET.word)
+        answers = self._session.ask_together([*asked, *lines])
+        (stepped, *_), why, *replies = answers[len(asked) :]
         if not stepped.startswith(STEP.word):
             raise Unknown(f"`{event}` was answered `{stepped}` when {self.name} was played again")
         it = read_explanation(why)
+        self._known.at_peer = read_explanation(answers[0]) if asked else None
         self._known.lines.append(event)
         self._known.explained.append((it, read_flight(replies[0]) if sends else None))
         self._remember(number)

@@ -127,7 +127,7 @@ def _why_absent(question: Question, name: Name, node: str) -> List[str]:
         return fates or [_unsent(question, peer_of(question, node), name)]
     there = f"it was there until {gone}"
     # A short update would not bring it.
-    queued = _queued(peer_of(question, node), name, (INSERT.queue, UPDATE.queue))
+    queued = yet_to_send(peer_of(question, node), name, (INSERT.queue, UPDATE.queue))
     parts = [*([queued] if queued else []), *fates]
     return [*parts[:-1], f"{parts[-1]}; before that {there}"] if parts else [there]
 
@@ -140,7 +140,7 @@ def _fates(question: Question, newest: Iterable[Flight], name: Name) -> List[str
 def explain_lag(question: Question, name: Name, node: str) -> List[str]:
     """Why a node's copy of a state is not what the peer has: what the peer has yet to send, or what was lost."""
     peer = peer_of(question, node)
-    queued = _queued(peer, name)
+    queued = yet_to_send(peer, name)
     if queued:
         return [queued]
     newest = islice(_carriers(question, name, node, ABOUT_STATES), 1)
@@ -175,11 +175,11 @@ def _fate(question: Question, flight: Flight, name: Name) -> str:
     return f"its {what} in {frame} was delivered (event {ended.number}): {became(brought)}"
 
 
-def _queued(peer: Node, name: Name, kinds: Container[str] = QUEUES) -> str:
-    """A line that the peer has yet to send something about a state, by these queues; empty if it has not."""
-    for it in peer.queue:
+def yet_to_send(node: Node, name: Name, kinds: Container[str] = QUEUES) -> str:
+    """A line that a node has yet to send something about a state, by these queues; empty if it has not."""
+    for it in node.queue:
         if it.name == name and it.kind in kinds:
-            return f"{peer.id} has it on its {QUEUES[it.kind]} queue, and has not sent it yet (`flush {peer.id}`)"
+            return f"{node.id} has it on its {QUEUES[it.kind]} queue, and has not sent it yet (`flush {node.id}`)"
     return ""
 
 
@@ -188,4 +188,4 @@ def _unsent(question: Question, peer: Node, name: Name) -> str:
     state = peer.states[name]
     if "n" in state.flags:
         return f"{question.rule_words(peer.id, state.rule)} made it with `no-sync`, so {peer.id} never sends it"
-    return _queued(peer, name) or f"no frame to {other(peer.id)} has carried it"
+    return yet_to_send(peer, name) or f"no frame to {other(peer.id)} has carried it"

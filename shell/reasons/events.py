@@ -1,19 +1,20 @@
 """What events without a packet found to do: sending, clocks, purges, releases and bulk updates."""
 from __future__ import annotations
 
-from typing import Callable, Dict, List
+from typing import Callable, Container, Dict, List
 
 from ..explanations import Expiry, Purge
 from ..frames import HEADER
 from ..language import events
 from ..language.events import MOST_TRIES, SERVED, Event
-from ..language.names import Name
+from ..language.names import LOST, Name
 from ..language.records import SHORT_DELETE
 from ..language.setups import BATCH, BULK_MS, DEFER_MS, MTU
 from ..pair import Node, other
 from ..states import State
+from ..words import counted, pending_words, scaled_by
+from .expiry import use_words
 from .questions import Question, name_list, state_words
-from ..words import counted, scaled_by
 
 
 def _node(question: Question) -> Node:
@@ -28,7 +29,7 @@ def _purged(question: Question) -> List[str]:
     due = sorted(purge.due, key=lambda it: (it.expires, it.name))
     left = [it for it in purge.expiries if it.expires > purge.clock]
     lines = [f"the clock of {node.id} stands at {purge.clock} ms", *filter(None, [scaled_by(purge.adaptive, node.id, purge.states)])]
-    lines += [_expired(question, it, node.states[it.name]) for it in due]
+    lines += [_expired(question, it, node.states[it.name]) for it in due] + _held_lost(node, [it.name for it in due])
     if not left:
         return [*lines, "no state is left"]
     expires = min(it.last + 1000 * purge.adaptive.scaled(it.timeout, len(left)) for it in left)
@@ -40,12 +41,16 @@ def _purged(question: Question) -> List[str]:
 
 
 def _expired(question: Question, it: Expiry, state: State) -> str:
-    setup, node = question.lab.setup, question.words[1]
-    said_by = setup.said_by(node, state.rule, it.timeout_class) if question.lab.knows_setup else ""
-    said = f" ({said_by})" if said_by else ""
-    scaled = f", scaled to {it.scaled} s" if it.scaled != it.timeout else ""
-    used = f"last used at {it.last} ms, and {it.timeout_class} is {it.timeout} s{said}{scaled}"
-    return f"{state_words(state)} expired at {it.expires} ms: {used}"
+    return f"{state_words(state)} expired at {it.expires} ms: {use_words(question, question.words[1], state, it)}"
+
+
+def _held_lost(node: Node, names: Container[Name]) -> List[str]:
+    """That the held packets of states which a node deletes are dropped and counted; nothing if it holds none."""
+    lost = [it.name for it in node.held if it.name in names]
+    if not lost:
+        return []
+    packets = f"the held packet{'s' * (len(lost) > 1)} of {name_list(lost)}"
+    return [f"{packets} {'are' if len(lost) > 1 else 'is'} dropped, and counted ({LOST.counts})"]
 
 
 def _released(question: Question) -> List[str]:
@@ -61,8 +66,8 @@ def _sent(question: Question) -> List[str]:
     frame = question.history.flight(int(question.outcome[1])).frame
     lines = [f"frame {frame.ticket} goes to {frame.to}, and carries {frame.summary}"]
     if question.kind is events.FLUSH:
-        left = question.after.nodes[question.words[1]].pending
-        rest = f"{left} pending are left for the next frame: {question.lab.limit(MTU)}"
+        left = pending_words(question.after.nodes[question.words[1]])
+        rest = f"still pending, for the next frame: {left}; {question.lab.limit(MTU)}"
         return [*lines, rest] if left else lines
     return [*lines, f"it is a copy of frame {question.words[1]}"]
 
@@ -96,16 +101,22 @@ def _killed(question: Question) -> List[str]:
     peer = other(node.id)
     return [
         f"{state_words(node.states[name])} of {node.id} is deleted",
+        *_held_lost(node, [name]),
         f"a short delete is queued for {peer}" if is_queued else f"nothing about it was ever sent to {peer}, and nothing is now",
     ]
 
 
 def _cleared(question: Question) -> List[str]:
     node = _node(question)
-    bounds = [it for it in question.after.nodes[node.id].clears if it not in node.clears]
-    lines = [f"{node.id} gave up {counted(len(node.states), 'state')}, including those of other boots"]
-    peer = other(node.id)
-    return lines + [f"a clear is listed: {peer} is to give up those of boot {it.creator} up to id {it.bound}" for it in bounds]
+    clears = question.after.nodes[node.id].clears
+    own, former = clears[-1], len(node.clears)
+    beside = f"; it comes after {counted(former, 'clear')} that {node.id} has not sent yet, and each is a record of its own"
+    given_up = f"{node.id} gave up {counted(len(node.states), 'state')}, including those of other boots"
+    return [
+        given_up if node.states else f"{node.id} has no state to give up",
+        *_held_lost(node, node.states),
+        f"a clear is listed: {other(node.id)} is to give up those of boot {own.creator} up to id {own.bound}" + beside * bool(former),
+    ]
 
 
 def _cut(question: Question) -> List[str]:

@@ -6,14 +6,18 @@ from typing import List, Optional
 
 from .absence import explain_absence
 from ..explanations import Judged, OfState
-from ..language.events import DROPPED, HELD_BACK
+from ..language.events import DROPPED, HELD_BACK, PASS
+from ..language.names import CLOSING
 from ..language.packets import PacketEvent
 from ..language.setups import DEFER_MS, FLAGS_ANY, HELD, QUICK, RDR
 from .questions import Question, name_list, state_words
 from ..rulings import deciding
 from ..setups import Rule
+from ..states import State, is_closed
+from ..words import counted, levels
+from .elsewhere import explain_drop_elsewhere, explain_elsewhere
+from .expiry import explain_overdue
 from .windows import explain_window
-from ..words import counted
 
 
 def explain_packet(question: Question) -> List[str]:
@@ -24,15 +28,34 @@ def explain_packet(question: Question) -> List[str]:
         return explain_window(question, reason) if is_dropped else _passed(question, reason)
     assert isinstance(reason, Judged)
     lines = [*_judged(question, reason), *explain_absence(question)]
-    return lines + (_held(question) if question.outcome[0] == HELD_BACK.word else [])
+    if question.outcome[0] == HELD_BACK.word:
+        return lines + _held(question)
+    return lines + (explain_drop_elsewhere(question) if question.outcome[0] == PASS.word else [])
 
 
 def _passed(question: Question, reason: OfState) -> List[str]:
     node = question.table(question.packet.node)
-    key = "wire" if question.packet.direction == "in" else "stack"
-    by_key = f"{state_words(node.states[reason.name])} of {node.id} matches it by its {key} key"
-    lines = [f"{by_key}; a packet of a state is not tested against rules"]
-    return lines + ["it also let the held packet of the state go"] * (reason.name in [it.name for it in node.held])
+    key, state = "wire" if question.packet.direction == "in" else "stack", node.states[reason.name]
+    by_key = f"{state_words(state)} of {node.id} matches it by its {key} key"
+    return [
+        f"{by_key}; a packet of a state is not tested against rules",
+        *["it also let the held packet of the state go"] * (reason.name in [it.name for it in node.held]),
+        *(_closing(state, question.after.nodes[node.id].states[reason.name]) if question.packet.is_tcp else []),
+        *explain_overdue(question, node, state),
+        *explain_elsewhere(question, state),
+    ]
+
+
+def _closing(before: State, after: State) -> List[str]:
+    """How far a packet closes a connection of TCP, by the levels of its ends before and after."""
+    if is_closed(before) or levels(before) == levels(after) or _furthest(after) < CLOSING:
+        return []
+    how = "goes on closing" if _furthest(before) >= CLOSING else "begins to close"
+    return [f"it {'closes' if is_closed(after) else how} the state: {levels(before)} -> {levels(after)}"]
+
+
+def _furthest(state: State) -> int:
+    return max(state.source.level, state.destination.level)
 
 
 def _held(question: Question) -> List[str]:

@@ -66,6 +66,11 @@ class Question:
         """The packet, of an event that is a packet."""
         return read_packet(self.explanation.event.line)
 
+    @cached_property
+    def at_peer(self) -> Optional[Explanation]:
+        """What would come of the packet at the other node in place of this one, and why; nothing if the setup is not known."""
+        return self.history.would_come(at_other_node(self.explanation.event.line)) if self.lab.knows_setup else None
+
     def table(self, node: str) -> Node:
         """A node before the event."""
         return self.pair.nodes[node]
@@ -78,6 +83,12 @@ class Question:
         """A rule by its number with its words, such as `rule 1 of a (pass out)`, and where it is from, if that is known."""
         rule = self.rule(node, number)
         return f"rule {number} of {node}" + (f" ({rule.described})" if rule else "")
+
+
+def at_other_node(packet: str) -> str:
+    """The event that brings the same packet to the other node."""
+    word, node, *rest = packet.split()
+    return " ".join([word, other(node), *rest])
 
 
 def state_words(state: State) -> str:

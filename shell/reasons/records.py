@@ -9,13 +9,17 @@ from ..explanations import TakenRecord
 from ..flights import Flight
 from ..frames import Carried, Record
 from ..histories import History
+from ..laboratory import Laboratory
 from ..language.events import RESTART, RETRY, SERVED
-from ..language.names import ALL_STATES, BULK_END, BULK_START, Name, level_name
-from ..language.records import BULK_STATUS, CLEAR, INSERT, INSERT_ACK, UPDATE_REQUEST
+from ..language.names import ALL_STATES, BULK_END, BULK_START, SYN_SENT, Name, level_name
+from ..language.packets import reaches
+from ..language.records import BULK_STATUS, CLEAR, INSERT, INSERT_ACK, QUEUES, UPDATE_REQUEST
 from ..language.setups import STATES
-from ..pair import Node
-from .questions import Question, name_list
+from ..pair import Node, other
+from ..states import End
 from ..words import bulk_status, counted
+from .kernel import PAGE, explain_destinations, explain_takeover, gives_way
+from .questions import Question, name_list
 
 
 class Came(NamedTuple):
@@ -60,11 +64,11 @@ def became(it: Came) -> str:
         names = name_list(sorted(name for name in it.node.states if it.taken.takes(name)))
         of = "of boot {} up to id {}".format(*it.record.about)
         return f"{node} gave up {counted(int(it.taken.fate[1]), 'state')} {of}" + f": {names}" * bool(names)
-    begins = it.taken.fate[-1] == "begins"
+    ends = it.taken.fate[-1] == "ends"
     return {
         "asked": f"unknown: {node} has no such state, and asks for it" + " already" * (it.name in it.node.asks),
         "queued": "asked for: the whole state is queued as an update",
-        "bulk": f"{node} has {counted(len(it.node.states), 'state')} to send" + ", and is done at once" * (not begins),
+        "bulk": f"{node} has no state to send: the bulk update is over at once" if ends else f"{node} begins a bulk update",
         "acknowledged": "acknowledged: its held packet is released",
         "deleted": f"deleted{held}",
         "nothing": _nothing(it),
@@ -100,12 +104,24 @@ def _merged(it: Came) -> str:
     """An update of a known state: each end is taken unless it is stale."""
     stale, last = it.taken.stale, f"last used at {it.taken.fate[2]} ms"
     why = "; ".join(_staleness(it, end) for end in stale)
-    if len(stale) == 2:
-        return f"stale: {why}"
     if not stale:
         return f"merged: neither end is behind the one here; {last}"
+    answer = _answer(it)
+    if len(stale) == 2:
+        return f"stale: {why}{answer}"
     taken = "destination" if stale == ("source",) else "source"
-    return f"merged in part, counted as stale: the {taken} end is taken; {why}; {last}"
+    return f"merged in part, counted as stale: the {taken} end is taken; {why}; {last}{answer}"
+
+
+def _answer(it: Came) -> str:
+    """What the receiver sends of a state of which an end was stale."""
+    known, node = it.node.states.get(it.name), it.node.id
+    if known is None:
+        return ""
+    queued = next((one.kind for one in it.node.queue if one.name == it.name), INSERT_ACK.queue)
+    if queued == INSERT_ACK.queue:
+        return f"; {node} queues its own state for {other(node)}, as a short update"
+    return f"; {node} has its own state queued for {other(node)} already ({QUEUES[queued]})"
 
 
 def _staleness(it: Came, end: str) -> str:
@@ -150,9 +166,51 @@ def explain_taken(question: Question) -> List[str]:
     return [
         f"frame {ticket} came to node {node.id} with {counted(len(came), 'record')}:",
         *(f"{place}. {it}: {became(it)}" for place, it in enumerate(came, 1)),
+        *_begun(came, question.after.nodes[node.id]),
         *_without_start(history, came, node),
         *_without_rule(came, question.after.nodes[node.id]),
+        *_endless(came),
+        *_in_the_kernel(question, came),
     ]
+
+
+def _endless(came: List[Came]) -> List[str]:
+    """States whose updates two nodes go on answering: the one has a destination end of a higher level, and the other one of a later
+    number, so that each keeps its own."""
+    names = [it.name for it in came if "destination" in it.taken.stale and _is_crossed(it)]
+    if not names:
+        return []
+    node = came[0].node.id
+    answered = f"{other(node)} would find {node}'s own {name_list(names)} stale in turn, unless it has heard more since"
+    return [f"{answered}: by this project's profile the two can go on so without end {PAGE}"]
+
+
+def _is_crossed(it: Came) -> bool:
+    """Whether the destination end that is here would be stale at the sender as well, which has what came."""
+    known, carried = it.node.states.get(it.name), it.record.state
+    if known is None or carried is None or known.protocol != "tcp":
+        return False
+    came, here = carried.destination, known.destination
+    return _is_behind(came, here) and _is_behind(here, came)
+
+
+def _is_behind(one: End, two: End) -> bool:
+    """Whether a destination end of TCP is stale where the node has the other one: behind in level, or in number once that has begun."""
+    return one.level < two.level or two.level >= SYN_SENT and one.lo != two.lo and reaches(two.lo, one.lo)
+
+
+def _in_the_kernel(question: Question, came: List[Came]) -> List[str]:
+    """Where the kernel does otherwise than the profile with these records."""
+    stale = [it.name for it in came if it.taken.stale == ("destination",)]
+    return [*explain_takeover(_in_the_place_of_closed(question.lab, came)), *explain_destinations(stale)]
+
+
+def _in_the_place_of_closed(lab: Laboratory, came: List[Came]) -> List[Name]:
+    """The states that are bad here since closed ones have their keys; none unless there is room for all that the frame may bring."""
+    if not lab.knows_setup or len(came[0].node.states) + len(came) > lab.setup.limits[STATES]:
+        return []
+    in_use = [it for it in came if it.taken.fate[:2] in (("bad", "wire"), ("bad", "stack"))]
+    return [it.name for it in in_use if isinstance(it.record.state, Carried) and gives_way(it.record.state, it.node)]
 
 
 def _without_rule(came: List[Came], after: Node) -> List[str]:
@@ -166,6 +224,22 @@ def _without_rule(came: List[Came], after: Node) -> List[str]:
 
 
 # ---- bulk updates, which end for a node when the server sends the end
+
+
+def _begun(came: List[Came], after: Node) -> List[str]:
+    """How many states the turns of a bulk update that begins would queue if nothing else happened."""
+    if not any(it.taken.fate == ("bulk", "begins") for it in came):
+        return []
+    cursor, since = after.serve.split("/")
+    queued = [it.name for it in after.queue]
+    due = [
+        name
+        for name, it in sorted(after.states.items())
+        if name > Name.read(cursor) and name not in queued and "n" not in it.flags and (it.peer or 0) <= int(since)
+    ]
+    passed = "; turns pass over states that are queued already or `no-sync`" * (len(due) < len(after.states))
+    names = f": {name_list(due)}" * bool(due)
+    return [f"as {after.id} is after this frame, the bulk update has {counted(len(due), 'state')} to send{names}{passed}"]
 
 
 def _without_start(history: History, came: List[Came], node: Node) -> List[str]:

@@ -4,6 +4,9 @@ from __future__ import annotations
 from typing import List, Tuple
 
 from .absence import explain_lag
+from .elsewhere import is_same
+from .expiry import explain_overdue
+from .kernel import explain_kernel_window
 from ..explanations import Edge, OfState
 from ..language.names import level_name
 from ..language.packets import CIRCLE, PacketEvent
@@ -22,6 +25,8 @@ def explain_window(question: Question, reason: OfState) -> List[str]:
         f"source end: {_end_words(state, state.source)}",
         f"destination end: {_end_words(state, state.destination)}",
         *(question.paint.dim(f"holds: {text}") for missed, text in words if missed is None),
+        *explain_kernel_window(packet, *_ends(state, packet)[:2]),
+        *explain_overdue(question, question.table(packet.node), state),
         *_at_peer(question, state),
     ]
 
@@ -58,16 +63,13 @@ def _edge(which: str, edge: Edge, state: State, packet: PacketEvent) -> str:
 
 def _at_peer(question: Question, state: State) -> List[str]:
     """What the program answers to the same packet at the peer, if that has other numbers for the state."""
-    packet, peer, lab = question.packet, peer_of(question, question.packet.node), question.lab
+    node, there = question.packet.node, question.at_peer
+    peer = peer_of(question, node)
     copy = peer.states.get(state.name)
-    if copy is None or (copy.source, copy.destination) == (state.source, state.destination):
+    if copy is None or is_same(copy, state):
         return []
-    line = f"node {peer.id} has other numbers for state {state.name}"
-    if lab.knows_setup:
-        words = [peer.id if at == 1 else word for at, word in enumerate(question.words)]
-        outcome = lab.outcomes([*question.history.lines, " ".join(words)])[-1]
-        line += f": the same packet at {peer.id} gives `{outcome}`"
-    return [line, *explain_lag(question, state.name, packet.node)]
+    gives = f": the same packet at {peer.id} gives `{there.event.came}`" if there else ""
+    return [f"node {peer.id} has other numbers for state {state.name}{gives}", *explain_lag(question, state.name, node)]
 
 
 def _packet_words(packet: PacketEvent) -> str:

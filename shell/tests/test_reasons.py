@@ -24,6 +24,14 @@ SYN = "step main packet a out tcp 10.0.0.1:1000 192.0.2.9:80 S 5000 0 65535 0 2\
 SYN_ACK = "step main packet a in tcp 192.0.2.9:80 10.0.0.1:1000 SA 9000 5001 60000 0 3\n"
 ACK = "step main packet a out tcp 10.0.0.1:1000 192.0.2.9:80 A {} {} 100 1000\n"
 RESET = "step main packet a out tcp 10.0.0.1:1000 192.0.2.9:80 RA 5001 9001 100 0\n"
+FIN = "step main packet a out tcp 10.0.0.1:1000 192.0.2.9:80 FA 5001 9001 100 0\n"
+FAR_FIN = "step main packet a in tcp 192.0.2.9:80 10.0.0.1:1000 FA 9001 5002 60000 0\n"
+LAST_ACK = "step main packet a out tcp 10.0.0.1:1000 192.0.2.9:80 A 5002 9002 100 0\n"
+ANSWER = "step main packet a in udp 192.0.2.9:53 10.0.0.1:1000 80\n"
+EXPIRED = (
+    "state 1.1 expired at 60000 ms (last used at 0 ms, and udp.first is 60 s); "
+    "the clock of a stands at {} ms, and it is still there because no purge has deleted it"
+)
 FLOW = "state 1.1 (udp 10.0.0.1:1000 -> 192.0.2.9:53)"
 TCP_FLOW = "state 1.1 (tcp 10.0.0.1:1000 -> 192.0.2.9:80)"
 # B restarts and asks for all states; the update goes out in frame 3.
@@ -223,6 +231,13 @@ DROPS: Cases = {
         WALLS + SYN + SYN_ACK + ACK.format(5001, (9001 - 268141) % 2**32),
         ["ack 4294708156 is 1 below 4294708157 (lo 9001 of the destination end less 268140)"],
     ),
+    "window, of a state that has expired": (
+        WALLS + SYN + "step main tick a 120001\n" + ACK.format(126001, 9001),
+        [
+            "state 1.1 expired at 120000 ms (last used at 0 ms, and tcp.first is 120 s); "
+            "the clock of a stands at 120001 ms, and it is still there because no purge has deleted it"
+        ],
+    ),
     "window, an update was lost": (
         WALLS
         + (SYN + SYNC + SYN_ACK + ACK.format(5001, 9001) + FLUSH + "step main lose 2\n")
@@ -264,6 +279,59 @@ PASSES: Cases = {
     "a new connection": (
         OPEN + SYN + SYN_ACK + RESET + SYN,
         [f"{TCP_FLOW} was closed at both ends, and this packet begins a new connection: so it was deleted first"],
+    ),
+    "a reset closes the state": (
+        OPEN + SYN + SYN_ACK + RESET,
+        ["it closes the state: ESTABLISHED:SYN_SENT -> TIME_WAIT:TIME_WAIT"],
+    ),
+    "the first FIN": (OPEN + SYN + SYN_ACK + FIN, ["it begins to close the state: ESTABLISHED:SYN_SENT -> CLOSING:ESTABLISHED"]),
+    "the second FIN": (
+        OPEN + SYN + SYN_ACK + FIN + FAR_FIN,
+        ["it goes on closing the state: CLOSING:ESTABLISHED -> FIN_WAIT_2:CLOSING"],
+    ),
+    "the acknowledgement of the second FIN": (
+        OPEN + SYN + SYN_ACK + FIN + FAR_FIN + LAST_ACK,
+        ["it closes the state: FIN_WAIT_2:CLOSING -> FIN_WAIT_2:FIN_WAIT_2"],
+    ),
+    "a state that has expired": (WALLS + QUERY + "step main tick a 60000\n" + ANSWER, [EXPIRED.format(60000)]),
+    # With two states half of each timeout is left.
+    "a state that has expired among two": (
+        "set astart 1\nset aend 3\n" + WALLS + QUERY + SECOND + "step main tick a 30000\n" + QUERY,
+        [
+            "state 1.1 expired at 30000 ms (last used at 0 ms, and udp.first is 60 s, scaled to 30 s); "
+            "the clock of a stands at 30000 ms, and it is still there because no purge has deleted it"
+        ],
+    ),
+    "the peer would block it, since the state was not sent": (
+        WALLS + QUERY + ANSWER,
+        [
+            "the same packet at b gives `drop block`; b does not have state 1.1: "
+            "a has it on its insert queue, and has not sent it yet (`flush a`)"
+        ],
+    ),
+    "the peer would block it, since the state has not arrived": (
+        WALLS + QUERY + FLUSH + ANSWER,
+        ["the same packet at b gives `drop block`; b does not have state 1.1"],
+    ),
+    "the peer would block it, since the state is not told": (
+        "rule a pass out no-sync\nrule b block any\nopen\n" + QUERY + ANSWER,
+        ["the same packet at b gives `drop block`; b does not have state 1.1: its rule says `no-sync`"],
+    ),
+    "the peer would make a state of its own": (
+        OPEN + QUERY + FLUSH + ANSWER,
+        ["the same packet at b gives `pass 2.1`; b does not have state 1.1"],
+    ),
+    "the peer has older numbers": (
+        # There the source's hi is 5002, and the second segment ends at 7001.
+        WALLS + SYN + SYNC + SYN_ACK + ACK.format(5001, 9001) + ACK.format(6001, 9001),
+        [
+            "node b has other numbers for state 1.1: the same packet at b gives `drop window`",
+            "a has it on its short update queue, and has not sent it yet (`flush a`)",
+        ],
+    ),
+    "the peer's rules would block it": (
+        "rule a pass out\nrule b block any\nopen\n" + QUERY,
+        ["the same packet at b gives `drop block`: rule 0 of b (block any) decides there"],
     ),
     "held": (
         "set defer 1\n" + WALLS + "step main tick a 100\n" + QUERY,
@@ -427,6 +495,35 @@ PURGES: Cases = {
     ),
 }
 
+LOST = "dropped, and counted (held packets lost with their state)"
+# What becomes of the packets that node a holds.
+HELD: Cases = {
+    "purged": (
+        "set defer 1\n" + WALLS + QUERY + "step main tick a 60000\nstep main purge a",
+        [f"the held packet of 1.1 is {LOST}"],
+    ),
+    "killed": ("set defer 1\n" + WALLS + QUERY + SECOND + "step main kill a 1.2", [f"the held packet of 1.2 is {LOST}"]),
+    "cleared": ("set defer 1\n" + WALLS + QUERY + SECOND + "step main clear a", [f"the held packets of 1.1, 1.2 are {LOST}"]),
+}
+
+SENDS: Cases = {
+    "a clear of no state": (
+        WALLS + "step main clear a",
+        ["a has no state to give up", "a clear is listed: b is to give up those of boot 1 up to id 0"],
+    ),
+    "a third clear before a flush": (
+        WALLS + QUERY + "step main clear a\nstep main clear a\nstep main clear a",
+        [
+            "a clear is listed: b is to give up those of boot 1 up to id 1; "
+            "it comes after 2 clears that a has not sent yet, and each is a record of its own"
+        ],
+    ),
+    # The header and an insertion fill a frame of 148 bytes.
+    "what a flush leaves": (
+        "set mtu 148\n" + WALLS + QUERY + SECOND + "step main clear b\nstep main kill a 1.2\n" + SECOND + FLUSH,
+        ["still pending, for the next frame: insert 1.3; the limit `mtu` is 148"],
+    ),
+}
 
 WITHOUT_SETUP: Cases = {
     "block": (
@@ -463,6 +560,17 @@ class Reasons(unittest.TestCase):
 
     def test_passes(self) -> None:
         self.check(PASSES)
+
+    def test_held_packets_of_states_that_go(self) -> None:
+        self.check(HELD)
+
+    def test_what_is_listed_and_left(self) -> None:
+        self.check(SENDS)
+
+    def test_a_packet_that_the_peer_passes_by_the_same_state(self) -> None:
+        """Nothing is said of the peer, nor of a timeout that has a millisecond left."""
+        known = [f"{FLOW} of a matches it by its stack key; a packet of a state is not tested against rules"]
+        self.assertEqual(reasons(WALLS + QUERY + SYNC + "step main tick a 59999\n" + QUERY), known)
 
     def test_refusals(self) -> None:
         self.check(REFUSALS)

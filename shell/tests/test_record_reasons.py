@@ -4,7 +4,7 @@ from __future__ import annotations
 import unittest
 
 from . import reasons
-from .test_reasons import ACK, FLUSH, OPEN, QUERY, SECOND, SYN, SYN_ACK, SYNC, Cases
+from .test_reasons import ACK, FLUSH, OPEN, QUERY, RESET, SECOND, SYN, SYN_ACK, SYNC, Cases
 
 # The source's acknowledgement: its lo is 6001 then, and the destination ESTABLISHED.
 ACKED = ACK.format(5001, 9001)
@@ -13,6 +13,10 @@ KILL = "step main kill a 1.1\n"
 ANSWER = "step main packet b in udp 192.0.2.9:53 10.0.0.1:1000 80\n"
 # A's update of the SYN and ACK: the source ESTABLISHED at 5000, the destination SYN_SENT at 9001.
 ANSWERED = OPEN + SYN + SYNC + SYN_ACK + FLUSH
+# What the kernel does with a record instead.
+TAKES = "FreeBSD's kernel, as far as we know its sources, takes {} (docs/REAL.md)"
+# A connection is closed at both nodes, and the next one has its ports: a frame inserts the new state, and deletes the old one.
+CLOSED_THEN_NEW = OPEN + SYN + SYN_ACK + RESET + SYNC + SYN + FLUSH + "step main deliver 2"
 # B restarts and asks; the start comes with 1.1 in frame 3, which is lost, and the end with 1.2 in frame 4, which is in flight.
 UNHEARD = (
     "set batch 1\n" + OPEN + QUERY + SECOND + SYNC + "step main restart b\nstep main flush b\nstep main deliver 2\n"
@@ -46,7 +50,7 @@ CASES: Cases = {
         ANSWERED + ACKED + FLUSH + "step main deliver 3\nstep main deliver 2",
         [
             "1. short update 1.1: stale: the source end's lo 6001 here is after the 5000 that came; "
-            "the destination end came as SYN_SENT, and is ESTABLISHED here"
+            "the destination end came as SYN_SENT, and is ESTABLISHED here; b queues its own state for a, as a short update"
         ],
     ),
     "merged in part": (
@@ -58,14 +62,32 @@ CASES: Cases = {
         + "step main deliver 3",
         [
             "1. short update 1.1: merged in part, counted as stale: the source end is taken; "
-            "the destination end's lo 10001 here is after the 9001 that came; last used at 0 ms"
+            "the destination end's lo 10001 here is after the 9001 that came; last used at 0 ms; "
+            "b has its own state queued for a already (short update)",
+            # By its level b's destination end is the older one.
+            "a would find b's own 1.1 stale in turn, unless it has heard more since: "
+            "by this project's profile the two can go on so without end (docs/REAL.md)",
+            TAKES.format("the destination end of 1.1 too, since the source end is not stale"),
+        ],
+    ),
+    "merged in part, and at rest after an answer": (
+        # What a has of the destination is older in number, and not newer in level.
+        ANSWERED
+        + "step main deliver 2\nstep main packet b in tcp 192.0.2.9:80 10.0.0.1:1000 A 9001 5001 60000 1000\n"
+        + (FLUSH_B + ACKED.replace(" A ", " P ") + FLUSH + "step main deliver 4"),
+        [
+            "frame 4 came to node b with 1 record:",
+            "1. short update 1.1: merged in part, counted as stale: the source end is taken; "
+            "the destination end's lo 10001 here is after the 9001 that came; last used at 0 ms; "
+            "b queues its own state for a, as a short update",
+            TAKES.format("the destination end of 1.1 too, since the source end is not stale"),
         ],
     ),
     "stale by level, of UDP": (
         OPEN + QUERY + SYNC + QUERY + FLUSH + ANSWER + "step main deliver 2",
         [
             "1. short update 1.1: stale: the source end came as SINGLE, and is MULTIPLE here; "
-            "the destination end came as NO_TRAFFIC, and is SINGLE here"
+            "the destination end came as NO_TRAFFIC, and is SINGLE here; b has its own state queued for a already (short update)"
         ],
     ),
     "unknown": (
@@ -92,6 +114,14 @@ CASES: Cases = {
         OPEN + QUERY + QUERY.replace(" a ", " b ") + SYNC,
         ["1. insert 1.1: bad: its wire key is in use: b has state 2.1 for 10.0.0.1:1000 and 192.0.2.9:53"],
     ),
+    "bad, the key is that of a closed connection": (
+        CLOSED_THEN_NEW,
+        [
+            "1. insert 1.2: bad: its wire key is in use: b has state 1.1 for 10.0.0.1:1000 and 192.0.2.9:80",
+            "2. short delete 1.1: deleted",
+            TAKES.format("over 1.2, since what has the key is closed at both ends"),
+        ],
+    ),
     "bad, the deletion is to be told": (
         OPEN + QUERY + FLUSH + "step main repeat 1\nstep main deliver 1\nstep main kill b 1.1\nstep main deliver 2",
         ["1. insert 1.1: bad: b has deleted the state, and has yet to report that"],
@@ -114,7 +144,28 @@ CASES: Cases = {
     ),
     "all asked for": (
         OPEN + QUERY + SYNC + "step main restart b\nstep main flush b\nstep main deliver 2",
-        ["1. update request of all states: a has 1 state to send"],
+        [
+            "1. update request of all states: a begins a bulk update",
+            "as a is after this frame, the bulk update has 1 state to send: 1.1",
+        ],
+    ),
+    "all asked for, where nothing may be sent": (
+        # The one state is on the insert queue, and the other one of a rule with `no-sync`.
+        "rule a pass out\nrule a pass out from 10.0.0.2/32 no-sync\nopen\n"
+        + (QUERY + SECOND + "step main restart b\nstep main flush b\nstep main deliver 1"),
+        [
+            "1. update request of all states: a begins a bulk update",
+            "as a is after this frame, the bulk update has 0 states to send; "
+            "turns pass over states that are queued already or `no-sync`",
+        ],
+    ),
+    "all asked for, with a state in the same frame": (
+        "rule b pass out\nopen\nstep main restart b\n" + QUERY.replace(" a ", " b ") + "step main flush b\nstep main deliver 1",
+        ["as a is after this frame, the bulk update has 1 state to send: 3.1"],
+    ),
+    "all asked for, where there is no state": (
+        OPEN + "step main restart b\nstep main flush b\nstep main deliver 1",
+        ["1. update request of all states: a has no state to send: the bulk update is over at once"],
     ),
     "the end of a bulk update": (
         OPEN + "step main restart b\nstep main flush b\nstep main deliver 1\nstep main flush a\nstep main deliver 2",
@@ -186,6 +237,15 @@ class RecordReasons(unittest.TestCase):
                 lines = reasons(script)
                 for line in expected:
                     self.assertIn(line, lines)
+                # Where the kernel does otherwise is said only where that is expected.
+                self.assertEqual([it for it in lines if "REAL.md" in it], [it for it in expected if "REAL.md" in it])
+
+    def test_keys_that_the_kernel_leaves_to_their_states(self) -> None:
+        """The state that has them is not closed, or there may be no room."""
+        half_closed = CLOSED_THEN_NEW.replace(RESET + SYNC, SYNC + RESET)
+        for name, script in (("half closed", half_closed), ("little room", "set states 2\n" + CLOSED_THEN_NEW)):
+            with self.subTest(name):
+                self.assertNotIn("REAL.md", "".join(reasons(script)))
 
 
 if __name__ == "__main__":

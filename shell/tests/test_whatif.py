@@ -293,7 +293,7 @@ class Groups(Tries):
         self.assertEqual(lines[3], "1  1 fault: at the end the nodes go on answering each other")
         # One has the destination end in a higher level, and the other with a later number: so each finds the other's stale.
         self.assertIn("the destination end came as SYN_SENT, and is ESTABLISHED here", lines[7])
-        self.assertIn("the destination end's lo 60001 here is after the 1 that came", lines[10])
+        self.assertIn("the destination end's lo 60001 here is after the 1 that came", lines[12])
 
     def test_a_run_that_comes_to_rest_no_more(self) -> None:
         client, server, tcp = "10.0.0.17:51512", "192.0.2.80:443", "packet a out tcp"

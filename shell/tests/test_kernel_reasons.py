@@ -1,0 +1,71 @@
+"""Where `why` of a packet that is dropped for its window says that FreeBSD's kernel passes it. The numbers are worked out by hand."""
+from __future__ import annotations
+
+import unittest
+from typing import Dict, List, Tuple
+
+from . import reasons
+from .test_reasons import FAR_FIN, FIN, OPEN, SYN, SYN_ACK
+
+PACKET = "step main packet a out tcp 10.0.0.1:1000 192.0.2.9:80 "
+FAR_PACKET = "step main packet a in tcp 192.0.2.9:80 10.0.0.1:1000 "
+# The source's lo is 5000, its hi 65001; the destination's lo is 9001, its hi 9001 + 65535. An acknowledgement may be 67035 ahead.
+KNOWN = OPEN + SYN + SYN_ACK
+# The destination has not been heard: the source's lo is 5000, its hi 5002.
+UNHEARD = OPEN + SYN
+# The same without scales, and the destination's lo is 500001: further from 0 than an acknowledgement may be behind.
+HIGH = OPEN + PACKET + "S 5000 0 60000 0\n" + FAR_PACKET + "SA 500000 5001 60000 0\n"
+
+LEAST, MOST = (5000 - 67035) % 2**32, 5002 + 67035
+NO_DATA = "it judges a packet without data by what it acknowledges alone"
+UNHEARD_END = "where the other end was not heard, a packet may begin 67035 before lo, and end 67035 after hi"
+CLOSED_END = "where an end has closed, a packet may begin 67035 before lo, and end 67035 after hi"
+FIRST = "an end that it has not heard begins with its first packet, whatever its level"
+
+# Of each packet that is dropped here: a script, and why the kernel passes it, if it does.
+CASES: Dict[str, Tuple[str, str]] = {
+    "no data": (KNOWN + PACKET + "A 200000 9001 100 0", NO_DATA),
+    "one byte": (KNOWN + PACKET + "A 200000 9001 100 1", ""),
+    "a FIN is like a byte": (KNOWN + PACKET + "FA 200000 9001 100 0", ""),
+    "no data, and a far acknowledgement": (KNOWN + PACKET + f"A 200000 {9001 + 67036} 100 0", ""),
+    "no data, and an acknowledgement just near": (KNOWN + PACKET + f"A 200000 {9001 + 67035} 100 0", NO_DATA),
+    "the acknowledgement 0 of a reset": (HIGH + PACKET + "RA 5001 0 0 0", "it does not look at the acknowledged number 0 of a reset"),
+    "the same of an end that was not heard": (
+        OPEN + PACKET + "S 500000 0 60000 0\n" + FAR_PACKET + "RA 7 0 0 0",
+        "it does not look at the acknowledged number 0 of a reset",
+    ),
+    "a reset one before the next number": (UNHEARD + PACKET + "R 4999 0 0 0", "a reset may have the next number, or one beside it"),
+    "the acknowledgement 0 of another packet": (HIGH + PACKET + "A 5001 0 0 0", ""),
+    "the first packet of an end that a reset closed": (UNHEARD + PACKET + "R 5001 0 0 0\n" + SYN_ACK, FIRST),
+    "the other end was not heard": (UNHEARD + PACKET + "PA 5001 1 100 1000", UNHEARD_END),
+    "the other end was not heard, at the most": (UNHEARD + PACKET + f"PA {MOST - 1000} 1 100 1000", UNHEARD_END),
+    "the other end was not heard, above that": (UNHEARD + PACKET + f"PA {MOST - 999} 1 100 1000", ""),
+    "the other end was not heard, at the least": (UNHEARD + PACKET + f"PA {LEAST} 1 100 1000", UNHEARD_END),
+    "the other end was not heard, below that": (UNHEARD + PACKET + f"PA {LEAST - 1} 1 100 1000", ""),
+    "the other end has closed": (KNOWN + FIN + FAR_FIN + FAR_PACKET + f"A {9001 + 65535} 5002 100 100", CLOSED_END),
+    # (the far FIN has offered 60000 at scale 3 from 5002 on)
+    "the sender has closed": (KNOWN + FIN + FAR_FIN + PACKET + f"PA {5002 + 480000} 9002 100 100", CLOSED_END),
+    "an end is closing": (KNOWN + FIN + PACKET + "PA 65001 9001 100 100", ""),
+}
+
+
+def of_kernel(script: str) -> List[str]:
+    """What is said of the kernel."""
+    return [it for it in reasons(script) if "REAL.md" in it]
+
+
+class KernelReasons(unittest.TestCase):
+    def test_packets_that_the_kernel_passes(self) -> None:
+        for name, (script, why) in CASES.items():
+            with self.subTest(name):
+                lines = [f"FreeBSD's kernel, as far as we know its sources, passes this packet: {why} (docs/REAL.md)"]
+                self.assertEqual(of_kernel(script), lines if why else [])
+
+    def test_resets(self) -> None:
+        """A kernel before 13.2-RELEASE-p7 judged them like any packet without data."""
+        old = "may pass this packet: before 13.2-RELEASE-p7 it does not test the number of a reset"
+        self.assertEqual(of_kernel(KNOWN + PACKET + "R 200000 0 0 0"), [f"FreeBSD's kernel, as far as we know its sources, {old} (docs/REAL.md)"])
+
+
+if __name__ == "__main__":
+    unittest.main()
