@@ -26,18 +26,21 @@ CHART = "chart"
 NOTES = "notes"
 WHATIF = "whatif"
 VIEW = "view"
-WHATIF_OPTIONS = ("--faults KINDS", "--watch WHAT", "--from K", "--to L", "--pairs", "--only N", "--out FILE.pfl")
+WHATIF_OPTIONS = (
+    "--faults KINDS", "--watch WHAT", "--from K", "--to L", "--pairs", "--flushing", "--only N", "--out FILE.pfl"
+)
 WHATIF_PARTS = "\n".join(
     (
         "The events of the branch that stand happen again with each fault, and then what is pending is sent and delivered, as by `quiet`; "
         "nothing changes here. The groups that change most come first, each with the reason in its first fault.",
         "--faults KINDS: only these, joined by commas: undone (a loss, cut, repeat, restart, kill or clear of the run as if it had not "
-        "happened), lose, twice, cut, late, last (a frame), skip (a packet or another event of a node), restart, clock (61 s ahead).",
-        "--watch WHAT: shows only the groups in which a packet passes that did not (pass), or the reverse (drop), in which the nodes "
-        "differ in another way at the end (apart), or in which the packets of events with these numbers get other verdicts; joined by "
-        "commas.",
+        "happened), lose, twice, late, last (a frame), skip (a packet or another event of a node), restart, clock (61 s ahead).",
+        "--watch WHAT: shows only the groups in which a packet passes that did not (pass), or the reverse (drop), in which a flow of the "
+        "run's end is on neither node (gone), in which the nodes differ in another way at the end (apart), or in which the packets of "
+        "events with these numbers get other verdicts; joined by commas.",
         "--from K, --to L: faults at these events.",
         "--pairs: every two faults together; restarts and clocks only if --faults names them.",
+        "--flushing: what a fault gives a node to send is sent, and arrives, before the next event of the run.",
         "--only N: shows only the N-th group, with all of its faults and the whole reason.",
         "--out FILE.pfl: writes the dialogue as a script, with a branch for the first fault of each group that is shown.",
         "An interrupt (Ctrl-C) ends it and shows what was found.",

@@ -66,8 +66,6 @@ class Faults(Tries):
         course = self.course(TWO)
         self.assertEqual(self.names(course, "lose"), ["frame 1 lost (event 3)", "frame 2 lost (event 6)"])
         self.assertEqual(self.names(course, "twice"), ["frame 1 twice (event 3)", "frame 2 twice (event 6)"])
-        # (the first has 148 bytes and the second 68: the middle between byte 24, where records begin, and the end)
-        self.assertEqual(self.names(course, "cut"), ["frame 1 cut to 86 bytes (event 3)", "frame 2 cut to 46 bytes (event 6)"])
         # (3 events late is last, and so is 4)
         self.assertEqual(self.names(course, "late"), ["frame 1 late by 1 event (event 3)", "frame 1 late by 2 events (event 3)"])
         self.assertEqual(self.names(course, "last"), ["frame 1 last (event 3)"])
@@ -108,16 +106,16 @@ class Faults(Tries):
                 "without event 8 (restart a)",
             ],
         )
-        # (what was cut is not cut again, and what was lost not lost)
-        self.assertEqual(self.names(self.course(events), "lose", "cut"), ["frame 1 lost (event 6)"])
+        # (what was lost is not lost again)
+        self.assertEqual(self.names(self.course(events), "lose"), ["frame 1 lost (event 6)"])
 
     def test_all_of_a_small_run(self) -> None:
-        # Frame 1 lost, twice, cut, last; three events left out; four places for restarts and for clocks of two nodes.
-        self.assertEqual(len(self.names(self.course(ARRIVES))), 1 + 1 + 1 + 1 + 3 + 8 + 8)
+        # Frame 1 lost, twice, last; three events left out; four places for restarts and for clocks of two nodes.
+        self.assertEqual(len(self.names(self.course(ARRIVES))), 1 + 1 + 1 + 3 + 8 + 8)
 
     def test_two_faults_that_cannot_both_be_make_no_pair(self) -> None:
         course = self.course(ARRIVES)
-        one_frame = faults_of(course, ("lose", "twice", "cut", "last"), 1, 4)
+        one_frame = faults_of(course, ("lose", "twice", "last"), 1, 4)
         self.assertEqual(list(pairs_of(one_frame)), [])
         # Of frame 1 lost and last with each of three events left out.
         both = faults_of(course, ("lose", "last", "skip"), 1, 4)
@@ -211,52 +209,82 @@ class Groups(Tries):
     """Which faults change the same."""
 
     def test_a_frame_that_everything_hangs_on(self) -> None:
+        other = "at the end changed on a and b (levels, class)"
         self.assertEqual(
             self.lines(ARRIVES),
             [
-                "main, 4 events: 23 single faults, each by itself",
+                "main, 4 events: 22 single faults, each by itself",
                 "as it was, once nothing is pending or in flight: a and b agree in 1 state",
                 "",
-                f"1  2 faults: event 4 pass -> drop block; at the end only on a: {FLOW}",
-                "   frame 1 lost (event 3); frame 1 cut to 86 bytes (event 3)",
+                f"1  1 fault: event 4 pass -> drop block; at the end only on a: {FLOW}",
+                "   frame 1 lost (event 3)",
                 f"   {ANSWER}: drop block",
                 "     rule 0 of b (block any) decided: it is the last rule that matches",
                 f"     node a has state 1.1 ({FLOW}) for this flow; b does not: its insertion was lost in frame 1 (event 3)",
                 "",
-                # Last; without the query or the flush; a restarts with the state untold; b restarts with it.
-                "2  5 faults: event 4 pass -> drop block",
-                "   frame 1 last (event 3); without event 1 (packet a out udp 10.0.0.1:1000 192.0.2.9:53); without event 2 (flush a); and 2 more",
+                # The frame comes after the answer, of which the state has then nothing.
+                f"2  3 faults: event 4 pass -> drop block; {other}: {FLOW}",
+                "   frame 1 last (event 3); without event 2 (flush a); b restarts before event 4",
                 f"   {ANSWER}: drop block",
                 "     rule 0 of b (block any) decided: it is the last rule that matches",
                 f"     node a has state 1.1 ({FLOW}) for this flow; b does not: frame 1, which brings it (event 2), is still in flight",
                 "",
-                "3  16 faults: every packet and state as it was",
-                "   frame 1 twice (event 3); without event 4 (packet b in udp 192.0.2.9:53 10.0.0.1:1000); a restarts before event 1; and 13 more",
+                # The state is lost before it is sent.
+                f"3  1 fault: event 4 pass -> drop block; at the end on neither node: {FLOW}",
+                "   a restarts before event 2",
+                f"   {ANSWER}: drop block",
+                "     rule 0 of b (block any) decided: it is the last rule that matches",
+                "",
+                f"4  1 fault: event 4 pass -> drop block; at the end on neither node: {FLOW}",
+                "   without event 1 (packet a out udp 10.0.0.1:1000 192.0.2.9:53)",
+                "   event 4 could not have come: it answers event 1, which is left out",
+                f"     as it was on a and b: 1.1  {FLOW}  MULTIPLE:SINGLE",
+                "   refused there: event 2 (flush a): NothingPending",
+                "",
+                f"5  1 fault: {other}: {FLOW}",
+                "   without event 4 (packet b in udp 192.0.2.9:53 10.0.0.1:1000)",
+                f"     on a and b: 1.1  {FLOW}  source level MULTIPLE -> SINGLE, destination level SINGLE -> NO_TRAFFIC,"
+                " class udp.single -> udp.first",
+                "",
+                "6  15 faults: every packet and state as it was",
+                "   frame 1 twice (event 3); a restarts before event 1; a restarts before events 3 to 4; and 11 more",
             ],
         )
 
     def test_a_loss_that_had_not_been(self) -> None:
         lines = self.lines(LOST, "--faults", "undone")
         self.assertEqual(lines[1], "as it was, once nothing is pending or in flight: a and b differ in 1 state: 1 only on a, 0 only on b, 0 differ")
-        self.assertEqual(lines[3:5], [f"1  1 fault: event 4 drop block -> pass; at the end no longer only on a: {FLOW}", "   frame 1 not lost (event 3)"])
+        self.assertEqual(lines[3:5], [f"1  1 fault: event 4 drop block -> pass; at the end on both nodes, not only on a: {FLOW}", "   frame 1 not lost (event 3)"])
         self.assertEqual(lines[5], f"   {ANSWER}: pass 1.1")
 
     def test_a_state_under_another_name_is_no_change(self) -> None:
-        # Without the first query the second one's state is 1.1 in place of 1.2.
+        # If a restarts before anything comes, the state is 3.1 in place of 1.1.
+        self.assertEqual(self.heads(ARRIVES, "--faults", "restart", "--to", "1"), ["1  2 faults: every packet and state as it was"])
+        # Without the first query the second one's state is 1.1 in place of 1.2, and is no change.
         second = QUERY.replace(":1000", ":1001")
-        self.assertEqual(self.heads([QUERY, second, "flush a", "deliver 1", second], "--faults", "skip", "--to", "1"), ["1  1 fault: every packet and state as it was"])
+        heads = self.heads([QUERY, second, "flush a", "deliver 1", second], "--faults", "skip", "--to", "1")
+        self.assertEqual(heads, [f"1  1 fault: at the end on neither node: {FLOW}"])
 
     def test_states_that_are_apart_come_after_verdicts(self) -> None:
         second = QUERY.replace(":1000", ":1001")
-        # With the frame lost only a has the first flow; without the first flush, its frame and the second query nothing changes.
+        # With the frame lost only a has the first flow; without the second query no node has its flow.
         heads = self.heads([*ARRIVES[:3], second], "--faults", "lose,skip", "--from", "2")
-        self.assertEqual(heads, [f"1  1 fault: at the end only on a: {FLOW}", "2  2 faults: every packet and state as it was"])
-        # Left out, the first of two packets that one rule may have a state of lets the second one pass.
-        heads = self.heads([QUERY, "flush a", "deliver 1", second], "--faults", "lose,skip", setup="rule a pass out max 1\nopen\n")
+        gone = f"at the end on neither node: {FLOW}"
         self.assertEqual(
             heads,
             [
-                "1  1 fault: event 4 drop max -> pass",
+                f"1  1 fault: {gone.replace(':1000', ':1001')}",
+                f"2  1 fault: at the end only on a: {FLOW}",
+                "3  1 fault: every packet and state as it was",
+            ],
+        )
+        # Left out, the first of two packets that one rule may have a state of lets the second one pass.
+        heads = self.heads([QUERY, "flush a", "deliver 1", second], "--faults", "lose,skip", setup="rule a pass out max 1\nopen\n")
+        new = f"at the end new on both nodes: {FLOW.replace(':1000', ':1001')}"
+        self.assertEqual(
+            heads,
+            [
+                f"1  1 fault: event 4 drop max -> pass; {new}; {gone}",
                 f"2  1 fault: at the end only on a: {FLOW}",
                 "3  2 faults: every packet and state as it was",
             ],
@@ -265,19 +293,59 @@ class Groups(Tries):
         self.assertEqual(lines[5], "   a and b differ in 1 state: 1 only on a, 0 only on b, 0 differ")
         self.assertEqual(lines[6], f"     only on a: 1.1  {FLOW}  SINGLE:NO_TRAFFIC  expires in 59 s")
 
-    def test_refused_events_come_before_what_is_harmless(self) -> None:
-        # The first packet of a flow that only a has rules for; without it the flush has nothing to send.
-        lines = self.lines([QUERY, "flush a"], "--faults", "skip,lose")
-        self.assertEqual(lines[3], f"1  1 fault: at the end only on a: {FLOW}")
-        self.assertEqual(lines[7:10], ["", "2  1 fault: every packet and state as it was, but refused: event 2 (flush a)", "   without event 1 (packet a out udp 10.0.0.1:1000 192.0.2.9:53)"])
-        self.assertEqual(lines[10], "   flush a: refused 2 NothingPending")
-        self.assertEqual(lines[13], "3  1 fault: every packet and state as it was")
+    def test_a_state_that_is_gone_from_both_nodes(self) -> None:
+        # The frame with the state is lost, and then the node that made it restarts: it asks the other one, which has nothing.
+        lines = self.lines([*ARRIVES[:3], "restart a"], "--faults", "lose,undone")
+        self.assertEqual(lines[1], "as it was, once nothing is pending or in flight: a and b agree in 1 state")
+        self.assertEqual(
+            lines[3:],
+            [
+                f"1  1 fault: at the end on neither node: {FLOW}",
+                "   frame 1 lost (event 3)",
+                f"     as it was on a and b: 1.1  {FLOW}  SINGLE:NO_TRAFFIC",
+                "",
+                "2  1 fault: every packet and state as it was",
+                "   without event 4 (restart a)",
+            ],
+        )
+
+    def test_a_state_that_a_purge_takes(self) -> None:
+        # a's clock is 61 s on when it purges: the state has expired, and its deletion takes it from b.
+        heads = self.heads([*ARRIVES[:3], "purge a"], "--faults", "clock", "--from", "4")
+        self.assertEqual(heads, [f"1  1 fault: at the end on neither node: {FLOW}", "2  1 fault: every packet and state as it was"])
+
+    def test_a_node_that_waits_for_a_bulk_update(self) -> None:
+        # b restarts; its request comes to a, whose answer is one frame.
+        events = [*ARRIVES[:3], "restart b", "flush b", "deliver 2", "turn a", "flush a", "deliver 3"]
+        lines = self.lines(events, "--faults", "lose", "--from", "6")
+        # (the request lost, no update is begun; its answer lost, the state is lost with it)
+        self.assertEqual(
+            [it for it in lines if it[:1].isdigit()],
+            [f"1  2 faults: at the end only on a: {FLOW}; at the end b waits for a bulk update"],
+        )
+
+    def test_a_state_that_is_otherwise_on_one_node(self) -> None:
+        # Node b has other rules. Once a has its state back from b, it is of no rule of a's.
+        lines = self.lines(ARRIVES[:3], "--faults", "restart", "--from", "3", setup="rule a pass out\nopen\n")
+        head = f"1  1 fault: at the end changed on a (rule): {FLOW}"
+        self.assertEqual(lines[3:6], [head, "   a restarts before event 3", f"     on a: 1.1  {FLOW}  rule 0 -> none"])
+
+    def test_refused_events_come_before_what_is_as_it_was(self) -> None:
+        # With `defer`: b has nothing to acknowledge yet if frame 1 comes after b's flush, and does so at the end.
+        events = [*ARRIVES[:3], "flush b", "deliver 2"]
+        lines = self.lines(events, "--faults", "late,twice", setup=f"set defer 1\n{SETUP}")
+        self.assertEqual(lines[3:5], ["1  1 fault: every packet and state as it was, but refused: event 4 (flush b)", "   frame 1 late by 1 event (event 3)"])
+        self.assertEqual(lines[5], "   flush b: refused 2 NothingPending")
+        self.assertEqual(lines[8], "2  2 faults: every packet and state as it was")
 
     def test_a_packet_that_is_refused_is_dropped(self) -> None:
         # One entry may be pending; the restart of a lists a request, and no packet can queue its state any more.
         lines = self.lines([QUERY], "--faults", "restart", setup=f"set queue 1\n{SETUP}")
-        self.assertEqual(lines[3:6], ["1  1 fault: event 1 pass -> refused QueueFull", "   a restarts before event 1", f"   {QUERY}: refused 5 QueueFull"])
+        head = f"1  1 fault: event 1 pass -> refused QueueFull; at the end on neither node: {FLOW}"
+        self.assertEqual(lines[3:6], [head, "   a restarts before event 1", f"   {QUERY}: refused 5 QueueFull"])
         self.assertIn("refused there", lines[-4])
+        # If b restarts, a has no room for the start of the update that it asks for and for the state as well.
+        self.assertEqual(lines[-2], "2  1 fault: at the end `turn a` is refused; the end was not compared")
 
     def test_a_fault_that_is_refused_itself(self) -> None:
         # The link carries one frame, so that there is no room for its copy.
@@ -290,7 +358,7 @@ class Groups(Tries):
             lab = laboratory("\n".join(it for it in script.read().splitlines() if not it.startswith("#")))
         self.addCleanup(lab.close)
         lines = answer(lab, lab.branch("main"), read(["--faults", "last", "--from", "10", "--to", "10"])[1], PLAIN, quiet_progress, lambda: "").lines
-        self.assertEqual(lines[3], "1  1 fault: at the end the nodes go on answering each other")
+        self.assertEqual(lines[3], "1  1 fault: at the end the nodes go on answering each other; the end was not compared")
         # One has the destination end in a higher level, and the other with a later number: so each finds the other's stale.
         self.assertIn("the destination end came as SYN_SENT, and is ESTABLISHED here", lines[7])
         self.assertIn("the destination end's lo 60001 here is after the 1 that came", lines[12])
@@ -303,8 +371,28 @@ class Groups(Tries):
         events += [f"packet b in tcp {server} {client} A 1 401 60000 60000", "deliver 3"]
         lines = self.lines(events, "--faults", "skip", "--from", "9")
         self.assertEqual(lines[1], "as it was, at the end the nodes go on answering each other")
-        self.assertEqual(lines[3], "1  1 fault: at the end nothing is pending or in flight any more")
+        rest = "the end was not compared: the run does not come to rest: at the end the nodes go on answering each other"
+        self.assertEqual(lines[3], f"1  1 fault: at the end nothing is pending or in flight any more; {rest}")
         self.assertEqual(lines[4], f"   without event 9 (packet b in tcp {server} {client})")
+        # (of another fault it is not known whether anything changes)
+        lines = self.lines(events, "--faults", "twice", "--from", "6", "--to", "6")
+        self.assertEqual(lines[3], f"1  1 fault: no packet judged otherwise; {rest}")
+
+    def test_a_run_in_which_what_is_in_flight_cannot_arrive(self) -> None:
+        # One entry may be pending: frame 2, b's request, would queue a second one at a, which has its clear to send. Doubled, the
+        # first of the copies is refused all the same, and that is no change.
+        events = [*ARRIVES[:3], "clear a", "restart b", "flush b"]
+        lines = self.lines(events, "--faults", "lose,twice", setup="set queue 1\nrule a pass out\nrule b pass out\nopen\n")
+        self.assertEqual(lines[1], "as it was, at the end `deliver 2` is refused")
+        rest = "the end was not compared: the run does not come to rest: at the end `deliver 2` is refused"
+        self.assertEqual(
+            [it for it in lines if it[:1].isdigit()],
+            [
+                f"1  1 fault: at the end nothing is pending or in flight any more; {rest}",
+                f"2  3 faults: no packet judged otherwise; {rest}",
+            ],
+        )
+        self.assertEqual(lines[4], "   frame 2 lost (sent by event 6)")
 
     def test_the_same_words_give_the_same_answer(self) -> None:
         self.assertEqual(self.lines(TWO), self.lines(TWO))
@@ -323,45 +411,61 @@ class Options(Tries):
         self.assertEqual(self.lines(TWO, "--faults", "lose,late", "--from", "3", "--to", "4")[0], "main, 6 events: 3 single faults at events 3 to 4 (lose, late), each by itself")
 
     def test_watch(self) -> None:
-        self.assertEqual(len(self.heads(ARRIVES, "--watch", "drop")), 2)
+        # (without the query, the answer that is dropped could not have come)
+        self.assertEqual([it[0] for it in self.heads(ARRIVES, "--watch", "drop")], ["1", "2", "3"])
+        self.assertEqual([it[0] for it in self.heads(ARRIVES, "--watch", "gone")], ["3", "4"])
         self.assertEqual(self.lines(ARRIVES, "--watch", "pass")[-1], "no fault changes that")
         self.assertEqual([it[0] for it in self.heads(ARRIVES, "--watch", "apart")], ["1"])
-        self.assertEqual([it[0] for it in self.heads(ARRIVES, "--watch", "pass,4")], ["1", "2"])
+        self.assertEqual([it[0] for it in self.heads(ARRIVES, "--watch", "pass,4")], ["1", "2", "3", "4"])
         self.assertEqual(self.heads(ARRIVES, "--watch", "1"), [])
         self.assertEqual(self.heads(LOST, "--watch", "pass", "--faults", "undone")[0][:9], "1  1 faul")
 
     def test_one_group_has_all_its_faults_and_the_whole_reason(self) -> None:
         lines = self.lines(ARRIVES, "--only", "2")
-        self.assertEqual([it for it in lines if it[:1].isdigit()], ["2  5 faults: event 4 pass -> drop block"])
-        self.assertTrue(lines[4].endswith("without event 2 (flush a); a restarts before event 2; b restarts before event 4"))
-        with self.assertRaisesRegex(Unknown, "there is no group 9: they are numbered from 1 to 3"):
+        head = f"2  3 faults: event 4 pass -> drop block; at the end changed on a and b (levels, class): {FLOW}"
+        self.assertEqual([it for it in lines if it[:1].isdigit()], [head])
+        self.assertEqual(lines[4], "   frame 1 last (event 3); without event 2 (flush a); b restarts before event 4")
+        with self.assertRaisesRegex(Unknown, "there is no group 9: they are numbered from 1 to 6"):
             self.lines(ARRIVES, "--only", "9")
 
     def test_what_happens_before_one_event_after_another_has_one_name(self) -> None:
-        lines = self.lines(ARRIVES, "--faults", "restart", "--only", "2")
+        lines = self.lines(ARRIVES, "--faults", "restart", "--only", "3")
         self.assertEqual(lines[4], "   a restarts before event 1; a restarts before events 3 to 4; b restarts before events 1 to 3")
 
     def test_pairs(self) -> None:
-        # The loss alone drops the answer, and the state stays on a alone. If a restarts as well once the frame is sent, no node has
-        # the state; if b restarts before the answer, it asks for all states, and gets this one after the answer. A restart of a
-        # before the frame is sent, and one of b after its loss, drop the answer by themselves, and the nodes agree at the end.
-        lines = self.lines(ARRIVES, "--pairs", "--faults", "lose,restart", "--only", "1")
+        # The loss alone drops the answer, and the state stays on a alone. If a restarts as well, its request is lost with the frame if
+        # it is in there, and the state is new if the query comes after that, and else gone. If b restarts before the answer, it asks for
+        # all states, and gets this one after the answer.
+        lines = self.lines(ARRIVES, "--pairs", "--faults", "lose,restart")
         self.assertEqual(lines[0], "main, 4 events: 9 single faults (lose, restart), two together: 36 pairs")
-        self.assertEqual(lines[3], "1  5 pairs: event 4 pass -> drop block")
-        with_loss = [f"frame 1 lost (event 3) and {it}" for it in ("a restarts before event 3", "a restarts before event 4")]
-        with_loss += [f"frame 1 lost (event 3) and b restarts before event {it}" for it in (1, 2, 3)]
-        self.assertEqual(lines[4], f"   {'; '.join(with_loss)}")
-        self.assertEqual(lines[-1], "31 more pairs change what one of the two changes alone, or each of them alone")
+        dropped, waits = "event 4 pass -> drop block; at the end", "; at the end a waits for a bulk update"
+        self.assertEqual(
+            [it for it in lines[:-1] if it[:1].isdigit()],
+            [
+                f"1  1 pair: {dropped} only on a: {FLOW}{waits}",
+                # (lost, and a restarts before event 2; or it does so, and the end of its update waits at b when that restarts)
+                f"2  2 pairs: {dropped} on neither node: {FLOW}{waits}",
+                # (lost, or b restarts before event 4; and a restarts before event 3 or 4)
+                f"3  4 pairs: {dropped} on neither node: {FLOW}",
+                # (lost, and b restarts before event 1, 2 or 3; before event 4 it drops the answer by itself)
+                f"4  3 pairs: {dropped} changed on a and b (levels, class): {FLOW}",
+                f"5  1 pair: {dropped} changed on a and b (levels, class): {FLOW}{waits}",
+            ],
+        )
+        self.assertEqual(lines[-1], "25 more pairs change what one of the two changes alone, or each of them alone")
 
     def test_a_packet_that_one_fault_of_a_pair_leaves_out_is_no_change(self) -> None:
-        # Without the query both answers are dropped. Without the query and one answer, the other one is.
+        # Without the query both answers are dropped. Without the query and one answer, the other one is. Without both answers the state
+        # has heard of none, which either answer alone makes up for.
         lines = self.lines([QUERY, "packet a in udp 192.0.2.9:53 10.0.0.1:1000 80", "packet a in udp 192.0.2.9:53 10.0.0.1:1000 90"], "--pairs")
-        self.assertEqual(lines[3:], ["no pair does more than its two faults alone"])
         self.assertEqual(lines[0], "main, 3 events: 3 single faults, two together: 3 pairs")
+        self.assertEqual(lines[3], f"1  1 pair: at the end changed on a and b (levels, class): {FLOW}")
+        self.assertEqual(lines[-1], "2 more pairs change what one of the two changes alone, or each of them alone")
+        self.assertEqual(self.lines([QUERY, "tick a 1"], "--pairs", "--faults", "skip")[-1], "nothing was tried")
 
     def test_pairs_are_without_restarts_and_clocks_by_default(self) -> None:
-        # Seven single faults: four of frame 1, and three events left out.
-        self.assertEqual(self.lines(ARRIVES, "--pairs")[0], "main, 4 events: 7 single faults, two together: 15 pairs")
+        # Six single faults: three of frame 1, and three events left out.
+        self.assertEqual(self.lines(ARRIVES, "--pairs")[0], "main, 4 events: 6 single faults, two together: 12 pairs")
 
     def test_events_that_are_not_there(self) -> None:
         for words, told in (
@@ -375,7 +479,7 @@ class Options(Tries):
     def test_words_that_are_not_understood(self) -> None:
         for words, told in (
             (["--faults", "loose"], r"`loose` is not a kind of fault \(did you mean `lose`\?\)"),
-            (["--watch", "fail"], "`fail` is not pass, drop, apart or the number of an event"),
+            (["--watch", "fail"], "`fail` is not pass, drop, gone, apart or the number of an event"),
             (["--watch", "0"], "`0` is not"),
             (["--from", "0"], "counted from 1 on"),
             (["--only", "x"], "groups are numbered from 1 on"),
@@ -400,7 +504,7 @@ class Options(Tries):
         self.assertEqual(len(course_of(lab, lab.branch("main"))), 3)
 
     def test_too_many_events(self) -> None:
-        with patch.object(tries, "MOST_EVENTS", 10), self.assertRaisesRegex(Unknown, "main has 4 events that stand and 23 single faults, whose runs have .* --from K and --to L"):
+        with patch.object(tries, "MOST_EVENTS", 10), self.assertRaisesRegex(Unknown, "main has 4 events that stand and 22 single faults, whose runs have .* --from K and --to L"):
             self.lines(ARRIVES)
         # (nobody asks for pairs by mistake, and an interrupt ends them)
         with patch.object(tries, "MOST_EVENTS", 10):
@@ -414,9 +518,9 @@ class Options(Tries):
         lab = self.lab(ARRIVES)
         found = answer(lab, lab.branch("main"), read([])[1], PLAIN, stop, lambda: "")
         self.assertTrue(found.is_interrupted)
-        # Lost, twice and cut are tried.
-        self.assertEqual(found.lines[2], "interrupted: 3 of 23 are tried")
-        self.assertEqual([it for it in found.lines if it[:1].isdigit()][1:], ["2  1 fault: every packet and state as it was"])
+        # Lost, twice and last are tried.
+        self.assertEqual(found.lines[2], "interrupted: 3 of 22 are tried")
+        self.assertEqual([it for it in found.lines if it[:1].isdigit()][2:], ["3  1 fault: every packet and state as it was"])
 
 
 if __name__ == "__main__":

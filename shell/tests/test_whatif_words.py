@@ -66,7 +66,7 @@ class Command(Written):
 
     def test_another_branch(self) -> None:
         self.file("night.pfl", f"{SCRIPT}fork main 3 other\n")
-        self.assertEqual(said_by(self.script, "--branch", "other")[1][0], "other, 3 events: 17 single faults, each by itself")
+        self.assertEqual(said_by(self.script, "--branch", "other")[1][0], "other, 3 events: 16 single faults, each by itself")
         self.assertEqual(said_by(self.script, "--branch", "otter")[2], "lab: there is no branch otter; `names` lists them\n")
 
     def test_what_cannot_be_read_is_named(self) -> None:
@@ -131,10 +131,10 @@ class Out(Written):
         # The nodes are apart, and that is shown.
         self.assertIn("#> count b 0 1 0 0 0 0 0", lines[at:])
 
-    def test_each_group_but_the_harmless_one(self) -> None:
+    def test_each_group_but_that_in_which_all_is_as_it_was(self) -> None:
         lines = self.written()
-        self.assertEqual([it for it in lines if it.startswith("fork")], ["fork main 2 whatif-1", "fork main 2 whatif-2"])
-        self.assertEqual([it for it in self.written("--only", "3") if it.startswith("fork")], ["fork main 2 whatif-3"])
+        self.assertEqual([it for it in lines if it.startswith("fork")], [f"fork main {place} whatif-{group}" for group, place in enumerate((2, 2, 1, 0, 3), 1)])
+        self.assertEqual([it for it in self.written("--only", "6") if it.startswith("fork")], ["fork main 2 whatif-6"])
 
     def test_names_that_are_taken(self) -> None:
         self.script = self.file("night.pfl", f"{SCRIPT}fork main 0 whatif-1\n")
@@ -171,7 +171,7 @@ class Out(Written):
         forks = "".join(f"fork main 0 b-{number}\n" for number in range(14))
         full = self.file("full.pfl", f"{SCRIPT}{forks}")
         told = said_by(full, "--out", f"{self.folder}/new.pfl")[2]
-        self.assertIn("nothing is written: 2 groups need a branch each, and 1 of 16 are free", told)
+        self.assertIn("nothing is written: 5 groups need a branch each, and 1 of 16 are free", told)
         self.assertFalse(os.path.exists(f"{self.folder}/new.pfl"))
         told = said_by(self.script, "--out", f"{self.folder}/no/new.pfl")[2]
         self.assertEqual(told, f"lab: {self.folder}/no/new.pfl: No such file or directory\n")
@@ -193,9 +193,9 @@ class Word(Dialogue):
 
     def test_the_branch_in_use_as_far_as_it_stands(self) -> None:
         shell = self.ready()
-        self.assertEqual(self.said(shell, "whatif")[0], "main, 4 events: 23 single faults, each by itself")
+        self.assertEqual(self.said(shell, "whatif")[0], "main, 4 events: 22 single faults, each by itself")
         self.assertEqual(self.said(shell, "back main 1", "whatif --faults lose")[1], "main, 3 events: 1 single fault (lose), each by itself")
-        self.assertEqual(self.said(shell, "fork main 2 other", "whatif other")[1], "other, 2 events: 13 single faults, each by itself")
+        self.assertEqual(self.said(shell, "fork main 2 other", "whatif other")[1], "other, 2 events: 12 single faults, each by itself")
 
     def test_nothing_changes(self) -> None:
         shell = self.ready()
@@ -219,7 +219,7 @@ class Word(Dialogue):
         with patch("shell.shell.Counter", return_value=Mock(side_effect=stop)):
             shell.is_typed = True
             said = self.said(shell, "whatif", "names")
-            self.assertEqual((said[2], said[-1]), ("interrupted: 2 of 23 are tried", "names main"))
+            self.assertEqual((said[2], said[-1]), ("interrupted: 2 of 22 are tried", "names main"))
             shell.is_typed = False
             with self.assertRaises(KeyboardInterrupt):
                 self.said(shell, "whatif")
@@ -247,10 +247,10 @@ class Word(Dialogue):
         shell = self.ready()
         for line, wanted in (
             ("whatif m", ["main"]),
-            ("whatif --f", ["--faults", "--from"]),
+            ("whatif --f", ["--faults", "--from", "--flushing"]),
             ("whatif main --pairs --p", []),
             ("whatif --faults l", ["lose", "late", "last"]),
-            ("whatif --watch ", ["pass", "drop", "apart"]),
+            ("whatif --watch ", ["pass", "drop", "gone", "apart"]),
             ("whatif --only ", []),
         ):
             before, _, begun = line.rpartition(" ")

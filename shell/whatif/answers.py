@@ -31,7 +31,7 @@ def answer(lab: Laboratory, branch: Branch, asked: Asked, paint: Paint, progress
     """Tries the faults of a branch in a run of its own; nothing changes here. Variants are added to the script."""
     course, taken = course_of(lab, branch), lab.names()
     with lab.beside(branch) as other:
-        it = tried(Player(other, branch, course), asked, progress)
+        it = tried(Player(other, branch, course, asked.flushing), asked, progress)
         groups = shown_groups(it)
         found = Answer(report(it, groups, paint), it.is_interrupted)
         try:

@@ -22,6 +22,7 @@ class Asked:
     first: int = 1
     last: Optional[int] = None
     pairs: bool = False
+    flushing: bool = False
     only: Tuple[int, ...] = ()
     out: Optional[str] = None
 
@@ -49,6 +50,7 @@ class Options(argparse.Namespace):
     first: int
     last: Optional[int]
     pairs: bool
+    flushing: bool
     only: Tuple[int, ...]
     out: Optional[str]
 
@@ -64,6 +66,7 @@ def add_options(words: argparse.ArgumentParser) -> None:
     words.add_argument("--from", dest="first", type=_place, default=1, metavar="K", help="tries faults at the K-th event and later ones")
     words.add_argument("--to", dest="last", type=_place, metavar="L", help="tries faults at the L-th event and earlier ones")
     words.add_argument("--pairs", action="store_true", help="tries every two faults together; restarts and clocks if --faults names them")
+    words.add_argument("--flushing", action="store_true", help="what a fault gives a node to send is sent before the next event of the run")
     words.add_argument("--only", type=_groups, default=(), metavar="N", help="shows only the N-th group, with all of its faults")
     words.add_argument(
         "--out", type=_script, metavar="FILE.pfl", help="writes a copy of the script with a branch for each group"
@@ -71,7 +74,7 @@ def add_options(words: argparse.ArgumentParser) -> None:
 
 
 def asked(words: Options) -> Asked:
-    return Asked(words.faults, words.watch, words.first, words.last, words.pairs, words.only, words.out)
+    return Asked(words.faults, words.watch, words.first, words.last, words.pairs, words.flushing, words.only, words.out)
 
 
 class _OfDialogue(argparse.ArgumentParser):

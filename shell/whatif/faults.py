@@ -15,8 +15,6 @@ from ..words import counted, seconds
 JUMP = 61_000
 # By how many events a frame comes late.
 LATE = (1, 2, 4)
-# Where the records of a frame begin: its header, and the head of its first group.
-FIRST_RECORD = 24
 # The place of an event: after this many events of the run, and its rank among those at the same place.
 Position = Tuple[int, int]
 # An event of the run itself, one that comes late, one that a fault puts before the next event, and what happens to that one's frame.
@@ -148,6 +146,7 @@ def _before(course: Course, frame: Sent) -> Position:
 
 
 def _lost(course: Course) -> Iterator[Fault]:
+    """A frame is lost. One that is cut would do the same, since nobody can read it."""
     for it in _delivered(course):
         at = (it.end, OWN) if it.end else _before(course, it)
         yield _of_frame("lose", it, "lost", (at, Planned(it.end, f"{LOSE.word} {it.ticket}")), is_moved=True)
@@ -159,15 +158,6 @@ def _twice(course: Course) -> Iterator[Fault]:
         again = Planned(0, f"{REPEAT.word} {it.ticket}", -it.ticket)
         second = ((it.end, AFTER), Planned(0, f"{DELIVER.word} {-it.ticket}"))
         yield _of_frame("twice", it, "twice", (_before(course, it), again), *([second] if it.end else []))
-
-
-def _cut(course: Course) -> Iterator[Fault]:
-    """A frame is cut in the middle of its records."""
-    for it in _delivered(course):
-        length = (FIRST_RECORD + it.length) // 2
-        if not it.has(CUT):
-            step = Planned(0, f"{CUT.word} {it.ticket} {length}")
-            yield _of_frame("cut", it, f"cut to {length} bytes", (_before(course, it), step))
 
 
 def _late(course: Course) -> Iterator[Fault]:
@@ -247,7 +237,6 @@ KINDS: Dict[str, Callable[[Course], Iterator[Fault]]] = {
     "undone": _undone,
     "lose": _lost,
     "twice": _twice,
-    "cut": _cut,
     "late": _late,
     "last": _last,
     "skip": _skipped,

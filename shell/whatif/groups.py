@@ -1,31 +1,27 @@
 """What a variant changes, and the variants that change the same."""
 from __future__ import annotations
 
-from collections import Counter
 from dataclasses import dataclass, field
-from typing import Callable, Dict, FrozenSet, List, NamedTuple, Optional, Sequence, Tuple
+from typing import Callable, Dict, FrozenSet, List, NamedTuple, Optional, Tuple
 
-from ..diffs import compare
+from ..language import events
 from ..language.events import HELD_BACK, PACKET, PASS
-from ..pair import read_shown
 from ..setups import Setup
-from ..states import FLOW_WORDS
-from ..words import flow
+from .causes import Causes, Hung
+from .ends import Change, End
 from .faults import Course, Variant
+from .holding import DROPPED, Fate
 from .plays import Played
 
 # How many variants of a group are kept, to be named.
 MOST_KEPT = 200
-# What both nodes have of a flow at the end, if that is not the same.
-DIFFER = "different on a and b"
 # The words for a variant that comes to rest though its run did not.
 AT_REST = "nothing is pending or in flight any more"
-# What changes, the most severe first: a packet goes on that did not, or the reverse; a packet gets another verdict in some other way;
-# the nodes differ in another way at the end; events are refused; nothing.
-CROSSED, JUDGED, APART, REFUSED, HARMLESS = range(5)
-
-# A flow, and the only node that has it, or that it differs.
-Alone = Tuple[str, str]
+# What changes, the most severe first: a packet goes on that did not, or the reverse; a flow is on neither node any more; a packet gets
+# another verdict in some other way; the nodes are apart in another way at the end, or do not come to rest; a state is otherwise; only
+# packets are judged otherwise that could not have come, or nothing but that they could not have; events are refused; nothing, but the
+# end was not compared; nothing.
+CROSSED, GONE, JUDGED, APART, OTHERWISE, IMPOSSIBLE, REFUSED, NOT_COMPARED, AS_IT_WAS = range(9)
 
 
 class Verdict(NamedTuple):
@@ -46,27 +42,69 @@ class Verdict(NamedTuple):
 
 
 class Effect(NamedTuple):
-    """What a variant changes: verdicts; the flows that at the end, unlike before, are on only one node or differ, and those that no
-    longer are; and if nothing else changes, the numbers of the events that are refused, where 0 is one that the fault adds."""
+    """What a variant changes: verdicts; packets that could not have come; what the nodes have at the end, and whether they wait for a bulk
+    update then; or that its end cannot be compared. If nothing else changes it has the numbers of the events that are refused, where 0
+    is one that the fault adds."""
 
     verdicts: Tuple[Verdict, ...] = ()
-    apart: Tuple[Alone, ...] = ()
-    together: Tuple[Alone, ...] = ()
+    hung: Tuple[Hung, ...] = ()
+    changes: Tuple[Change, ...] = ()
+    waits: Tuple[str, ...] = ()
     refused: Tuple[int, ...] = ()
+    # What keeps the variant from coming to rest and not its run, or the reverse; and whether the ends are compared.
     trouble: str = ""
+    is_compared: bool = True
+
+    @property
+    def impossible(self) -> FrozenSet[int]:
+        """The events of the packets that could not have come."""
+        return frozenset(number for it in self.hung for number in it.numbers)
+
+    @property
+    def possible(self) -> Tuple[Verdict, ...]:
+        """The verdicts on packets that could have come."""
+        return tuple(it for it in self.verdicts if it.number not in self.impossible)
+
+    @property
+    def passes(self) -> bool:
+        """Whether a packet that could have come goes on, and did not before."""
+        return any(it.passes for it in self.possible)
+
+    @property
+    def drops(self) -> bool:
+        return any(it.drops for it in self.possible)
+
+    @property
+    def is_gone(self) -> bool:
+        return any(it.is_gone for it in self.changes)
+
+    @property
+    def is_apart(self) -> bool:
+        return bool(self.waits or self.trouble) or any(it.is_apart for it in self.changes)
 
     @property
     def rank(self) -> int:
         """How severe it is; 0 is the most severe."""
-        if any(it.passes or it.drops for it in self.verdicts):
-            return CROSSED
-        if self.verdicts:
-            return JUDGED
-        return APART if self.apart or self.together or self.trouble else REFUSED if self.refused else HARMLESS
+        ranks = {
+            CROSSED: self.passes or self.drops,
+            GONE: self.is_gone,
+            JUDGED: self.possible,
+            APART: self.is_apart,
+            OTHERWISE: self.changes,
+            IMPOSSIBLE: self.hung,
+            REFUSED: self.refused,
+            NOT_COMPARED: not self.is_compared,
+        }
+        return next((rank for rank, holds in ranks.items() if holds), AS_IT_WAS)
+
+    @property
+    def is_nothing(self) -> bool:
+        """Whether it changes nothing, as far as is known."""
+        return self.rank in (NOT_COMPARED, AS_IT_WAS)
 
     def without(self, numbers: FrozenSet[int]) -> "Effect":
-        """The same without the packets of some events, which did not come, and without refusals."""
-        return self._replace(verdicts=tuple(it for it in self.verdicts if it.number not in numbers), refused=())
+        """The same without the packets of some events, which did not come, without those that could not have come, and without refusals."""
+        return self._replace(verdicts=tuple(it for it in self.verdicts if it.number not in numbers), hung=(), refused=())
 
     def judges(self, number: int) -> bool:
         """Whether the packet of an event gets another verdict."""
@@ -74,7 +112,8 @@ class Effect(NamedTuple):
 
 
 def goes_on(verdict: str) -> bool:
-    return verdict.split()[0] in (PASS.word, HELD_BACK.word)
+    """Whether a packet with this verdict passes, or is held and not dropped."""
+    return verdict != DROPPED and verdict.split()[0] not in (events.DROPPED.word, "refused")
 
 
 def verdict_of(outcome: str) -> str:
@@ -85,50 +124,45 @@ def verdict_of(outcome: str) -> str:
     return words[0] if words[0] in (PASS.word, HELD_BACK.word) and words[1:] != ["-"] else outcome
 
 
-def alone_in(shown: Sequence[str], setup: Setup) -> FrozenSet[Alone]:
-    """The flows of a shown pair that only one node has, or that differ, as `diff` finds them."""
-    pair = read_shown(_without_likes(shown))
-    compared = compare(pair, setup)
-    only = {(flow(it), f"only on {node}") for node, states in compared.only.items() for it in states}
-    return frozenset(only | {(flow(pair.a.states[name]), DIFFER) for name in compared.differing})
+def _with_fates(verdicts: Dict[int, str], fates: Dict[int, Fate]) -> Dict[int, str]:
+    """The verdicts, and for a packet that was held what became of it."""
+    return {**verdicts, **{number: it.verdict for number, it in fates.items()}}
 
 
-def _without_likes(shown: Sequence[str]) -> List[str]:
-    """A shown pair without the states that both nodes have with the same words, except for times and what a node keeps to itself: these
-    agree, and are the most."""
-    rows = [(line, _shared(line.split()) if line.startswith("state ") else ()) for line in shown]
-    many = Counter(words for _, words in rows if words)
-    return [line for line, words in rows if not words or many[words] == 1]
+class Base:
+    """The run as it was: its verdicts by event, what became of held packets, and its end, if it comes to rest."""
 
+    def __init__(self, course: Course, played: Played, setup: Setup):
+        self.setup = setup
+        self.trouble, self.fates = played.trouble, played.fates
+        self.verdicts = {it.number: verdict_of(it.came) for it in course.events if it.kind is PACKET}
+        self.end = End(played.shown, setup)
+        self.causes = Causes(course, played.fates)
 
-def _shared(words: Sequence[str]) -> Tuple[str, ...]:
-    """The words of a state that are the same at both nodes if these agree: its flow, and the rule."""
-    return (*words[2 : 2 + FLOW_WORDS], words[3 + FLOW_WORDS])
-
-
-class Base(NamedTuple):
-    """The run as it was: its verdicts by event, and the flows that only one node has, or that differ, at its end."""
-
-    verdicts: Dict[int, str]
-    alone: FrozenSet[Alone]
-    trouble: str
-
-    @classmethod
-    def of(cls, course: Course, played: Played, setup: Setup) -> "Base":
-        packets = (it for it in course.events if it.kind is PACKET)
-        return cls({it.number: verdict_of(it.came) for it in packets}, alone_in(played.shown, setup), played.trouble)
-
-    def effect(self, played: Played, setup: Setup) -> Effect:
+    def effect(self, played: Played) -> Effect:
         """What a variant changes."""
-        verdicts = ((number, verdict_of(came)) for number, came in sorted(played.came.items()) if number in self.verdicts)
-        changed = tuple(Verdict(number, self.verdicts[number], it) for number, it in verdicts if it != self.verdicts[number])
-        trouble = (played.trouble or AT_REST) if played.trouble != self.trouble else ""
-        # (a pair that does not come to rest has no end to compare)
-        alone = self.alone if played.trouble or self.trouble else alone_in(played.shown, setup)
-        apart, together = tuple(sorted(alone - self.alone)), tuple(sorted(self.alone - alone))
-        is_else = not (changed or apart or together or trouble)
+        trouble = (played.trouble or AT_REST) if bool(played.trouble) != bool(self.trouble) else ""
+        # (what does not come to rest has no end to compare)
+        is_compared = not (played.trouble or self.trouble)
+        changes, waits = self._at_end(played) if is_compared else ((), ())
+        verdicts, hung = self._verdicts(played, is_compared), self.causes.hung(played, played.fates)
+        is_else = not (verdicts or hung or changes or waits or trouble)
         refused = tuple(sorted({it.number for it in played.refused})) if is_else else ()
-        return Effect(changed, apart, together, refused, trouble)
+        return Effect(verdicts, hung, changes, waits, refused, trouble, is_compared)
+
+    def _verdicts(self, played: Played, is_compared: bool) -> Tuple[Verdict, ...]:
+        """The verdicts that are others. What becomes of held packets is a part of the end."""
+        came = {number: verdict_of(it) for number, it in played.came.items() if number in self.verdicts}
+        before, after = self.verdicts, came
+        if is_compared and (self.fates or played.fates):
+            before, after = _with_fates(before, self.fates), _with_fates(came, played.fates)
+        return tuple(Verdict(number, before[number], it) for number, it in sorted(after.items()) if it != before[number])
+
+    def _at_end(self, played: Played) -> Tuple[Tuple[Change, ...], Tuple[str, ...]]:
+        end = End(played.shown, self.setup)
+        waits = [f"at the end {it} waits for a bulk update" for it in sorted(end.waiting - self.end.waiting)]
+        waits += [f"at the end {it} does not wait for a bulk update" for it in sorted(self.end.waiting - end.waiting)]
+        return self.end.changes(end), tuple(waits)
 
 
 @dataclass
@@ -161,8 +195,8 @@ class Groups:
 
 @dataclass(frozen=True)
 class Watch:
-    """What a group has to change: a packet that passes, or drops, or how the nodes are apart; or the verdict of one of these events.
-    Everything is watched if nothing is named."""
+    """What a group has to change: a packet that passes, or drops; a flow that is on neither node any more; how the nodes are apart; or the
+    verdict of one of these events. Everything is watched if nothing is named."""
 
     words: FrozenSet[str] = frozenset()
     numbers: FrozenSet[int] = frozenset()
@@ -174,23 +208,28 @@ class Watch:
 
 
 _WATCHED: Dict[str, Callable[[Effect], bool]] = {
-    "pass": lambda effect: any(it.passes for it in effect.verdicts),
-    "drop": lambda effect: any(it.drops for it in effect.verdicts),
-    "apart": lambda effect: bool(effect.apart or effect.together or effect.trouble),
+    "pass": lambda effect: effect.passes,
+    "drop": lambda effect: effect.drops,
+    "gone": lambda effect: effect.is_gone,
+    "apart": lambda effect: effect.is_apart,
 }
 WATCHED = tuple(_WATCHED)
 
 
 def union(one: Effect, two: Effect) -> Optional[Effect]:
-    """What two faults change if each does what it does alone; nothing if they change the same packet to different verdicts."""
+    """What two faults change if each does what it does alone; nothing if they change the same packet or flow to something else."""
     verdicts = {it.number: it for it in (*one.verdicts, *two.verdicts)}
+    changes = {it.flow: it for it in (*one.changes, *two.changes)}
     if any(verdicts[it.number] != it for it in (*one.verdicts, *two.verdicts)):
         return None
+    if any(changes[it.flow] != it for it in (*one.changes, *two.changes)):
+        return None
     changed, trouble = tuple(verdicts[it] for it in sorted(verdicts)), one.trouble or two.trouble
-    if trouble:
-        return Effect(changed, trouble=trouble)
-    apart, together = (tuple(sorted({*first, *second})) for first, second in ((one.apart, two.apart), (one.together, two.together)))
-    return Effect(changed, apart, together)
+    is_compared = one.is_compared and two.is_compared
+    if not is_compared:
+        return Effect(changed, trouble=trouble, is_compared=False)
+    at_end = tuple(sorted(changes.values(), key=lambda it: (it.text, it.flow)))
+    return Effect(changed, changes=at_end, waits=tuple(sorted({*one.waits, *two.waits})))
 
 
 def is_of_one(effect: Effect, one: Effect, two: Effect, left_out: FrozenSet[int]) -> bool:

@@ -53,6 +53,10 @@ class Names:
             del self._tickets[ticket]
         self._next_ticket -= len(sent)
 
+    def count(self, outcome: Sequence[str]) -> None:
+        """Takes what an event answered that neither the run nor the fault has: a frame that it sent has the next ticket."""
+        self._next_ticket += outcome[0] == SENT.word
+
     def learn(self, step: Planned, outcome: Sequence[str]) -> None:
         """Takes what an event answered."""
         if step.sends and outcome[0] == SENT.word:

@@ -10,9 +10,12 @@ from ..laboratory import Laboratory, Unknown, outcome_of
 from ..language.commands import BACK, DROP, FORK, SHOW, STEP
 from ..language.events import DELIVER, FLUSH, KILL, SENT
 from ..language.names import NODES
+from ..language.setups import HELD
 from ..macros import next_steps
 from ..pair import Pair, read_shown
 from .faults import Course, Planned, Variant, place_of, planned
+from .flushing import Idle, idle_nodes, send
+from .holding import Accepted, Fate, OfNode, fates, is_held
 from .names import Names
 
 # The branch that a variant is played on; the second name is used if the run's own branch has the first.
@@ -47,6 +50,10 @@ class Played:
     # What was stepped: each event with its number in the run, or 0, including refused ones; then those until everything was sent.
     steps: List[Tuple[int, str]] = field(default_factory=list)
     until_quiet: List[str] = field(default_factory=list)
+    # Those of both that were accepted, with their outcomes.
+    events: List[Accepted] = field(default_factory=list)
+    # What became of held packets, by the numbers of their events.
+    fates: Dict[int, Fate] = field(default_factory=dict)
     refused: List[Refused] = field(default_factory=list)
     # The events whose frame or state does not exist.
     without_subject: List[int] = field(default_factory=list)
@@ -69,25 +76,33 @@ class _Waiting(NamedTuple):
 
 
 class Player:
-    """Plays variants of the first events of a branch, in a laboratory of its own with that branch."""
+    """Plays variants of the first events of a branch, in a laboratory of its own with that branch; the run itself, which is the variant
+    without faults, comes first. If it flushes, nodes send at once what they have to send because of a fault."""
 
-    def __init__(self, lab: Laboratory, branch: Branch, course: Course):
+    def __init__(self, lab: Laboratory, branch: Branch, course: Course, flushes: bool = False):
         self.lab, self.branch, self.course = lab, branch, course
         self.name = next(it for it in NAMES if it != branch.name)
         self._has_variant = False
+        # What became of the run's held packets.
+        self._fates: Dict[int, Fate] = {}
+        self._idle: Optional[Idle] = idle_nodes(self._asked, branch.name, len(course)) if flushes else None
 
     def play(self, variant: Variant, until: Optional[int] = None) -> Played:
         """Plays a variant on a branch, which stays until the next one; if a number is given, only this many of its events."""
         place = place_of(variant, self.course)
         played, names = Played(place), Names(self.course, place)
         self._begin(place)
-        steps: Deque[Tuple[int, Planned]] = deque(enumerate(planned(self.course, variant)[:until]))
+        plan = planned(self.course, variant)
+        steps: Deque[Tuple[int, Planned]] = deque(enumerate(plan[:until]))
         waiting: List[_Waiting] = []
+        passed, most = place, 1 if self._idle else MOST_TOGETHER
         while steps or waiting:
-            if not steps or len(waiting) == MOST_TOGETHER or waiting and steps[0][1].words[0] == KILL.word:
+            if not steps or len(waiting) == most or waiting and steps[0][1].words[0] == KILL.word:
                 steps.extendleft(self._step(waiting, played, names))
                 continue
             at, step = steps.popleft()
+            self._send_before(step, passed, played, names)
+            passed = max(passed, step.number)
             line = names.line(step)
             if line is None:
                 played.without_subject += [step.number] * bool(step.number)
@@ -96,7 +111,52 @@ class Player:
                 names.foresee(step)
         if until is None:
             self._quiet(played)
+            if not variant:
+                self._fates = self._fates_of_run(played)
+            played.fates = self._fates_of(played) if variant else self._fates
+        else:
+            for step in plan[until : until + 1]:
+                self._send_before(step, passed, played, names)
         return played
+
+    def _fates_of_run(self, played: Played) -> Dict[int, Fate]:
+        """What became of the held packets of the run, by the numbers of their events."""
+        held = {it.number: {self._held(it.number): it.number} for it in self.course.events if is_held(it.outcome)}
+        return self._ended([*((it.line, it.came) for it in self.course.events), *played.events], held, 0)
+
+    def _fates_of(self, played: Played) -> Dict[int, Fate]:
+        """The same of a variant. What became of a packet before the variant parts from the run is the same in both."""
+        first = played.place
+        over = {number: it for number, it in self._fates.items() if number <= first and 0 < it.place <= first}
+        held = {first: {self._held(number): number for number in self._fates if number <= first and number not in over}}
+        for number, came in played.came.items():
+            if is_held(came.split()):
+                held[played.places[number]] = {self._held(number, came): number}
+        return {**over, **self._ended(played.events, held, first)}
+
+    def _ended(self, events: Sequence[Accepted], held: Dict[int, Dict[OfNode, int]], first: int) -> Dict[int, Fate]:
+        return fates(self._asked, self.name, events, held, first, self.lab.setup.limits[HELD])
+
+    def _held(self, number: int, came: str = "") -> OfNode:
+        """The node that holds the packet of an event, and the name of its state."""
+        it = self.course.events[number - 1]
+        return it.words[1], (came or it.came).split()[1]
+
+    def _send_before(self, it: Planned, passed: int, played: Played, names: Names) -> None:
+        """If nodes send at once: before an event of the run that comes after so many others, those send that have nothing to send here in
+        the run."""
+
+        def step(event: str) -> Optional[List[str]]:
+            outcome = outcome_of(self._asked([f"{STEP.word} {self.name} {event}"])[0][0]).split()
+            if outcome[0] == "refused":
+                return None
+            played.steps.append((0, event))
+            played.events.append((event, " ".join(outcome)))
+            names.count(outcome)
+            return outcome
+
+        if self._idle and it.number > passed and not played.trouble and not send(step, self._idle[it.number - 1]):
+            played.trouble = ENDLESS
 
     def _begin(self, place: int) -> None:
         """Begins a new branch for a variant. An interrupt can have left the last one half done."""
@@ -134,6 +194,7 @@ class Player:
             played.refused.append(Refused(it.at, it.step.number, it.line, outcome.split()[-1]))
             names.forget([it.step])
         else:
+            played.events.append((it.line, outcome))
             names.learn(it.step, outcome.split())
         if it.step.number:
             played.came[it.step.number] = outcome
@@ -142,8 +203,10 @@ class Player:
     def _quiet(self, played: Played) -> None:
         """Goes on as `quiet` does: what is in flight arrives, what is pending is sent, bulk updates take their turns."""
         most = 0
-        while not played.trouble:
+        while True:
             played.shown = self._asked([f"{SHOW.word} {self.name}"])[0]
+            if played.trouble:
+                return
             most = most or SPARE_STEPS + STEPS_OF_ONE * len(played.shown)
             # (the states do not matter here, and can be many)
             events = next_steps(read_shown([it for it in played.shown if not it.startswith("state ")]))
@@ -165,6 +228,7 @@ class Player:
         outcomes = [(event, outcome_of(reply[0]).split()) for event, reply in zip((*events, *tried), replies)]
         stepped = [(event, outcome) for event, outcome in outcomes if not (event in tried and outcome[-1] == NOTHING_PENDING)]
         played.until_quiet += [event for event, _ in stepped]
+        played.events += [(event, " ".join(outcome)) for event, outcome in stepped if outcome[0] != "refused"]
         refused = [event for event, outcome in stepped if outcome[0] == "refused"]
         if refused:
             played.trouble = f"`{refused[0]}` is refused"

@@ -10,13 +10,16 @@ from ..explanations import Judged
 from ..histories import History
 from ..laboratory import Unknown
 from ..language.events import DELIVER
+from ..language.names import NODES
 from ..pair import read_shown
 from ..reasons.absence import explain_absence
 from ..reasons.questions import Question
 from ..reasons.why import reasons, why_ahead, why_event
-from ..words import counted
+from ..words import counted, flow, state_fields, state_line
 from .faults import Course, Variant
-from .groups import APART, HARMLESS, REFUSED, Alone, Effect, Group, Verdict, goes_on
+from .causes import Hung
+from .ends import TIMES, Change, End, Where
+from .groups import APART, GONE, IMPOSSIBLE, OTHERWISE, REFUSED, Effect, Group, Verdict, goes_on
 from .plays import ENDLESS, Played
 from .tries import Tried
 
@@ -79,20 +82,38 @@ def _nothing(it: Tried) -> str:
 def _group(it: Tried, number: int, group: Group, paint: Paint) -> List[str]:
     """A group: what changes, with which faults, and why with the first of them."""
     what = counted(group.many, "pair" if it.asked.pairs else "fault")
-    lines = [f"{paint.head(f'{number}  {what}:')} {change(it.course, group.effect, paint)}", f"   {_names(it, group)}"]
-    if group.effect.rank == HARMLESS:
-        return lines
-    return lines + [f"   {line}" for line in _first(it, group, paint)]
+    lines = [f"{paint.head(f'{number}  {what}:')} {change(it, group.effect, paint)}", f"   {_names(it, group)}"]
+    lines += [f"   {paint.note(_hung(hung))}" for hung in group.effect.hung]
+    return lines if group.effect.is_nothing else lines + [f"   {line}" for line in _first(it, group, paint)]
 
 
-def change(course: Course, effect: Effect, paint: Paint) -> str:
-    """What changes, in one line."""
-    parts = _verdicts(effect.verdicts, paint) + _alone("at the end", effect.apart) + _alone("at the end no longer", effect.together)
+def change(it: Tried, effect: Effect, paint: Paint) -> str:
+    """What changes, in one line. That all is as it was is said only where all of it was compared."""
+    parts = [*_verdicts(effect.verdicts, paint), *_changes(effect.changes), *effect.waits]
     if effect.trouble:
         parts.append(paint.bad(f"at the end {effect.trouble}"))
-    if effect.rank == REFUSED:
-        parts.append(f"every packet and state as it was, but refused: {_few([_event(course, it) for it in effect.refused])}")
-    return "; ".join(parts) or paint.good("every packet and state as it was")
+    if not parts:
+        but = [f"{counted(len(effect.impossible), 'packet')} could not have come"] * bool(effect.hung)
+        but += [f"refused: {_few([_event(it.course, one) for one in effect.refused])}"] * bool(effect.refused)
+        same = "every packet and state as it was" if effect.is_compared else "no packet judged otherwise"
+        parts.append(f"{same}, but {but[0]}" if but else paint.good(same) if effect.is_compared else same)
+    return "; ".join([*parts, *_not_compared(it, effect)])
+
+
+def _not_compared(it: Tried, effect: Effect) -> List[str]:
+    """That the end was not compared, and why, where it was not."""
+    if effect.is_compared:
+        return []
+    if effect.trouble and not it.base.trouble:
+        return ["the end was not compared"]
+    return [f"the end was not compared: the run does not come to rest: at the end {it.base.trouble}"]
+
+
+def _hung(it: Hung) -> str:
+    """The packets that could not have come, and what they hang on."""
+    if len(it.numbers) == 1:
+        return f"event {it.numbers[0]} could not have come: it answers event {it.cause}, {it.why}"
+    return f"events {_few([*map(str, it.numbers)])} could not have come: they answer event {it.cause}, {it.why}"
 
 
 def _verdicts(verdicts: Sequence[Verdict], paint: Paint) -> List[str]:
@@ -106,12 +127,12 @@ def _verdicts(verdicts: Sequence[Verdict], paint: Paint) -> List[str]:
     ]
 
 
-def _alone(how: str, flows: Sequence[Alone]) -> List[str]:
-    """The flows that only one node has at the end, or no longer has alone; those of one place together."""
-    places: Dict[str, List[str]] = {}
-    for flow, where in flows:
-        places.setdefault(where, []).append(flow)
-    return [f"{how} {where}: {_few(those)}" for where, those in sorted(places.items())]
+def _changes(changes: Sequence[Change]) -> List[str]:
+    """The flows of which there is something else at the end; those of which there is the same together."""
+    flows: Dict[str, List[str]] = {}
+    for it in changes:
+        flows.setdefault(it.text, []).append(it.flow)
+    return [f"{text}: {_few(those)}" for text, those in flows.items()]
 
 
 def _few(words: Sequence[str]) -> str:
@@ -164,30 +185,38 @@ def _first(it: Tried, group: Group, paint: Paint) -> List[str]:
     lines: List[str] = []
     if effect.trouble:
         lines = _answered(it, played, paint)
-    elif effect.rank == APART:
+    elif effect.rank in (GONE, APART, OTHERWISE, IMPOSSIBLE):
         lines = _states(it, played, effect, paint)
-    if effect.verdicts:
-        number = reason_at(effect)
-        is_refused = any(one.number == number for one in played.refused)
-        reason = _refusal(it, variant, played, number, paint) if is_refused else _reason(it, played.places[number], paint)
-        lines = [*reason, *lines]
+    if effect.possible:
+        lines = [*_verdict(it, variant, played, reason_at(effect), paint), *lines]
     return lines + [paint.note(line) for line in _refused(it.course, played)]
 
 
+def _verdict(it: Tried, variant: Variant, played: Played, number: int, paint: Paint) -> List[str]:
+    """Why a packet gets another verdict in the variant that was played last. Of a packet that was held it is what ended that."""
+    if any(one.number == number for one in played.refused):
+        return _refusal(it, variant, played, number, paint)
+    fate = played.fates.get(number)
+    place = number if number <= played.place else played.places[number]
+    return _reason(it, fate.place or place if fate else place, paint, ("held" if fate.place else "`defer`") if fate else "")
+
+
 def reason_at(effect: Effect) -> int:
-    """The packet whose reason is shown: the first that passes or drops, else the first with another verdict."""
-    crossed = [it.number for it in effect.verdicts if it.passes or it.drops]
-    return (crossed or [it.number for it in effect.verdicts])[0]
+    """The packet whose reason is shown: the first that passes or drops, else the first with another verdict, of those that could have
+    come."""
+    crossed = [it.number for it in effect.possible if it.passes or it.drops]
+    return (crossed or [it.number for it in effect.possible])[0]
 
 
-def _reason(it: Tried, place: int, paint: Paint) -> List[str]:
-    """What `why` says of a packet by its place in the variant that was played last: all of it if a group is asked for, else what
-    decided, and why no state matched."""
+def _reason(it: Tried, place: int, paint: Paint, about: str = "") -> List[str]:
+    """What `why` says of an event by its place in the variant that was played last: all of it if a group is asked for, else what decided,
+    and why no state matched; or the lines about something, if there are any."""
     lab, branch = it.player.lab, it.player.lab.branch(it.player.name)
     question = Question(History(lab, branch.name, branch.events[: place - 1]), lab.explanation(branch.name, place), paint)
     event, lines = question.explanation.event, reasons(question)
+    those = [line for line in lines if about and about in line]
     if not it.asked.only:
-        lines = lines[:1] + (explain_absence(question)[:1] if isinstance(question.reason, Judged) else [])
+        lines = those or lines[:1] + (explain_absence(question)[:1] if isinstance(question.reason, Judged) else [])
     return [paint.head(f"{event.line}: {event.came}"), *(f"  {line}" for line in lines)]
 
 
@@ -206,12 +235,40 @@ def _answered(it: Tried, played: Played, paint: Paint) -> List[str]:
 
 
 def _states(it: Tried, played: Played, effect: Effect, paint: Paint) -> List[str]:
-    """How the nodes are apart at the end of a variant, as `diff` says it."""
-    answer, *lines = between_nodes(played.pair, it.setup, PLAIN)
-    flows = {flow for flow, _ in effect.apart}
-    those = [line for line in lines if any(flow in line for flow in flows)]
-    more = [f"{len(those) - MOST_STATES} more"] if len(those) > MOST_STATES else []
-    return [paint.bad(answer), *(f"  {line}" for line in [*those[:MOST_STATES], *more])]
+    """What the nodes have at the end of a variant: how they are apart, as `diff` says it; and what they had in the run, where that is
+    gone or otherwise."""
+    apart = {one.flow for one in effect.changes if one.is_apart}
+    lines: List[str] = []
+    if apart or effect.waits:
+        answer, *differ = between_nodes(played.pair, it.setup, PLAIN)
+        lines = [paint.bad(answer), *_some([line for line in differ if any(flow in line for flow in apart)])]
+    return lines + _some(_otherwise(it.base.end, End(played.shown, it.setup)))
+
+
+def _some(lines: Sequence[str]) -> List[str]:
+    """The first lines, and how many more there are."""
+    more = [f"{len(lines) - MOST_STATES} more"] if len(lines) > MOST_STATES else []
+    return [f"  {line}" for line in [*lines[:MOST_STATES], *more]]
+
+
+def _otherwise(before: End, after: End) -> List[str]:
+    """The states of the run's end that are on neither node at another one, and those that are on the same nodes and changed; what both
+    nodes have, once."""
+    found: Dict[Tuple[str, str], List[str]] = {}
+    for keys in before.changed(after):
+        for node in NODES:
+            was, now = before.state(keys, node), after.state(keys, node)
+            if was and after.where(keys) is Where.NEITHER:
+                found.setdefault(("as it was on", state_line(was)), []).append(node)
+            elif was and now and before.where(keys) is after.where(keys):
+                parts = _parts(state_fields(was), state_fields(now))
+                found.setdefault(("on", f"{now.name}  {flow(now)}  {parts}" if parts else ""), []).append(node)
+    return [f"{where} {' and '.join(nodes)}: {line}" for (where, line), nodes in found.items() if line]
+
+
+def _parts(before: Dict[str, str], after: Dict[str, str]) -> str:
+    """The fields that are not the same, with both texts."""
+    return ", ".join(f"{it} {text} -> {after[it]}" for it, text in before.items() if it not in TIMES and text != after[it])
 
 
 def _refused(course: Course, played: Played) -> List[str]:

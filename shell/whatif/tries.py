@@ -64,7 +64,7 @@ def tried(player: Player, asked: Asked, progress: Progress) -> Tried:
     if not asked.pairs:
         _bounded(player.branch.name, course, faults)
     played = player.play(())
-    base = Base.of(course, played, setup)
+    base = Base(course, played, setup)
     total = sum(1 for _ in pairs_of(faults)) if asked.pairs else len(faults)
     it = Tried(player, base, asked, played.shown, faults, total)
     try:
@@ -86,7 +86,7 @@ def _bounded(branch: str, course: Course, faults: List[Fault]) -> None:
 
 
 def _effect(it: Tried, variant: Variant) -> Effect:
-    return it.base.effect(it.player.play(variant), it.setup)
+    return it.base.effect(it.player.play(variant))
 
 
 def _counted(it: Tried, variants: Iterable[Variant], progress: Progress) -> Iterator[Variant]:

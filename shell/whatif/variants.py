@@ -8,7 +8,7 @@ from ..colours import PLAIN
 from ..laboratory import Unknown
 from ..language.commands import FORK, MOST_BRANCHES, SHOW, STEP
 from ..scripts import annotated
-from .groups import HARMLESS, Group
+from .groups import Group
 from .report import Numbered, change, text_of
 from .tries import Tried
 
@@ -28,7 +28,7 @@ class Written(NamedTuple):
 def with_variants(it: Tried, text: str, taken: Sequence[str], shown: Sequence[Numbered]) -> Written:
     """A script with a branch for the first fault of each group that is shown and changes something, or is asked for by its number; the
     branches exist at its end."""
-    groups = [(number, group) for number, group in shown if it.asked.only or group.effect.rank != HARMLESS]
+    groups = [(number, group) for number, group in shown if it.asked.only or not group.effect.is_nothing]
     room = MOST_BRANCHES - len(taken)
     if not groups:
         raise Unknown("nothing is written: no group that is shown changes anything")
@@ -52,16 +52,16 @@ def _name(number: int, taken: Set[str]) -> str:
 
 
 def _branch(it: Tried, name: str, group: Group) -> Iterator[str]:
-    """The lines of a variant's branch; if the nodes are apart at its end, the steps to that point come too, and what is there."""
+    """The lines of a variant's branch; if there is something else at its end, the steps to that point come too, and what is there."""
     played, branch, effect = it.player.play(group.variants[0]), it.player.branch.name, group.effect
     before = {one.number: one.before for one in effect.verdicts}
     yield ""
-    yield from _comment(f"What if: {text_of(group.variants[0])}? Then {change(it.course, effect, PLAIN)}.")
+    yield from _comment(f"What if: {text_of(group.variants[0])}? Then {change(it, effect, PLAIN)}.")
     yield f"{FORK.word} {branch} {played.place} {name}"
     for number, line in played.steps:
         yield from _comment(f"On {branch} this is {before[number]}.") if number in before else ()
         yield f"{STEP.word} {name} {line}"
-    if effect.apart or effect.together:
+    if effect.changes or effect.waits:
         yield from (f"{STEP.word} {name} {line}" for line in played.until_quiet)
         yield f"{SHOW.word} {name}"
 
