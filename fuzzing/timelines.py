@@ -7,7 +7,8 @@ import re
 from typing import Callable, ContextManager, Dict, Iterator, List, Sequence
 
 from oracle.branches import Room, WantedBranch, compare, fork_for
-from oracle.searches import Search, compare_search
+from oracle.orders import compare_tries
+from oracle.searches import Search, compare_search, how_answered
 from oracle.subject import Differs, Subject
 from oracle.tallies import Seen
 from shell.language.commands import MOST_BRANCHES, STEP
@@ -64,13 +65,14 @@ class Timeline:
         return reply
 
     def search(self, line: str, name: str) -> List[str]:
-        """A search from a branch; returns its reply, which is right as far as steps can show. It has changed nothing."""
-        reply, branch = self.lab.answer(line), self.branches[name]
-        self.seen[SEARCH, reply[0].split(" ")[0]] += 1
+        """A search from a branch; returns its reply, which is what all runs show that it tries. It has changed nothing."""
+        reply, branch, it = self.lab.answer(line), self.branches[name], Search.read(line)
+        self.seen[f"{SEARCH} {it.question}", how_answered(reply)] += 1
         branch.compare(self.lab, name, line)
         branch.compare_log(self.lab, name, line)
         with self.room_for(name, branch.cursor) as room:
-            compare_search(room, Search.read(line), reply, self.chance)
+            compare_tries(room, it, reply)
+            compare_search(room, it, reply, self.chance)
         return reply
 
     def wanted(self, command: str, words: Sequence[str]) -> List[str]:

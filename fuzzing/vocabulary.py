@@ -8,7 +8,7 @@ from shell.language.events import EVENTS
 from shell.language.forms import ACTION, RULE_DIRECTION
 from shell.language.lines import KNOWN
 from shell.language.names import NODES
-from shell.language.searches import ANY, GOALS, SCOPES
+from shell.language.searches import ANY, GOALS, SCOPES, THEN
 from shell.language.setups import CLASS, LIMITS, OPTIONS, TIMEOUT
 
 # The numbers where something begins or ends, each with its neighbours.
@@ -47,7 +47,7 @@ STATES = (
 ALIKE: Tuple[Sequence[str], ...] = (
     tuple(EVENTS),
     (*KNOWN, "view"),
-    (*GOALS, *SCOPES, ANY),
+    (*GOALS, *SCOPES, ANY, THEN),
     tuple(SETUP),
     (*NODES, "A", "ab"),
     RULE_DIRECTION.words,

@@ -82,21 +82,32 @@ EVENTS = {word: _of_event(it) for word, it in events.EVENTS.items()}
 
 SEARCH_PARTS = "\n".join(
     (
-        "The search goes on from where the branch in use stands, and changes nothing. A packet that is refused or held counts as "
-        "dropped. The nodes are apart if one has a state whose name the other does not have. Commas separate the parts:",
-        "settled: ask only when nothing is in flight or pending, and no bulk update is under way; the default.",
+        "The search goes on from where the branch in use stands, and changes nothing. The first word says what is sought, and further "
+        "parts follow after commas:",
+        "drops: the packet would be dropped. One that is held is not dropped, and one that is refused neither is dropped nor passes.",
+        "passes: the packet would pass, or be held.",
+        "splits: the packet would be dropped at its node, and pass, or be held, at the other.",
+        "differ: a state at both nodes, and `no-sync` at neither, has other levels, numbers or class.",
+        "apart: one node has a state whose name the other does not have. Nothing else of the states is compared.",
+        "quiet: ask only when nothing is in flight or pending, and neither node serves a bulk update; the default. A node may wait for one "
+        "that was lost.",
+        "settled: as quiet, and only when neither node waits for a bulk update.",
         "landed: ask only when no frame is in flight.",
-        "anywhere: ask after each event.",
+        "anywhere: ask where the branch stands and after each event; the default where a node dies.",
         "within N: of runs of at most N events, up to 64; the default is 8.",
-        "deliver N: any frame is delivered, at most N times in all; the default is as often as there are events.",
+        "deliver N: any frame is delivered, at most N times, all frames together; the default is as often as there are events.",
         "flush NODE N: the node flushes, at most N times; the default is as often as there are events, for both nodes.",
-        "lose N, repeat N, cut LENGTH N: any frame is lost, doubled, or cut to its first LENGTH bytes, at most N times in all; the "
-        "default is never.",
+        "lose N, repeat N, cut LENGTH N: any frame is lost, doubled, or cut to its first LENGTH bytes, at most N times, all frames "
+        "together; the default is never.",
         "EVENT [N times]: this event may happen, at most N times, or once; `lose 2 1 times` loses frame 2.",
+        "then: the parts after it are of the next phase. Once an event of a later phase came, none of an earlier one happens. Deliveries "
+        "and flushes are of each phase, as often as in the one before it unless it says otherwise; everything else is of the phase in "
+        "which it is said.",
+        "dies NODE: the next phase, in which the node does nothing more, so what waits in it is never sent.",
         "at most RUNS: give up if a depth needs more runs than that; the default is 1,000,000.",
         "Runs of no event are searched first, then those of one, and so on. An interrupt (Ctrl-C) ends the search, which reports how far "
-        "it got. `take` steps what was found. The last form is the program's own line (docs/FORMATS.md). A search on a server needs one "
-        "that reports its setup.",
+        "it got. The program's line that was answered last is shown, and `save` writes it with its answer. `take` steps what was found. "
+        "The last form is such a line (docs/FORMATS.md). A search on a server needs one that reports its setup.",
     )
 )
 
@@ -130,7 +141,7 @@ SHELL: Dict[str, Help] = {
     SEARCH: Help(
         "\n".join((*FOR_PEOPLE, f"{SEARCH} BRANCH DEPTH RUNS GOAL [; CHOICE]..")),
         "finds a shortest run of events after which a packet would be dropped, or would pass, or the nodes do not have the same "
-        "states; or proves that there is none",
+        "states; or reports that there is none, which is proved",
         SEARCH_PARTS,
     ),
     "take": Help(
@@ -172,8 +183,9 @@ SHELL: Dict[str, Help] = {
     "save": Help(
         "save FILE",
         "writes the setup and the commands of this session with their replies, as a script",
-        "Comments that were typed (`# ..`) stay in it, so a story can be typed as well; faulty lines are left out. On a server it has the "
-        "commands of all sessions, and no typed comments.",
+        "Comments that were typed (`# ..`) stay in it, so a story can be typed as well; faulty lines are left out. Searches stay in it "
+        "with their answers, and `verify` asks them anew. On a server it has the commands of all sessions, but no searches and no typed "
+        "comments.",
     ),
     "help": Help("help [WORD]", "lists all words, or explains one"),
     "quit": Help("quit", "ends the shell, as the end of input does"),

@@ -16,7 +16,7 @@ from .charts.windows import read_asked
 from .colours import Paint
 from .dialogue import Loop
 from .fitting import shortened
-from .laboratory import Laboratory, Unknown, event_of
+from .laboratory import Asked, Laboratory, Unknown, event_of
 from .language import pf_conf
 from .language.commands import SETUP, STEP
 from .language.events import BROKEN, DELIVER, DROPPED, EVENTS, TICK
@@ -125,6 +125,11 @@ class Shell(Loop):
         """Asks a line in place of what was typed; returns whether it was neither refused nor faulty."""
         self.show_whole([self.paint.dim(f"> {line}")])
         return self.ask(line)
+
+    def record(self, asked: Asked) -> None:
+        """Shows a line that was asked in a run of its own, in place of what was typed, and takes it with its reply into the script."""
+        self.lines.append((asked.line, asked.reply))
+        self.show_whole([self.paint.dim(f"> {asked.line}")])
 
     def setup_line(self, line: str) -> None:
         if self.lab.is_open:
@@ -362,8 +367,8 @@ class Shell(Loop):
         lines = self.lines_of_pair()
         if self.lab.port is not None and not lines:
             raise Unknown("a script begins with the setup of its pair, and has the commands of all sessions: this server does not report them")
-        # (a faulty line is a slip in the dialogue, and not part of its script)
-        kept = ((line, reply) for line, reply in lines if not reply or not reply[0].startswith("bad "))
+        # (a faulty line is a slip in the dialogue, and not part of its script; the replies of a script that was read are written anew)
+        kept = ((line, reply) for line, reply in lines if not scripts.is_mark(line) and not "".join(reply[:1]).startswith("bad "))
         return "".join(f"{text}\n" for line, reply in kept for text in (line, *(f"{scripts.REPLY}{part}" for part in reply)))
 
     def do_whatif(self, words: str) -> None:

@@ -148,6 +148,8 @@ RETRY = Event(
 _EVENTS = (PACKET, FLUSH, DELIVER, LOSE, REPEAT, CUT, TICK, PURGE, RELEASE, KILL, CLEAR, RESTART, TURN, RETRY)
 EVENTS = {it.word: it for it in _EVENTS}
 OF_FRAME = {it.word: it for it in _EVENTS if it.values[0] is form.TICKET}
+# What happens at a node by itself, and concerns nothing else of the pair.
+OF_NODE = {it.word: it for it in _EVENTS if it.word not in OF_FRAME and it not in (FLUSH, RESTART)}
 
 
 def plain_event(words: Sequence[str]) -> str:

@@ -5,19 +5,22 @@ from typing import List, Sequence
 
 from . import forms as form
 from .commands import COMMANDS, EVENT, OPEN, RULE, SET, SETUP, STEP, WHY
-from .events import CUT, CUT_LENGTH, EVENTS, OF_FRAME, PACKET, read_packet
+from .events import CUT, CUT_LENGTH, EVENTS, OF_FRAME, OF_NODE, PACKET, read_packet
 from .forms import nearest, number
 from .packets import PacketEvent
 from .pf_conf import hint
 from .readers import LineFault, Reader
-from .searches import ANY, APART, FORM, GOALS, HEAD, MOST_CHOICES, SCOPES, SEARCH, words_of
+from .searches import ANY, APART, DIFFER, FORM, GOALS, HEAD, MOST_CHOICES, MOST_PHASES, OF_PAIR, SCOPES, SEARCH, SPLIT, THEN, words_of
 from .setups import CLASSES, LIMITS, OPTIONS, TIMEOUT
 
 LONGEST_LINE = 512
 # The first words of lines that follow a setup.
 KNOWN = (*COMMANDS, SEARCH)
 # What the shell takes as a search.
-FOR_PEOPLE = (f"{SEARCH} drops packet .. [, PART]..", f"{SEARCH} passes packet .. [, PART]..", f"{SEARCH} {APART} [, PART]..")
+FOR_PEOPLE = (
+    *(f"{SEARCH} {it} packet .. [, PART].." for it in ("drops", "passes", "splits")),
+    *(f"{SEARCH} {it} [, PART].." for it in (DIFFER, APART)),
+)
 
 
 def lines_of(text: str) -> List[str]:
@@ -181,17 +184,29 @@ def _check_search(line: str) -> None:
         first.take(wanted)
     _check_goal(first)
     first.finish("goal")
-    for many, (before, end) in enumerate(zip(ends, ends[1:])):
-        if many == MOST_CHOICES:
+    choices, phases = 0, 1
+    for before, end in zip(ends, ends[1:]):
+        is_then = words[before + 1 : end] == [THEN]
+        choices, phases = choices + (not is_then), phases + is_then
+        if choices > MOST_CHOICES:
             raise LineFault("Extra", before, f"a search has at most {MOST_CHOICES} choices")
-        _check_choice(Reader(words, before + 1, end))
+        if phases > MOST_PHASES:
+            raise LineFault("Extra", before, f"a search has at most {MOST_PHASES} phases")
+        if not is_then:
+            _check_choice(Reader(words, before + 1, end))
 
 
 def _check_goal(reader: Reader) -> None:
     if reader.next in SCOPES:
         reader.at += 1
-    if reader.known("goal", GOALS) != APART:
-        _check_event(reader)
+    goal = reader.known("goal", GOALS)
+    if goal in OF_PAIR:
+        return
+    first = reader.at
+    _check_event(reader)
+    word = reader.words[first]
+    if goal == SPLIT and word not in OF_NODE:
+        raise LineFault("Unknown", first, f"`{word}` is no event of a node by itself, such as `{PACKET.word}`")
 
 
 def _check_choice(reader: Reader) -> None:

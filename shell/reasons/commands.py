@@ -110,7 +110,8 @@ _REFUSALS: Dict[str, Callable[[Laboratory, Sequence[str]], List[str]]] = {
 # What the first word of a reply to a search says.
 _SEARCHED = {
     FOUND: "no run of these choices with fewer events leads to the goal: that is proved; `take` steps this one on a new branch",
-    NONE: "no run of at most this many events of these choices leads to the goal: that is proved",
+    NONE: "no run of these choices leads to the goal, of at most this many events, or of any length where it says `any`: that is proved; "
+    "the last number is how many runs end where the goal is asked for, and if it is 0, this says nothing about the goal",
     GAVE_UP: "there were more runs to try, so nothing is known: allow more runs, or fewer events or choices",
 }
 

@@ -4,7 +4,7 @@ from __future__ import annotations
 from dataclasses import dataclass
 from typing import Optional, Sequence, Tuple, Union
 
-from ..language.searches import FOUND, GAVE_UP, NONE
+from ..language.searches import ANY_LENGTH, FOUND, GAVE_UP, NONE
 
 
 @dataclass(frozen=True)
@@ -18,10 +18,12 @@ class Found:
 
 @dataclass(frozen=True)
 class NoRun:
-    """There is no run of at most `depth` events; and how many were tried."""
+    """There is no run of at most `depth` events, or of any length if there is no depth; how many runs were tried, and how many of them
+    end where the question is asked."""
 
-    depth: int
+    depth: Optional[int]
     runs: int
+    asked: int
 
 
 @dataclass(frozen=True)
@@ -35,10 +37,10 @@ Answer = Union[Found, NoRun, GaveUp]
 
 
 def read_answer(reply: Sequence[str]) -> Optional[Answer]:
-    """What a reply answers; nothing if it is a refusal or a fault."""
+    """What a reply answers; nothing if it is a refusal, a fault, or an answer of an older program."""
     words = reply[0].split()
     if words[0] == FOUND:
         return Found(words[1], tuple(line.split(" ", 4)[4] for line in reply[1:-1]), int(words[5]))
-    if words[0] == NONE:
-        return NoRun(int(words[1]), int(words[2]))
+    if words[0] == NONE and len(words) == 4:
+        return NoRun(None if words[1] == ANY_LENGTH else int(words[1]), int(words[2]), int(words[3]))
     return GaveUp(int(words[2])) if words[0] == GAVE_UP else None

@@ -8,9 +8,10 @@ from typing import TYPE_CHECKING, IO, Iterator, Optional, Sequence, Tuple
 from .. import helps
 from ..colours import Paint
 from ..laboratory import Unknown
+from ..language.searches import SEARCH
 from .answers import Found, NoRun, read_answer
 from .deepening import search
-from .reading import is_for_people, read
+from .reading import is_for_people, read, wrong_goal
 from .report import report, runs
 
 if TYPE_CHECKING:
@@ -65,6 +66,9 @@ class Finder:
         """A search in people's words, or the program's own line."""
         if not self.lab.searches:
             raise Unknown(ON_A_SERVER)
+        fault = wrong_goal(line)
+        if fault:
+            raise Unknown(f"{fault}; `help {SEARCH}` has the forms")
         if is_for_people(line):
             self._search(line)
         else:
@@ -86,6 +90,8 @@ class Finder:
         finally:
             status.clear()
         self._keep(branch.name, outcome.answer.events if isinstance(outcome.answer, Found) else None)
+        if outcome.asked:
+            self.shell.record(outcome.asked)
         self.shell.show(report(sought, outcome, self.shell.paint))
         if outcome.answer is None and not self.shell.is_typed:
             # (outside a dialogue an interrupt ends the shell)

@@ -3,11 +3,12 @@ from __future__ import annotations
 
 from typing import List, NamedTuple, Sequence, Tuple
 
-from ..language.events import CUT, EVENTS, OF_FRAME, PACKET
-from ..language.searches import ANY, APART, SCOPES, SEARCH, words_of
+from ..language.events import CUT, EVENTS, OF_FRAME, OF_NODE, PACKET
+from ..language.names import NODES
+from ..language.searches import ANY, OF_PAIR, SCOPES, SEARCH, SPLIT, THEN, words_of
 from ..language.searches import GOALS as GOALS_OF_LINES
 from .reading import OF_ANY, PARTS, is_for_people
-from .sought import GOALS
+from .sought import DIES, GOALS
 
 
 class Offers(NamedTuple):
@@ -35,9 +36,9 @@ def _of_people(words: Sequence[str]) -> Offers:
     if not part:
         return Offers(PARTS)
     if part[0] == SEARCH:
-        return Offers((PACKET.word,) if part[2:] == [] and part[1] != APART else (), tuple(part[2:]))
-    if part == ["at"]:
-        return Offers(("most",))
+        return Offers((PACKET.word,) if part[2:] == [] and part[1] not in OF_PAIR else (), tuple(part[2:]))
+    if part in (["at"], [DIES]):
+        return Offers(("most",) if part == ["at"] else NODES)
     if part[0] in OF_ANY or part[0] == CUT.word:
         return Offers()
     return Offers((), tuple(part)) if part[0] in EVENTS else Offers()
@@ -46,17 +47,26 @@ def _of_people(words: Sequence[str]) -> Offers:
 def _of_line(words: Sequence[str]) -> Offers:
     """Parts that end with semicolons; the first has a branch, a depth and a number of runs, the others how often."""
     ends = [at for at, word in enumerate(words) if word == ";"]
-    part = list(words[ends[-1] + 2 :]) if ends else [it for it in words[4:] if it not in SCOPES]
-    if ends and words[-1] == ";" or not ends and len(words) < 4:
-        return Offers()
-    if not ends and not part:
-        return Offers((*(SCOPES if len(words) == 4 else ()), *GOALS_OF_LINES))
     if not ends:
-        return _event(part[1:]) if part[0] != APART else Offers()
+        return _of_goal([it for it in words[4:] if it not in SCOPES], len(words))
+    part = list(words[ends[-1] + 2 :])
+    if words[-1] == ";":
+        return Offers((THEN,))
+    if words[ends[-1] + 1] == THEN:
+        return Offers()
     if part[:1] == [ANY]:
         return Offers(tuple(OF_FRAME) if len(part) == 1 else ())
-    return _event(part) if part else Offers((ANY, *EVENTS))
+    return Offers((), tuple(part)) if part else Offers((ANY, *EVENTS))
 
 
-def _event(part: Sequence[str]) -> Offers:
-    return Offers((), tuple(part)) if part else Offers(tuple(EVENTS))
+def _of_goal(goal: Sequence[str], length: int) -> Offers:
+    """What may come after the first words of the first part, this many, the last of which are of a goal if it has begun."""
+    if length < 4:
+        return Offers()
+    if not goal:
+        return Offers((*(SCOPES if length == 4 else ()), *GOALS_OF_LINES))
+    if goal[0] in OF_PAIR:
+        return Offers()
+    if goal[1:]:
+        return Offers((), tuple(goal[1:]))
+    return Offers(tuple(OF_NODE if goal[0] == SPLIT else EVENTS))

@@ -2,27 +2,46 @@
 from __future__ import annotations
 
 import re
+from dataclasses import dataclass, field
 from typing import Dict, List, Optional, Sequence, Tuple
 
 from .. import macros
 from ..laboratory import Unknown, event_of
-from ..language.events import CUT, DELIVER, EVENTS, FLUSH, LOSE, PACKET, REPEAT, TICK
-from ..language.forms import GREATEST, nearest
+from ..language.events import CUT, DELIVER, EVENTS, FLUSH, LOSE, OF_FRAME, PACKET, REPEAT, TICK
+from ..language.forms import GREATEST, NODE, nearest
 from ..language.lines import LONGEST_LINE
-from ..language.searches import ANY, APART, DEEPEST, MOST_CHOICES
-from .sought import ALWAYS, ANY_DELIVERY, GOALS, RUNS, SCOPE, WHERE, Choice, Sought
+from ..language.searches import ANY, DEEPEST, MOST_CHOICES, MOST_PHASES, OF_PAIR, PASSED, QUIET, SEARCH, THEN, UNPASSED
+from .sought import ALWAYS, ANY_DELIVERY, ANYWHERE, DIES, DROPS, GOALS, PASSES, RUNS, WHERE, Choice, Phase, Sought
 from .sought import EVENTS as EVENTS_AT_MOST
 
-PARTS = (*WHERE, "within", "at", *EVENTS)
+PARTS = (*WHERE, "within", "at", DIES, THEN, *EVENTS)
 # What happens to any frame: the number after it says how often, and is not a ticket.
 OF_ANY = (DELIVER.word, LOSE.word, REPEAT.word)
+# What people say where the program says this.
+_SAID = {**{goal: said for said, goal in GOALS.items()}, PASSED: PASSES, UNPASSED: DROPS}
 
 
 def is_for_people(line: str) -> bool:
     """Whether a line that begins with `search` goes on in people's words, and not with a branch, a depth and a number of runs."""
-    words = line.replace(",", " ").split()
-    is_raw = len(words) > 3 and all(re.fullmatch("[0-9]+", it) for it in words[2:4])
-    return len(words) > 1 and words[1] in GOALS and not is_raw
+    words = _words(line)
+    return len(words) > 1 and words[1] in GOALS and not _is_of_program(words)
+
+
+def wrong_goal(line: str) -> str:
+    """What is wrong with the word after `search`, if one that people say was probably meant, and the line is not the program's."""
+    words = _words(line)
+    if len(words) < 2 or words[1] in GOALS or _is_of_program(words):
+        return ""
+    meant = f" (did you mean `{_SAID[words[1]]}`?)" if words[1] in _SAID else nearest(words[1], GOALS)
+    return meant and f"`{words[1]}` is nothing to search for{meant}"
+
+
+def _words(line: str) -> List[str]:
+    return line.replace(",", " ").split()
+
+
+def _is_of_program(words: Sequence[str]) -> bool:
+    return len(words) > 3 and all(re.fullmatch("[0-9]+", it) for it in words[2:4])
 
 
 def read(line: str, branch: str) -> Sought:
@@ -41,15 +60,31 @@ def read(line: str, branch: str) -> Sought:
 
 
 def _packet(words: Sequence[str]) -> str:
-    """The packet that is to drop or to pass; empty if nodes are to be apart."""
+    """The packet that is asked about; empty if it is the states."""
     kind, *event = words
-    if kind == APART:
+    if kind in OF_PAIR:
         if event:
-            raise Unknown(f"a comma is missing: `search apart, {' '.join(event)}`")
+            raise Unknown(f"a comma is missing: `{SEARCH} {kind}, {' '.join(event)}`")
         return ""
     if event[:1] != [PACKET.word]:
-        raise Unknown(f"what {kind} is a packet: `search {kind} packet NODE in|out ..`; `help packet` has its form")
+        raise Unknown(f"what {kind} is a packet: `{SEARCH} {kind} packet NODE in|out ..`; `help packet` has its form")
     return event_of(event)
+
+
+@dataclass
+class _Draft:
+    """A phase as far as it is read: the nodes that do nothing more in it, and how often each choice that is named may happen; nothing
+    means as often as there are events."""
+
+    dead: Tuple[str, ...] = ()
+    uses: Dict[str, Optional[int]] = field(default_factory=dict)
+
+    def allow(self, what: str, uses: Optional[int]) -> None:
+        _once(f"`{what}`", what if what in self.uses else None)
+        node = _node_of(what)
+        if node in self.dead:
+            raise Unknown(f"`{what}`: {node} does nothing more after `{DIES} {node}`")
+        self.uses[what] = uses
 
 
 class _Parts:
@@ -59,13 +94,13 @@ class _Parts:
         self.scope: Optional[str] = None
         self.within: Optional[int] = None
         self.runs: Optional[int] = None
-        # How often each choice that is named may happen; nothing means as often as there are events.
-        self.uses: Dict[str, Optional[int]] = {}
+        self.drafts = [_Draft()]
 
     def take(self, words: Sequence[str]) -> None:
         if not words:
             raise Unknown("a part without a word: commas separate the parts")
-        if words[0] in WHERE and len(words) == 1:
+        if words[0] in WHERE:
+            _alone(words, 1)
             _once("where it is asked", self.scope)
             self.scope = words[0]
         elif words[0] == "within":
@@ -74,19 +109,61 @@ class _Parts:
         elif words[0] == "at":
             _once("`at most`", self.runs)
             self.runs = _counted(words[2:] if words[:2] == ["at", "most"] else (), "run", GREATEST, "at most RUNS")
+        elif words[0] in (DIES, THEN):
+            self._begin(words)
         else:
             for what, uses in _choices(words):
-                _once(f"`{what}`", what if what in self.uses else None)
-                self.uses[what] = uses
+                self.drafts[-1].allow(what, uses)
+
+    def _begin(self, words: Sequence[str]) -> None:
+        """Begins the next phase."""
+        _alone(words, 2 if words[0] == DIES else 1)
+        dead = self.drafts[-1].dead
+        if words[0] == DIES:
+            node = "".join(words[1:])
+            fault = NODE.fault(node) if node else NODE.missing
+            if fault:
+                raise Unknown(f"`{' '.join(words)}`: {fault}")
+            _once(f"`{DIES} {node}`", node if node in dead else None)
+            dead = (*dead, node)
+        self.drafts.append(_Draft(dead))
+        if len(self.drafts) > MOST_PHASES:
+            raise Unknown(f"a search has at most {MOST_PHASES} phases")
 
     def sought(self, kind: str, packet: str) -> Sought:
         within = EVENTS_AT_MOST if self.within is None else self.within
-        uses = {**dict.fromkeys(ALWAYS), **self.uses}
-        if len(uses) > MOST_CHOICES:
-            raise Unknown(f"a search has at most {MOST_CHOICES} choices, but these are {len(uses)}: {', '.join(uses)}")
-        choices = tuple(Choice(what, within if many is None else many) for what, many in uses.items())
-        runs = RUNS if self.runs is None else self.runs
-        return Sought(kind, packet, self.scope or SCOPE, within, runs, choices)
+        phases = self._phases(within)
+        said = [it.what for phase in phases for it in phase.choices]
+        if len(said) > MOST_CHOICES:
+            raise Unknown(f"a search has at most {MOST_CHOICES} choices, but these are {len(said)}: {', '.join(said)}")
+        dead = self.drafts[-1].dead
+        if packet and _node_of(packet) in dead:
+            raise Unknown(f"{_node_of(packet)} does nothing more after `{DIES} {_node_of(packet)}`: ask about a packet at the other node")
+        scope = self.scope or (ANYWHERE if dead else QUIET)
+        return Sought(kind, packet, scope, within, RUNS if self.runs is None else self.runs, phases)
+
+    def _phases(self, within: int) -> Tuple[Phase, ...]:
+        """The phases with what people leave out: the events that happen without being named may happen as often as in the phase before."""
+        phases: List[Phase] = []
+        always: Dict[str, Optional[int]] = dict.fromkeys(ALWAYS)
+        for draft in self.drafts:
+            uses = {what: many for what, many in {**always, **draft.uses}.items() if _node_of(what) not in draft.dead}
+            always = {what: uses[what] for what in always if what in uses}
+            choices = tuple(Choice(what, within if many is None else many) for what, many in uses.items())
+            phases.append(Phase(choices, draft.dead))
+        return tuple(phases)
+
+
+def _alone(words: Sequence[str], most: int) -> None:
+    """Raises that a comma is missing where a part of at most this many words goes on."""
+    if len(words) > most:
+        raise Unknown(f"a comma is missing: `{' '.join(words[:most])}, {' '.join(words[most:])}`")
+
+
+def _node_of(what: str) -> str:
+    """The node whose event a choice is; empty if it is a frame's."""
+    first, *rest = what.split()
+    return "" if first == ANY or first in OF_FRAME else rest[0]
 
 
 def _once(what: str, had: object) -> None:

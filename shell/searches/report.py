@@ -4,11 +4,18 @@ from __future__ import annotations
 from typing import List, Sequence
 
 from ..colours import Paint
-from ..pair import Pair
+from ..diffs import unequal_fields
+from ..language.searches import DIFFER, QUIET
+from ..pair import Pair, other
 from ..words import counted
 from .answers import Found, GaveUp, NoRun
 from .deepening import Outcome, Step
-from .sought import WHERE, Sought
+from .sought import ANYWHERE, DIES, DROPS, SPLITS, WHERE, Sought
+
+NEVER_ASKED = f"it was never asked, so this says nothing about it: `{ANYWHERE}` asks at the end of each run"
+# How the names of the fields begin that `differ` compares, and the flags of a state that it leaves out.
+COMPARED = ("source ", "destination ", "class")
+UNSYNCHRONISED = "n"
 
 
 def runs(number: int) -> str:
@@ -20,7 +27,7 @@ def report(sought: Sought, outcome: Outcome, paint: Paint) -> List[str]:
     if isinstance(outcome.answer, Found):
         lines = _found(sought, outcome, outcome.answer, paint)
     elif isinstance(outcome.answer, NoRun):
-        lines = [paint.head(_none(outcome.answer))]
+        lines = [paint.head(_none(outcome.answer)), *map(paint.note, _left_open(sought, outcome.answer))]
     else:
         lines = [paint.note(_stopped(outcome))]
     lines += [paint.dim(it) for it in sought.terms]
@@ -50,31 +57,65 @@ def _frame(step: Step) -> str:
 
 
 def _then(sought: Sought, outcome: Outcome, last: Pair, paint: Paint) -> List[str]:
-    """What meets the goal after the last event; and if that is so at once, how to ask later."""
-    lines = [f"  then {sought.packet}: {outcome.packet}" if sought.packet else f"  then {_apart(last)}"]
-    if not outcome.steps and (last.frames or last.a.pending + last.b.pending):
-        lines.append(paint.note(f"something is still in flight or pending: `settled` asks only {WHERE['settled']}"))
+    """What meets the goal after the last event; and if the pair is not at rest there, how to ask only where it is."""
+    at_other = f"; at {other(sought.node)}: {outcome.at_other}" if outcome.at_other else ""
+    lines = [f"  then {sought.packet}: {outcome.packet}{at_other}" if sought.packet else f"  then {_of_states(sought, last)}"]
+    if last.frames or any(node.pending or node.serve != "-" for node in last.nodes.values()):
+        lines.append(paint.note(f"the pair is not at rest there: `{QUIET}` asks only {WHERE[QUIET]}"))
     return lines
+
+
+def _of_states(sought: Sought, pair: Pair) -> str:
+    return _differing(pair) if sought.kind == DIFFER else _apart(pair)
 
 
 def _apart(pair: Pair) -> str:
     """The states that only one node has, by their names."""
     parts = []
-    for node, other in ((pair.a, pair.b), (pair.b, pair.a)):
-        names = [str(it) for it in sorted(node.states) if it not in other.states]
+    for node, peer in ((pair.a, pair.b), (pair.b, pair.a)):
+        names = [str(it) for it in sorted(node.states) if it not in peer.states]
         if names:
             parts.append(f"{', '.join(names)} only on {node.id}")
-    return f"a and b are apart: {'; '.join(parts)}"
+    return f"a and b are apart by names: {'; '.join(parts)}"
+
+
+def _differing(pair: Pair) -> str:
+    """The states at both nodes that differ in what `differ` compares, and in what."""
+    parts = []
+    for name in sorted(it for it in pair.a.states if it in pair.b.states):
+        one, two = pair.a.states[name], pair.b.states[name]
+        fields = {it: both for it, both in unequal_fields(one, two).items() if it.startswith(COMPARED)}
+        if fields and UNSYNCHRONISED not in (one.flags, two.flags):
+            parts.append(f"{name}: {', '.join(f'{it} {first} | {second}' for it, (first, second) in fields.items())}")
+    return f"a and b differ in {'; '.join(parts)}"
 
 
 def _none(answer: NoRun) -> str:
-    events = counted(answer.depth, "event")
-    return f"no run of at most {events} of these choices leads there: proved, over {runs(answer.runs)}"
+    if answer.depth is None:
+        what = "no run of these choices leads there, of any length"
+    else:
+        what = f"no run of at most {counted(answer.depth, 'event')} of these choices leads there"
+    ends = {0: "none of which ends", 1: "1 of which ends"}.get(answer.asked, f"{answer.asked:,} of which end")
+    return f"{what}: proved, over {runs(answer.runs)}, {ends} where it is asked"
+
+
+def _left_open(sought: Sought, answer: NoRun) -> List[str]:
+    """What the answer says nothing about, and how to ask it."""
+    if not answer.asked:
+        return [NEVER_ASKED]
+    if sought.kind in (DROPS, SPLITS) and sought.scope != ANYWHERE:
+        node = other(sought.node)
+        word = ANYWHERE if node in sought.phases[-1].dead else f"{DIES} {node}"
+        return [f"{node} can die at other moments, too: `{word}` asks at each of them"]
+    return []
 
 
 def _stopped(outcome: Outcome) -> str:
     """A line that a search gave up or was interrupted, and what is known nevertheless."""
-    known = f"up to depth {outcome.depth - 1} there is none" if outcome.depth else "nothing is known"
+    known = "nothing is known"
+    if outcome.known:
+        never = "" if outcome.known.asked else ", but it was asked nowhere"
+        known = f"up to depth {outcome.known.depth} there is none{never}"
     if isinstance(outcome.answer, GaveUp):
         return f"gave up after {runs(outcome.answer.runs)} at depth {outcome.depth}; {known}"
     return f"interrupted at depth {outcome.depth}; {known}"

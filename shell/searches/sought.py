@@ -7,18 +7,30 @@ from typing import Dict, List, Tuple
 
 from ..language.events import DELIVER, FLUSH
 from ..language.names import NODES
-from ..language.searches import ANY, APART, LANDED, PASSED, SEARCH, SETTLED, UNPASSED
+from ..language.searches import ADMITTED, ANY, APART, DIFFER, DROPPED, LANDED, QUIET, SEARCH, SETTLED, SPLIT, THEN
+from ..pair import other
 from ..words import counted
 
 # What people say, and the goal of the line.
-GOALS: Dict[str, str] = {"drops": UNPASSED, "passes": PASSED, APART: APART}
-# Where the question is asked, unless people say something else: at a pair at rest.
-SCOPE = SETTLED
+DROPS, PASSES, SPLITS = "drops", "passes", "splits"
+GOALS: Dict[str, str] = {DROPS: DROPPED, PASSES: ADMITTED, SPLITS: SPLIT, DIFFER: DIFFER, APART: APART}
+# What is asked; the nodes are the packet's and the other one.
+ASKED: Dict[str, str] = {
+    DROPS: "whether it is dropped",
+    PASSES: "whether it passes or is held",
+    SPLITS: "whether it is dropped at {node}, and passes or is held at {other}",
+    DIFFER: "whether a state at both nodes, and no-sync at neither, has other levels, numbers or class",
+    APART: "whether one node has a state whose name the other does not have, and nothing else of the states",
+}
+# The part that says that a node does nothing more.
+DIES = "dies"
+# Where it is asked. People get the second one unless they say something else, and where a node dies the last.
 ANYWHERE = "anywhere"
 WHERE: Dict[str, str] = {
     LANDED: "when no frame is in flight",
-    SETTLED: "when nothing is in flight or pending",
-    ANYWHERE: "after each event",
+    QUIET: "when nothing is in flight or pending, and neither node serves a bulk update",
+    SETTLED: "when nothing is in flight or pending, and neither node serves a bulk update or waits for one",
+    ANYWHERE: "where the branch stands and after each event",
 }
 EVENTS, RUNS = 8, 1_000_000
 ANY_DELIVERY = f"{ANY} {DELIVER.word}"
@@ -47,32 +59,65 @@ class Choice:
 
 
 @dataclass(frozen=True)
+class Phase:
+    """What may happen in a part of a run, and the nodes that do nothing more in it."""
+
+    choices: Tuple[Choice, ...]
+    dead: Tuple[str, ...] = ()
+
+    @property
+    def words(self) -> str:
+        parts = [_allowed(uses, [it.words for it in those]) for uses, those in groupby(self.choices, lambda it: it.times)]
+        return "; ".join(parts)
+
+
+@dataclass(frozen=True)
 class Sought:
-    """A search in people's words: the packet that drops or passes, if it is about one, where it is asked, and the choices."""
+    """A search in people's words: what it asks, of which packet if it is about one, where it is asked, and what may happen."""
 
     kind: str
     packet: str
     scope: str
     within: int
     runs: int
-    choices: Tuple[Choice, ...]
+    phases: Tuple[Phase, ...]
+
+    @property
+    def node(self) -> str:
+        """The node of the packet."""
+        return self.packet.split()[1]
+
+    @property
+    def packet_of_other(self) -> str:
+        """The packet at the other node."""
+        first, node, *rest = self.packet.split()
+        return " ".join([first, other(node), *rest])
 
     def line(self, branch: str, depth: int) -> str:
         """The line that asks the program for runs of at most `depth` events."""
         scope = "" if self.scope == ANYWHERE else self.scope
         goal = " ".join(filter(None, (scope, GOALS[self.kind], self.packet)))
-        choices = [f"{it.uses} {it.what}" for it in self.choices]
-        return "; ".join([f"{SEARCH} {branch} {depth} {self.runs} {goal}", *choices])
+        phases = ["; ".join(f"{it.uses} {it.what}" for it in phase.choices) for phase in self.phases]
+        return f"{SEARCH} {branch} {depth} {self.runs} {goal}; " + f"; {THEN}; ".join(phases)
 
     @property
     def terms(self) -> List[str]:
-        """When it is asked, and what was allowed, including defaults."""
+        """What is asked and when, and what was allowed in each phase, including defaults."""
         runs = "1 run" if self.runs == 1 else f"{self.runs:,} runs"
-        asked = f"asked {WHERE[self.scope]}, within {counted(self.within, 'event')}, at most {runs}"
-        parts = [_allowed(uses, [it.words for it in those]) for uses, those in groupby(self.choices, lambda it: it.times)]
-        return [asked, f"allowed: {'; '.join(parts)}; nothing else"]
+        what = ASKED[self.kind].format(node=self.node, other=other(self.node)) if self.packet else ASKED[self.kind]
+        first, *others = self.phases
+        allowed = [f"allowed: {first.words}", *(f"{_begun(it)}: {it.words}" for it in others)]
+        allowed[-1] += "; nothing else"
+        return [f"asked {what}, {WHERE[self.scope]}; within {counted(self.within, 'event')}, at most {runs}", *allowed]
+
+
+def _begun(phase: Phase) -> str:
+    """How a phase after the first begins."""
+    if not phase.dead:
+        return "then"
+    return f"then, where {' and '.join(phase.dead)} {'do' if phase.dead[1:] else 'does'} nothing more"
 
 
 def _allowed(times: str, choices: List[str]) -> str:
-    each = " each" if len(choices) > 1 and times not in ("never", "once") else ""
+    each = " each" if len(choices) > 1 and times != "never" else ""
     return f"{', '.join(choices)} ({times}{each})"

@@ -19,7 +19,7 @@ from . import TOP, program
 QUERY = "packet a out udp 10.0.0.1:1000 192.0.2.9:53 40"
 ANSWER = "packet b in udp 192.0.2.9:53 10.0.0.1:1000 80"
 SETUP = ["rule a block any", "rule a pass out", "rule b block any", "rule b pass out", "open"]
-NONE = {depth: [f"none {depth} {depth + 1}"] for depth in range(9)}
+NONE = {depth: [f"none {depth} {depth + 1} {depth}"] for depth in range(9)}
 
 TEXT = """#!{python}
 import os, subprocess, sys, time

@@ -63,14 +63,20 @@ COMMANDS = [
     ("search main 65 9 apart", "bad 5 Number", "65", "is above 64"),
     ("search main 8 4294967296 apart", "bad 5 Number", "4294967296", "is above 4294967295"),
     ("search main 8 9 apert", "bad 3 Unknown", "apert", "did you mean `apart`?"),
-    ("search main 8 9 landed settled apart", "bad 3 Unknown", "settled", "is no goal: expected `apart`, `passed` or `unpassed`"),
-    ("search main 8 9 landed", "bad 4 Missing", "", "the goal is missing: apart, passed or unpassed"),
+    ("search main 8 9 landed settled apart", "bad 3 Unknown", "settled", "is no goal: expected `apart`, `differ`, "),
+    ("search main 8 9 landed", "bad 4 Missing", "", "the goal is missing: apart, differ, passed, unpassed, dropped, admitted or split"),
+    ("search main 8 9 split flush a", "bad 3 Unknown", "flush", "`flush` is no event of a node by itself, such as `packet`"),
+    ("search main 8 9 quiet split flush c x", "bad 5 Number", "c", "expected `a` or `b`, found `c`"),
+    ("search main 8 9 split kill a 1.1 x", "bad 6 Extra", "x", "the goal was complete before `x`"),
     ("search main 8 9 apart b; 1 flush", "bad 6 Extra", "b", "the goal was complete before `b`"),
     ("search main 8 9 apart;", "bad 4 Missing", "", "N is missing"),
     ("search main 8 9 apart; ; 1 x", "bad 4 Missing", ";", "N is missing"),
     ("search main 8 9 apart; 1 any flush a", "bad 3 Unknown", "flush", "is no event of any frame"),
     ("search main 8 9 apart;1 any cut;2 flush a", "bad 4 Missing", ";", "LEN is missing"),
     ("search main 8 9 apart; 1 any cut 5 2", "bad 6 Extra", "2", "the choice was complete before `2`"),
+    ("search main 8 9 apart; then a", "bad 5 Number", "then", "is not a number of decimal digits"),
+    ("search main 8 9 differ" + "; 1 flush a" * 16 + "; then;", "bad 6 Extra", ";", "a search has at most 16 choices"),
+    ("search main 8 9 differ" + "; then" * 16 + "; x", "bad 6 Extra", ";", "a search has at most 16 phases"),
     ("search main 8 9 apart" + "; 1 flush a" * 16 + ";", "bad 6 Extra", ";", "a search has at most 16 choices"),
     (PACKET.replace("step main", "search main 8 9 passed").replace("2 3", "2 65500 x"), "bad 7 Packet", "65500", "above 65495"),
     (PACKET.replace("2 3", "2 65500 x"), "bad 6 Extra", "x", "the line was complete before `x`"),
@@ -125,7 +131,7 @@ SETUPS = [
 ]
 POOL = (
     "a b c in out tcp UDP 6 47 256 1.2.3.4:5 1.2.3.4 ::1 S AS - 0 15 65496 65536 4294967296 1.1 1. main step flush packet x "
-    "search ; ; apart passed landed any deliver cut"
+    "search ; ; apart passed split quiet then any deliver cut"
 ).split()
 
 
@@ -236,6 +242,8 @@ class FaultReasons(unittest.TestCase):
             "search main 8 9 settled apart; 3 any deliver; 2 any cut 9; 1 flush a",
             f"{TCP.replace('step main', 'search main 8 9 landed passed')} ; 1 lose 2",
             f"search main 8 9 apart; 2 {PACKET[10:]}; 3 kill a 1.1",
+            f"search main 8 9 quiet split {PACKET[10:]}; then; 1 flush b; then; then; 1 lose 2",
+            "search main 8 9 differ" + "; then" * 14 + "; 2 flush a" * 16,
         ]
         whys = [TCP.replace("step", "why"), "why main lose 1", "why main 3", "frame main 1"]
         good = [PACKET, TCP, *steps, *searches, *searches, *whys, "fork main 1 x", "back main 1", "names"]

@@ -7,7 +7,7 @@ import random
 import re
 import tempfile
 import unittest
-from typing import Iterator, List
+from typing import Dict, Iterator, List
 from unittest import mock
 
 from fuzzing import mutator, trials
@@ -18,10 +18,12 @@ from fuzzing.readings import fault_of, read
 from fuzzing.timelines import replies_to
 from fuzzing.trials import Trial, minimised
 from fuzzing.wholes import pieces
+from oracle.orders import Tries
 from oracle.setups import setup as small_setup
 from oracle.subject import Differs, Subject
-from oracle.searches import Search, compare_search, is_allowed, line_of
+from oracle.searches import Search, compare_search, is_allowed, line_of, pair_of
 from oracle.tallies import Seen
+from shell.language.searches import OF_PACKET
 from shell.setups import Setup
 
 from . import TOP, program
@@ -102,9 +104,12 @@ LIES = (
     ("event 1 step main packet b out", "event 2 step main packet b out", 0),
     ("event 1 step main packet b out", "event 1 step main packet a out", 0),
     ("event 1 step main packet b out udp 10.0.0.1:1000 192.0.2.9:53 40", "event 1 step main tick a 2", 0),
-    ("none 2 ", "none 3 ", 0),
-    ("none 2 ", "none 2 9", 0),
-    ("none 2 ", "gave up ", 0),
+    ("found main events 1 runs 4", "found main events 1 runs 5", 0),
+    ("none any 5 5", "none 2 5 5", 0),
+    ("none any 5 5", "none any 5 4", 0),
+    ("none any 5 5", "none any 4 4", 0),
+    ("none any 5 5", "none any 91 91", 0),
+    ("none any 5 5", "gave up 90", 0),
 )
 
 
@@ -164,7 +169,7 @@ class WrongAnswers(unittest.TestCase):
 QUERY = "packet b out udp 10.0.0.1:1000 192.0.2.9:53 40"
 # Of each search what it cannot be answered, on a pair that has had no event.
 SEARCHES = (
-    (f"1 9 apart; 1 {QUERY}", "none 1 2"),
+    (f"1 9 apart; 1 {QUERY}", "none 1 2 2"),
     (f"2 9 apart; 1 {QUERY}; 1 flush b", f"found main events 2 runs 4|event 1 step main {QUERY}|event 2 step main flush b|end"),
     (f"2 9 passed {QUERY}; 1 {QUERY}", f"found main events 1 runs 2|event 1 step main {QUERY}|end"),
     (f"2 9 settled apart; 1 {QUERY}", f"found main events 1 runs 2|event 1 step main {QUERY}|end"),
@@ -172,15 +177,24 @@ SEARCHES = (
     (f"0 9 apart; 1 {QUERY}", f"found main events 1 runs 2|event 1 step main {QUERY}|end"),
     (f"2 9 apart; 0 {QUERY}", f"found main events 1 runs 2|event 1 step main {QUERY}|end"),
     (f"2 9 apart; 1 any deliver; 1 {QUERY}", "found main events 1 runs 2|event 1 step main deliver 1|end"),
-    ("2 9 apart; 1 clear a", "none 2 10"),
-    ("2 9 apart; 1 clear a", "none 2 0"),
+    (f"2 9 apart; then; 1 {QUERY}; then; 1 flush b", f"found main events 2 runs 4|event 1 step main flush b|event 2 step main {QUERY}|end"),
+    ("2 9 apart; 1 clear a", "none 2 10 10"),
+    ("2 9 apart; 1 clear a", "none 2 0 0"),
     ("2 9 apart; 1 clear a", "refused 1 NoBranch"),
-    ("2 9 apart; 1 clear a", "none 2 x"),
+    ("2 9 apart; 1 clear a", "none 2 x x"),
+    ("2 9 apart; 1 clear a", "none 2 5"),
+    # How often it was asked: in each pair where it is asked everywhere, in no more pairs than runs were tried, and in the first one here.
+    ("2 9 apart; 1 clear a", "none 2 5 4"),
+    ("2 9 landed apart; 1 clear a", "none 2 5 6"),
+    ("2 9 settled apart; 1 clear a", "none any 5 0"),
+    # There is a run of one event, and so all runs do not end before.
+    ("1 9 apart; 1 clear a", "none any 3 3"),
 )
 RIGHT = (
     (f"1 9 apart; 1 {QUERY}", f"found main events 1 runs 2|event 1 step main {QUERY}|end"),
     (f"2 9 passed {QUERY}; 1 {QUERY}", "found main events 0 runs 1|end"),
-    (f"2 9 landed unpassed {QUERY}; 1 clear a", "none 2 3"),
+    (f"2 9 landed unpassed {QUERY}; 1 clear a", "none 2 5 5"),
+    ("2 9 apart; 1 clear a", "none any 5 5"),
     ("2 9 apart; 1 clear a", "gave up 9"),
     (
         f"2 99 apart; 1 any lose; 1 {QUERY}; 1 {QUERY.replace('b out', 'a out')}; 1 flush b",
@@ -214,6 +228,78 @@ class Searches(unittest.TestCase):
         self.assertFalse(is_allowed(both, ["cut 2 5", "cut 3 5"]))
         self.assertFalse(is_allowed(both, ["cut 1 6"]))
         self.assertFalse(is_allowed(both, ["lose 7"] * 3))
+
+    def test_no_event_comes_after_one_of_a_later_phase(self) -> None:
+        three = Search.read("search main 9 9 apart; 2 lose 7; then; 1 any cut 5; then; 1 any lose")
+        for events, wanted in (
+            (["lose 7", "lose 7", "cut 1 5", "lose 8"], True),
+            (["cut 1 5", "lose 7"], True),
+            (["lose 7"] * 3, True),
+            (["lose 7"] * 4, False),
+            (["cut 1 5", "lose 7", "lose 7"], False),
+            (["lose 8", "lose 7"], False),
+            (["lose 8", "cut 1 5"], False),
+        ):
+            self.assertEqual(is_allowed(three, events), wanted, events)
+
+    def test_each_question_is_judged_by_the_pair(self) -> None:
+        """At a the query is held, and its answer passes by its state; b drops both. A second query is refused at a, whose queue is full."""
+        query, answer, other = "udp 10.0.0.1:1000 192.0.2.9:53 40", "udp 192.0.2.9:53 10.0.0.1:1000 40", "udp 10.0.0.2:1000 192.0.2.9:53 40"
+        with contextlib.closing(Subject(program(), 20)) as lab:
+            lab.open(Setup.of(["set queue 1", "set defer 1", "rule a block in", "rule a pass out", "rule b block any"]))
+            self.judge(lab, {f"{it} packet a out {query}": it in ("admitted", "unpassed") for it in OF_PACKET})
+            self.judge(lab, {f"{it} packet b out {query}": it in ("dropped", "unpassed", "split") for it in OF_PACKET})
+            self.assertEqual(lab.ask(f"step main packet a out {query}").split()[1:3], ["held", "1.1"])
+            self.judge(lab, {f"{it} packet a in {answer}": it in ("admitted", "passed") for it in OF_PACKET})
+            self.judge(lab, {f"{it} packet b in {answer}": it in ("dropped", "unpassed", "split") for it in OF_PACKET})
+            self.judge(lab, {f"{it} packet a out {other}": it == "unpassed" for it in OF_PACKET})
+            self.judge(lab, {f"{it} packet b out {other}": it in ("dropped", "unpassed") for it in OF_PACKET})
+            self.judge(lab, {f"{it} tick a 5": it == "unpassed" for it in OF_PACKET})
+            self.judge(lab, {"apart": True, "landed apart": True, "quiet apart": False, "settled apart": False, "differ": False})
+
+    def test_what_differs_and_where_it_is_asked(self) -> None:
+        with contextlib.closing(Subject(program(), 20)) as lab:
+            lab.open(Setup.of(["rule a pass out", "rule a pass out proto icmp no-sync"]))
+            for line in ("packet a out udp 10.0.0.1:1000 192.0.2.9:53 40", "flush a", "tick b 1000", "deliver 1"):
+                lab.ask(f"step main {line}")
+            self.judge(lab, {"apart": False, "differ": False, "settled differ": False})
+            for line in ("packet a in udp 192.0.2.9:53 10.0.0.1:1000 80", "flush a", "lose 2"):
+                lab.ask(f"step main {line}")
+            self.judge(lab, {"apart": False, "differ": True, "settled differ": True})
+            for line in ("restart b", "flush b", "lose 3"):
+                lab.ask(f"step main {line}")
+            self.judge(lab, {"apart": True, "differ": False, "quiet apart": True, "settled apart": False})
+            for line in ("tick b 10000", "retry b", "flush b", "deliver 4", "flush a", "deliver 5"):
+                lab.ask(f"step main {line}")
+            # (a serves, with nothing pending and nothing in flight)
+            self.judge(lab, {"landed apart": True, "quiet apart": False})
+
+    def judge(self, lab: Subject, wanted: Dict[str, bool]) -> None:
+        """Whether the pair that the first branch shows meets goals."""
+        room = lab, "main"
+        came = {it: Search.read(f"search main 0 9 {it}").is_met(room, pair_of(room)) for it in wanted}
+        self.assertEqual(came, wanted)
+
+    def test_all_runs_are_tried_in_their_order(self) -> None:
+        """Numbers worked out by hand: of two events that commute one order is tried, unless they are of two phases."""
+        for line, wanted in (
+            ("0 9 differ; 1 tick a 5", "none 0 1 1"),
+            ("1 9 differ; 1 tick a 5", "none 1 3 3"),
+            ("2 9 differ; 1 tick a 5", "none any 5 5"),
+            ("2 9 differ; 1 tick a 5; 1 tick a 6", "none 2 9 9"),
+            ("2 9 differ; 1 tick b 5; 1 tick a 5", "none 2 8 8"),
+            ("2 9 differ; 1 tick b 5; then; 1 tick a 5", "none 2 8 8"),
+            ("2 7 differ; 1 tick b 5; then; 1 tick a 5", "gave up 7"),
+            ("2 9 differ; 1 restart b; 1 restart a", "none 2 9 9"),
+            ("2 9 quiet differ; 1 restart b; 1 restart a", "none 2 9 3"),
+            (
+                f"3 9 landed apart; then; 1 flush b; then; 1 {QUERY}",
+                f"found main events 1 runs 3|event 1 step main {QUERY}|end",
+            ),
+        ):
+            with self.subTest(line), contextlib.closing(Subject(program(), 20)) as lab:
+                lab.open(Setup.of(["rule a pass out", "rule b pass out"]))
+                self.assertEqual(Tries((lab, "main"), Search.read(f"search main {line}")).answer(), wanted.split("|"))
 
     def test_lines_by_chance_have_no_fault_and_few_runs(self) -> None:
         chance = random.Random(5)

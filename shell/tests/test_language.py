@@ -17,7 +17,7 @@ from ..language.events import DELIVER, EVENTS, LAST_MILLISECOND, OF_FRAME, PACKE
 from ..language.forms import GREATEST, GREATEST_LONG, NODE, TICKET
 from ..language.lines import LONGEST_LINE
 from ..language.records import BY_WORD, KINDS, QUEUES
-from ..language.searches import ANY, DEEPEST, GOALS, MOST_CHOICES, SCOPES, SEARCH
+from ..language.searches import ANY, DEEPEST, MOST_CHOICES, MOST_PHASES, OF_PACKET, OF_PAIR, SCOPES, SEARCH, THEN
 from ..language.setups import CLASSES, LIMITS, MOST_RULES, RULE_FORM, STATES
 from ..reasons import commands, events, refusals
 from . import TOP
@@ -137,12 +137,13 @@ class Page(unittest.TestCase):
 
     def test_searches(self) -> None:
         text = section("### Searches")
-        self.assertIn(f"\n```text\n{SEARCH} BRANCH DEPTH RUNS GOAL; CHOICE; CHOICE ..\n```\n", text)
+        self.assertIn(f"\n```text\n{SEARCH} BRANCH DEPTH RUNS [SCOPE] QUESTION; PART; PART ..\n```\n", text)
         self.assertIn(f"from 0 to {DEEPEST} |", text)
-        self.assertIn(f"There are at most {MOST_CHOICES} choices", text)
-        said = [code for row in table("### Searches", "Word") for code in codes(row[1])]
+        self.assertIn(f"There are at most {MOST_CHOICES} choices, in at most {MOST_PHASES} phases", text)
+        # A row is about the forms before its colon.
+        said = [code for row in table("### Searches", "Word") if row[1].startswith("`") for code in codes(row[1].partition(": ")[0])]
         choices = [it for it in said if it.startswith("N ")]
-        self.assertEqual({it.split()[0] for it in said if it not in choices}, {*GOALS, *SCOPES})
+        self.assertEqual({it for it in said if it not in choices}, {*SCOPES, *OF_PAIR, *(f"{it} EVENT" for it in OF_PACKET), THEN})
         anything = [it.removeprefix(f"N {ANY} ") for it in choices if it != "N EVENT"]
         wanted = [" ".join([it.word, *(value.name for value in it.values[1:])]) for it in OF_FRAME.values()]
         self.assertEqual(anything, wanted)

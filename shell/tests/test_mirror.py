@@ -101,7 +101,7 @@ class Mirrored(Followers):
         self.assertEqual(self.said(shell, "flush a", "log")[2].split()[-2:], ["held", "1.1"])
         self.assertIn("rule 0 of a (pass any)", "".join(self.said(shell, "why 1")))
         self.assertRegex(self.said(shell, "whatif")[0], "^main, 2 events: [0-9]+ single faults")
-        self.assertRegex(self.said(shell, "search apart, anywhere")[0], "^found: no event is needed")
+        self.assertRegex(self.said(shell, "search apart, anywhere")[1], "^found: no event is needed")
         self.assertEqual(self.said(shell, "take"), ["> fork main 2 found", "forked", "the branch in use is now found"])
 
     def test_a_saved_script_has_the_commands_of_all_sessions(self) -> None:

@@ -88,7 +88,7 @@ class Lines(Dialogue):
         self.assertEqual(ends[4::2], ["`help packet` shows the form"] * 2)
         # The help of `search` has another form than the program's own.
         lines = [self.said(shell, "search main 65 9 apart") for _ in range(2)]
-        self.assertRegex(lines[0][-4], "^wanted: search BRANCH DEPTH RUNS ")
+        self.assertRegex(lines[0][-6], "^wanted: search BRANCH DEPTH RUNS ")
         self.assertEqual(lines[1][-1].strip(" "), "^^")
 
     def test_a_question_before_open_says_what_is_missing(self) -> None:

@@ -7,7 +7,7 @@ from typing import Dict, List
 from ..shell import Shell
 from .standins import QUERY, Dialogue, standin
 
-FOUND: Dict[int, List[str]] = {0: ["none 0 1"], 1: ["found main events 1 runs 3", "event 1 step main flush a", "end"]}
+FOUND: Dict[int, List[str]] = {0: ["none 0 1 1"], 1: ["found main events 1 runs 3", "event 1 step main flush a", "end"]}
 
 
 class Taken(Dialogue):

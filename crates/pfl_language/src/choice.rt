@@ -11,11 +11,13 @@ pub enum Move {
     AnyFrame(FrameEvent),
 }
 
-/// A move, and how many times it may be made at most.
+/// A move, how many times it may be made at most, and in which phase of a run.
 #[derive(Clone, Copy, Debug)]
 pub struct Choice {
     pub what: Move,
     pub uses: u32,
+    /// Once an event of a later phase came, it is made no more.
+    pub phase: u32,
 }
 
 /// A choice that is never made.
@@ -24,6 +26,7 @@ impl Default for Choice {
         Choice {
             what: Move::AnyFrame(FrameEvent::Deliver),
             uses: 0,
+            phase: 0,
         }
     }
 }

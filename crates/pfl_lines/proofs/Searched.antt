@@ -1,15 +1,14 @@
--- The parts of a text are read one by one, and each further one is a choice.
-use Rattle.std.proofs.Common.{◌≡◌, ℕ, ◌<◌, ◌≤◌, Bool, true, false, List, [], ◌∷◌, ◌++◌, length, take, drop, Result, Ok, Err, refl, sym, ap, ◌∙◌}
-use Rattle.std.proofs.Common.{subst, arith, length-append, length-drop, le-ltb, lt-ltb, eq-or-lt_of_le, inl, inr}
-use Rattle.std.specs.Prelude.{zero, suc, ◌==◌, if◌then◌else◌}
-use Rattle.std.proofs.lemmas.List.{take_all}
+-- The parts of a text are read one by one, and each further one is a choice, or begins the next phase.
+use Rattle.std.proofs.Common.{◌≡◌, ℕ, ◌+◌, ◌<◌, ◌≤◌, ◌≢◌, Bool, true, false, List, [], ◌∷◌, ◌++◌, length, Result, Ok, Err, refl, ap, ◌∙◌}
+use Rattle.std.proofs.Common.{subst, arith, append_assoc, append-nil, length-append, eq-eqb, ne_eqb}
+use Rattle.std.specs.Prelude.{suc, ◌==◌, if◌then◌else◌}
 use Rattle.pfl_language.specs.declared.choice.Choice.{Choice}
 use Rattle.pfl_lines.specs.declared.fault.LineFault.{LineFault}
 use Rattle.pfl_lines.specs.declared.fault.LineFault.TheVariants.{Extra}
 use Rattle.pfl_lines.specs.Numbers.{cut_at, grown}
 use Rattle.pfl_lines.specs.Words.{words, with_first}
 use Rattle.pfl_lines.specs.Readings.{◌>>=◌}
-use Rattle.pfl_lines.specs.Search.{parts_of, choice_of, each_choice, choices_of}
+use Rattle.pfl_lines.specs.Search.{parts_of, choice_of, says_then, each_choice, choices_of}
 
 -- ---- parts
 
@@ -74,110 +73,61 @@ cut-shorter separator (b ∷ bytes) part rest e =
 
 -- ---- choices
 
-more_on : (first : Result Choice LineFault) (others behind : Result (List Choice) LineFault) (choices : List Choice) (choice : Choice) →
-    ((cs : List Choice) → others ≡ Ok cs → behind ≡ Ok (cs ++ choice ∷ [])) →
-    (first >>= λ c. others >>= λ cs. Ok (c ∷ cs)) ≡ Ok choices →
-    (first >>= λ c. behind >>= λ cs. Ok (c ∷ cs)) ≡ Ok (choices ++ choice ∷ [])
-more_on (Ok c) (Ok cs) behind choices choice on e = let all : c ∷ cs ≡ choices = cc in rw (on cs refl, ← all) refl
-more_on (Ok c) (Err f) behind choices choice on e = cc
-more_on (Err f) others behind choices choice on e = cc
+-- choices that were taken, and what the parts after them say
+abbrev after : List Choice → Result (List Choice) LineFault → Result (List Choice) LineFault
+after taken others = others >>= λ cs. Ok (taken ++ cs)
 
--- one part more
-each-more : (parts : List (List ℕ)) (choices : List Choice) (part : List ℕ) (choice : Choice) → each_choice parts ≡ Ok choices →
-    choice_of (words part) ≡ Ok choice → each_choice (parts ++ part ∷ []) ≡ Ok (choices ++ choice ∷ [])
+-- of all parts, these are left in that phase, once those choices are taken
+pub record AreLeft (all parts : List (List ℕ)) (taken : List Choice) (phase : ℕ) : Type 0 where
+  pub says : choices_of all ≡ after taken (each_choice (length taken) phase parts)
+
+-- nothing is taken yet
+pub none-taken : (all : List (List ℕ)) → AreLeft all all [] 0
+none-taken all = record { says = on (choices_of all) } where
+  on : (said : Result (List Choice) LineFault) → said ≡ after [] said
+  on (Ok cs) = refl
+  on (Err f) = refl
+
+-- none is left
+pub all-taken : (all : List (List ℕ)) (taken : List Choice) (phase : ℕ) → AreLeft all [] taken phase → choices_of all ≡ Ok taken
 unfolding each_choice
-each-more [] choices part choice read e = let none : [] ≡ choices = cc in rw (e, ← none) refl
-each-more (p ∷ parts) choices part choice read e =
-    more_on (choice_of (words p)) (each_choice parts) (each_choice (parts ++ part ∷ [])) choices choice (λ cs same. each-more parts cs part choice same e) read
+all-taken all taken phase are = are.says ∙ rw append-nil refl
 
-fault_on : (first : Result Choice LineFault) (others behind : Result (List Choice) LineFault) (choices : List Choice) (fault : LineFault) →
-    ((cs : List Choice) → others ≡ Ok cs → behind ≡ Err fault) →
-    (first >>= λ c. others >>= λ cs. Ok (c ∷ cs)) ≡ Ok choices →
-    (first >>= λ c. behind >>= λ cs. Ok (c ∷ cs)) ≡ Err fault
-fault_on (Ok c) (Ok cs) behind choices fault on e = rw (on cs refl) refl
-fault_on (Ok c) (Err f) behind choices fault on e = cc
-fault_on (Err f) others behind choices fault on e = cc
-
--- a fault, whatever follows it
-each-fault : (parts more : List (List ℕ)) (choices : List Choice) (part : List ℕ) (fault : LineFault) → each_choice parts ≡ Ok choices →
-    choice_of (words part) ≡ Err fault → each_choice (parts ++ part ∷ more) ≡ Err fault
+-- the next phase begins
+pub next-phase : (all parts : List (List ℕ)) (taken : List Choice) (phase : ℕ) (part : List ℕ) → AreLeft all (part ∷ parts) taken phase →
+    says_then (words part) ≡ true → phase ≢ 15 → AreLeft all parts taken (phase + 1)
 unfolding each_choice
-each-fault [] more choices part fault read e = rw e refl
-each-fault (p ∷ parts) more choices part fault read e =
-    fault_on (choice_of (words p)) (each_choice parts) (each_choice (parts ++ part ∷ more)) choices fault
-    (λ cs same. each-fault parts more cs part fault same e) read
+next-phase all parts taken phase part are says more = record { says = are.says ∙ rw (says, ne_eqb phase 15 more) refl }
 
--- there is room for one more
-pub not_full : (n : ℕ) (full : Bool) → full ≡ (n == 16) → full ≡ false → n ≤ 16 → n < 16
-not_full n full is none few = elim (eq-or-lt_of_le few) as (λ _. n < 16) [
-  | inl same ↦ let yes : (n == 16) ≡ true = ap (λ m. m == 16) same in cc
-  | inr less ↦ less
-]
-
--- what stands at a place is taken beyond it
-taken_beyond : (n m : ℕ) (all : List (List ℕ)) (part : List ℕ) (others : List (List ℕ)) → n < m → drop n all ≡ part ∷ others →
-    (more : List (List ℕ)) × (take m all ≡ take n all ++ part ∷ more)
-taken_beyond zero zero all part others h e = absurd (omega arith)
-taken_beyond zero (suc m) [] part others h e = cc
-taken_beyond zero (suc m) (p ∷ all) part others h e = (take m all, cc)
-taken_beyond (suc n) zero all part others h e = absurd (omega arith)
-taken_beyond (suc n) (suc m) [] part others h e = cc
-taken_beyond (suc n) (suc m) (p ∷ all) part others h e =
-    let r = taken_beyond n m all part others (omega arith) e in (r.0, ap (λ (l : List (List ℕ)). p ∷ l) r.1)
-
-taken_next : (n : ℕ) (all : List (List ℕ)) (part : List ℕ) (others : List (List ℕ)) → drop n all ≡ part ∷ others → take (suc n) all ≡ take n all ++ part ∷ []
-taken_next zero [] part others e = cc
-taken_next zero (p ∷ all) part others e = cc
-taken_next (suc n) [] part others e = cc
-taken_next (suc n) (p ∷ all) part others e = ap (λ (l : List (List ℕ)). p ∷ l) (taken_next n all part others e)
-
-dropped_next : (n : ℕ) (all : List (List ℕ)) (part : List ℕ) (others : List (List ℕ)) → drop n all ≡ part ∷ others → drop (suc n) all ≡ others
-dropped_next zero [] part others e = cc
-dropped_next zero (p ∷ all) part others e = cc
-dropped_next (suc n) [] part others e = cc
-dropped_next (suc n) (p ∷ all) part others e = dropped_next n all part others e
-
--- the first parts of all are read as these choices, and the others are left
-pub record AreRead (all others : List (List ℕ)) (choices : List Choice) : Type 0 where
-  pub read : each_choice (take (length choices) all) ≡ Ok choices
-  pub left : drop (length choices) all ≡ others
-
--- nothing is read yet
-pub none-read : (all : List (List ℕ)) → AreRead all all []
+-- a 17th phase is one too many
+pub phase_too_many : (all parts : List (List ℕ)) (taken : List Choice) (phase : ℕ) (part : List ℕ) → AreLeft all (part ∷ parts) taken phase →
+    says_then (words part) ≡ true → phase ≡ 15 → choices_of all ≡ Err Extra
 unfolding each_choice
-none-read all = record { read = refl; left = refl }
+phase_too_many all parts taken phase part are says last = are.says ∙ rw (says, eq-eqb phase 15 last) refl
 
--- one choice more is read
-pub next-read : (all others : List (List ℕ)) (choices : List Choice) (part : List ℕ) (choice : Choice) → AreRead all (part ∷ others) choices →
-    choice_of (words part) ≡ Ok choice → AreRead all others (choices ++ choice ∷ [])
-next-read all others choices part choice are e =
-    let next : length (choices ++ choice ∷ []) ≡ suc (length choices) = omega (arith, length-append choices (choice ∷ [])) in
-    record {
-      read = rw (next, taken_next (length choices) all part others are.left) (each-more (take (length choices) all) choices part choice are.read e);
-      left = rw next (dropped_next (length choices) all part others are.left);
-    }
+-- a 17th choice is one too many
+pub choice_too_many : (all parts : List (List ℕ)) (taken : List Choice) (phase : ℕ) (part : List ℕ) → AreLeft all (part ∷ parts) taken phase →
+    says_then (words part) ≡ false → (length taken == 16) ≡ true → choices_of all ≡ Err Extra
+unfolding each_choice
+choice_too_many all parts taken phase part are says full = are.says ∙ rw (says, full) refl
 
--- a fault is read
-pub fault-read : (all others : List (List ℕ)) (choices : List Choice) (part : List ℕ) (fault : LineFault) → AreRead all (part ∷ others) choices →
-    length choices < 16 → choice_of (words part) ≡ Err fault → choices_of all ≡ Err fault
-unfolding choices_of
-fault-read all others choices part fault are few e =
-    let r = taken_beyond (length choices) 16 all part others few are.left in
-    rw (r.1, each-fault (take (length choices) all) r.0 choices part fault are.read e) refl
+-- a choice has a fault
+pub choice-fault : (all parts : List (List ℕ)) (taken : List Choice) (phase : ℕ) (part : List ℕ) (fault : LineFault) →
+    AreLeft all (part ∷ parts) taken phase → says_then (words part) ≡ false → (length taken == 16) ≡ false →
+    choice_of phase (words part) ≡ Err fault → choices_of all ≡ Err fault
+unfolding each_choice
+choice-fault all parts taken phase part fault are says room read = are.says ∙ rw (says, room, read) refl
 
--- a 17th is one too many
-pub one_too_many : (all others : List (List ℕ)) (choices : List Choice) → AreRead all others choices → 0 < length others → length choices ≡ 16 →
-    choices_of all ≡ Err Extra
-unfolding choices_of
-one_too_many all others choices are left full =
-    let some : 16 < length all = omega (arith, length-drop (length choices) all, ap length are.left) in
-    let read : each_choice (take 16 all) ≡ Ok choices = subst (λ n. each_choice (take n all) ≡ Ok choices) full are.read in
-    rw (read, lt-ltb 16 (length all) some) refl
+taken_more : (taken : List Choice) (choice : Choice) (others : Result (List Choice) LineFault) →
+    after taken (others >>= λ cs. Ok (choice ∷ cs)) ≡ after (taken ++ choice ∷ []) others
+taken_more taken choice (Ok cs) = rw append_assoc refl
+taken_more taken choice (Err f) = refl
 
--- all are read
-pub all-read : (all : List (List ℕ)) (choices : List Choice) → AreRead all [] choices → length choices ≤ 16 → choices_of all ≡ Ok choices
-unfolding choices_of
-all-read all choices are few =
-    let short : length all ≤ length choices = omega (arith, length-drop (length choices) all, ap length are.left) in
-    let same : take 16 all ≡ take (length choices) all = take_all 16 all (omega arith) ∙ sym (take_all (length choices) all short) in
-    rw (same, are.read, le-ltb 16 (length all) (omega arith)) refl
+-- one choice more is taken
+pub next-choice : (all parts : List (List ℕ)) (taken : List Choice) (phase : ℕ) (part : List ℕ) (choice : Choice) →
+    AreLeft all (part ∷ parts) taken phase → says_then (words part) ≡ false → (length taken == 16) ≡ false →
+    choice_of phase (words part) ≡ Ok choice → AreLeft all parts (taken ++ choice ∷ []) phase
+unfolding each_choice
+next-choice all parts taken phase part choice are says room read = record {
+  says = are.says ∙ rw (length-append taken (choice ∷ []), says, room, read) (taken_more taken choice (each_choice (length taken + 1) phase parts));
+}

@@ -14,9 +14,9 @@ use Rattle.pfl_language.specs.declared.choice.Move.TheVariants.{Given, AnyFrame}
 use Rattle.pfl_language.specs.declared.event.Event.TheVariants as event
 use Rattle.pfl_language.specs.declared.event.FrameEvent.TheVariants as frame
 use Rattle.pfl_language.specs.declared.goal.Question.{Question}
-use Rattle.pfl_language.specs.declared.goal.Question.TheVariants.{Apart, Unpassed}
+use Rattle.pfl_language.specs.declared.goal.Question.TheVariants.{Apart, Differ, Unpassed, Dropped, Admitted, Split}
 use Rattle.pfl_language.specs.declared.goal.Scope.{Scope}
-use Rattle.pfl_language.specs.declared.goal.Scope.TheVariants.{Everywhere, Landed, Settled}
+use Rattle.pfl_language.specs.declared.goal.Scope.TheVariants.{Everywhere, Landed, Quiet, Settled}
 use Rattle.pfl_language.specs.BranchWords.{main_name}
 use Rattle.pfl_language.specs.declared.command.Command.TheVariants as command
 use Rattle.pfl_language.specs.declared.node_event.NodeEvent.TheVariants as own
@@ -29,8 +29,8 @@ use Rattle.pfl_lines.specs.Commands.{event_at, flush_at, packet_at, bare_frame_e
 use Rattle.pfl_lines.specs.Commands.{why_at, frame_at, step_at, whole_step, whole_why, parsed}
 use Rattle.pfl_lines.specs.Numbers.{number_of}
 use Rattle.pfl_lines.specs.Packets.{fields_at, plain_at}
-use Rattle.pfl_lines.specs.Search.{parsed_script, script_of, search_of, choices_of, each_choice, choice_of, move_of, move_at, given_at, any_frame_at}
-use Rattle.pfl_lines.specs.Search.{any_cut_at, goal_of, goal_at, question_at, passed_at, unpassed_at, judged_at}
+use Rattle.pfl_lines.specs.Search.{parsed_script, script_of, search_of, each_choice, choice_of, move_of, move_at, given_at, any_frame_at}
+use Rattle.pfl_lines.specs.Search.{any_cut_at, goal_of, goal_at, question_at, passed_at, unpassed_at, dropped_at, admitted_at, split_at, judged_at}
 use Rattle.pfl_lines.specs.Written.{command_text, event_text}
 use Rattle.pfl_lines.specs.Session.{follow_after, session_of, parsed_session}
 
@@ -42,12 +42,12 @@ of_commands = 0
 
 -- what goals need
 unfoldable of_goals : ℕ
-unfolding of_commands judged_at passed_at unpassed_at question_at goal_at goal_of
+unfolding of_commands judged_at passed_at unpassed_at dropped_at admitted_at split_at question_at goal_at goal_of
 of_goals = 0
 
 -- what lines of scripts need
 unfoldable computing : ℕ
-unfolding of_goals any_cut_at any_frame_at given_at move_at move_of choice_of each_choice choices_of search_of script_of parsed_script
+unfolding of_goals any_cut_at any_frame_at given_at move_at move_of choice_of each_choice search_of script_of parsed_script
 computing = 0
 
 -- ---- what is searched for
@@ -62,8 +62,12 @@ search_line question scope choices = script.Search (record {
   choices = record { items = choices };
 })
 
+abbrev times_in : ℕ → ℕ → Move → Choice
+times_in phase n what = record { what = what; uses = n; phase = phase }
+
+-- in the first phase
 abbrev times : ℕ → Move → Choice
-times n what = record { what = what; uses = n }
+times n what = times_in 0 n what
 
 no_choice : parsed_script (codes "search main 8 100 apart") ≡ Ok (search_line Apart Everywhere [])
 unfolding computing
@@ -92,6 +96,27 @@ answers : parsed_script (codes "search main 8 100 landed unpassed packet b in ud
 unfolding computing query
 answers = refl
 
+-- each `then` begins a phase, also one without choices
+phases : parsed_script (codes "search main 8 100 quiet differ; 1 flush a; then ;2 any lose;then;then;3 flush b;4 any deliver") ≡
+    Ok (search_line Differ Quiet (times 1 (Given (event.Flush A)) ∷ times_in 1 2 (AnyFrame frame.Lose) ∷ times_in 3 3 (Given (event.Flush B)) ∷
+    times_in 3 4 (AnyFrame frame.Deliver) ∷ []))
+unfolding computing
+phases = refl
+
+dropped : parsed_script (codes "search main 8 100 dropped packet b in udp 192.0.2.9:53 10.0.0.1:1000 80") ≡
+    Ok (search_line (Dropped (event.At B (own.Packet Inbound query))) Everywhere [])
+unfolding computing query
+dropped = refl
+
+admitted : parsed_script (codes "search main 8 100 settled admitted deliver 7") ≡ Ok (search_line (Admitted (event.Of 7 frame.Deliver)) Settled [])
+unfolding computing
+admitted = refl
+
+split : parsed_script (codes "search main 8 100 split packet b in udp 192.0.2.9:53 10.0.0.1:1000 80") ≡
+    Ok (search_line (Split B (own.Packet Inbound query)) Everywhere [])
+unfolding computing query
+split = refl
+
 -- ---- faults, from the left
 
 too_deep : parsed_script (codes "search main 65 100 nowhere; 0") ≡ Err Number
@@ -109,6 +134,15 @@ goal_left_over = refl
 packet_before_extra : parsed_script (codes "search main 8 100 passed packet a in icmp 10.0.0.1:1 10.0.0.2:2 80 80") ≡ Err (Packet Ports)
 unfolding computing
 packet_before_extra = refl
+
+-- the other node cannot have it instead
+split_of_a_frame : parsed_script (codes "search main 8 100 split deliver 7 7") ≡ Err Unknown
+unfolding computing
+split_of_a_frame = refl
+
+split_of_a_flush : parsed_script (codes "search main 8 100 split flush a") ≡ Err Unknown
+unfolding computing
+split_of_a_flush = refl
 
 empty_part : parsed_script (codes "search main 8 100 apart;") ≡ Err Missing
 unfolding computing
@@ -132,6 +166,26 @@ sixteen = refl
 seventeen : parsed_script (codes "search main 8 100 apart" ++ repeated 16 (codes ";1 flush a") ++ codes ";nothing") ≡ Err Extra
 unfolding computing
 seventeen = refl
+
+-- a phase more is not a choice more
+sixteen_and_a_phase : parsed_script (codes "search main 8 100 apart" ++ repeated 16 (codes ";1 flush a") ++ codes ";then") ≡
+    Ok (search_line Apart Everywhere (replicate 16 (times 1 (Given (event.Flush A)))))
+unfolding computing
+sixteen_and_a_phase = refl
+
+last_phase : parsed_script (codes "search main 8 100 apart" ++ repeated 15 (codes ";then") ++ codes ";1 flush a") ≡
+    Ok (search_line Apart Everywhere (times_in 15 1 (Given (event.Flush A)) ∷ []))
+unfolding computing
+last_phase = refl
+
+seventeenth_phase : parsed_script (codes "search main 8 100 apart" ++ repeated 16 (codes ";then")) ≡ Err Extra
+unfolding computing
+seventeenth_phase = refl
+
+-- `then` and another word are a choice without its number
+then_left_over : parsed_script (codes "search main 8 100 apart;then 1 flush a") ≡ Err Number
+unfolding computing
+then_left_over = refl
 
 -- ---- what is no search
 

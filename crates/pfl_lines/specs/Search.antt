@@ -1,5 +1,5 @@
 -- How searches are written, and what lines of scripts say (this project's profile).
-use Rattle.std.specs.Prelude.{◌≡◌, ℕ, Bool, false, ◌==◌, nat_lt, List, [], ◌∷◌, length, take, codes, bytes_eq, if◌then◌else◌, Result, Ok, Err}
+use Rattle.std.specs.Prelude.{◌≡◌, ℕ, ◌+◌, Bool, false, ◌==◌, List, [], ◌∷◌, codes, bytes_eq, if◌then◌else◌, Result, Ok, Err}
 use Rattle.std.specs.Option.{option_map_or}
 use Rattle.pfl_base.specs.Numbers.{greatest}
 use Rattle.pfl_language.specs.declared.choice.Choice.{Choice}
@@ -7,12 +7,13 @@ use Rattle.pfl_language.specs.declared.choice.Move.{Move}
 use Rattle.pfl_language.specs.declared.choice.Move.TheVariants.{Given, AnyFrame}
 use Rattle.pfl_language.specs.declared.command.Command.{Command}
 use Rattle.pfl_language.specs.declared.event.Event.{Event}
+use Rattle.pfl_language.specs.declared.event.Event.TheVariants as events
 use Rattle.pfl_language.specs.declared.event.FrameEvent.TheVariants as frame
 use Rattle.pfl_language.specs.declared.goal.Goal.{Goal}
 use Rattle.pfl_language.specs.declared.goal.Question.{Question}
-use Rattle.pfl_language.specs.declared.goal.Question.TheVariants.{Apart, Passed, Unpassed}
+use Rattle.pfl_language.specs.declared.goal.Question.TheVariants.{Apart, Differ, Passed, Unpassed, Dropped, Admitted, Split}
 use Rattle.pfl_language.specs.declared.goal.Scope.{Scope}
-use Rattle.pfl_language.specs.declared.goal.Scope.TheVariants.{Everywhere, Landed, Settled}
+use Rattle.pfl_language.specs.declared.goal.Scope.TheVariants.{Everywhere, Landed, Quiet, Settled}
 use Rattle.pfl_lines.specs.declared.fault.LineFault.{LineFault}
 use Rattle.pfl_lines.specs.declared.fault.LineFault.TheVariants.{Unknown, Missing, Extra}
 use Rattle.pfl_lines.specs.declared.search.ScriptLine.{ScriptLine}
@@ -50,12 +51,40 @@ unpassed_at ws = do
   event ← judged_at ws
   Ok (Unpassed event.0, event.1)
 
+-- EVENT
+unfoldable pub dropped_at : List (List ℕ) → Reading Question
+dropped_at ws = do
+  event ← judged_at ws
+  Ok (Dropped event.0, event.1)
+
+-- EVENT
+unfoldable pub admitted_at : List (List ℕ) → Reading Question
+admitted_at ws = do
+  event ← judged_at ws
+  Ok (Admitted event.0, event.1)
+
+-- a node's own event, which the other node might have had instead; any other event is Unknown
+abbrev pub split_by : Event → Result Question LineFault
+split_by (events.At node event) = Ok (Split node event)
+split_by _ = Err Unknown
+
+-- EVENT
+unfoldable pub split_at : List (List ℕ) → Reading Question
+split_at ws = do
+  event ← judged_at ws
+  question ← split_by event.0
+  Ok (question, event.1)
+
 -- what belongs to a question's word
 abbrev pub question_by : List ℕ → List (List ℕ) → Reading Question
 question_by word ws =
     if bytes_eq word (codes "apart") then Ok (Apart, ws) else
+    if bytes_eq word (codes "differ") then Ok (Differ, ws) else
     if bytes_eq word (codes "passed") then passed_at ws else
-    if bytes_eq word (codes "unpassed") then unpassed_at ws else Err Unknown
+    if bytes_eq word (codes "unpassed") then unpassed_at ws else
+    if bytes_eq word (codes "dropped") then dropped_at ws else
+    if bytes_eq word (codes "admitted") then admitted_at ws else
+    if bytes_eq word (codes "split") then split_at ws else Err Unknown
 
 -- a question's word and what belongs to it
 unfoldable pub question_at : List (List ℕ) → Reading Question
@@ -68,9 +97,10 @@ abbrev pub scope_at : List (List ℕ) → Scope × List (List ℕ)
 scope_at [] = (Everywhere, [])
 scope_at (word ∷ ws) =
     if bytes_eq word (codes "landed") then (Landed, ws) else
+    if bytes_eq word (codes "quiet") then (Quiet, ws) else
     if bytes_eq word (codes "settled") then (Settled, ws) else (Everywhere, word ∷ ws)
 
--- [landed|settled] QUESTION
+-- [landed|quiet|settled] QUESTION
 unfoldable pub goal_at : List (List ℕ) → Reading Goal
 goal_at ws = do
   scope ← Ok (scope_at ws)
@@ -121,30 +151,35 @@ move_of ws = do
   read ← move_at ws
   finished read
 
--- N MOVE, and no word after it
-unfoldable pub choice_of : List (List ℕ) → Result Choice LineFault
-choice_of ws = do
+-- N MOVE, and no word after it: a choice of that phase
+unfoldable pub choice_of : ℕ → List (List ℕ) → Result Choice LineFault
+choice_of phase ws = do
   uses ← number_at greatest ws
   what ← move_of uses.1
-  Ok (record { what = what; uses = uses.0 })
+  Ok (record { what = what; uses = uses.0; phase = phase })
 
--- what parts say, each a choice
-unfoldable pub each_choice : List (List ℕ) → Result (List Choice) LineFault
-each_choice [] = Ok []
-each_choice (part ∷ parts) = do
-  choice ← choice_of (words part)
-  others ← each_choice parts
-  Ok (choice ∷ others)
+-- the one word `then`
+abbrev pub says_then : List (List ℕ) → Bool
+says_then (word ∷ []) = bytes_eq word (codes "then")
+says_then _ = false
 
--- at most 16 choices: a 17th is one too many, whatever it says
-unfoldable pub choices_of : List (List ℕ) → Result (List Choice) LineFault
-choices_of parts = do
-  choices ← each_choice (take 16 parts)
-  if nat_lt 16 (length parts) then Err Extra else Ok choices
+-- what parts say after `taken` choices, in that phase: `then` begins the next phase, and any other part is a choice
+unfoldable pub each_choice : ℕ → ℕ → List (List ℕ) → Result (List Choice) LineFault
+each_choice taken phase [] = Ok []
+each_choice taken phase (part ∷ parts) =
+    if says_then (words part) then (if phase == 15 then Err Extra else each_choice taken (phase + 1) parts) else
+    if taken == 16 then Err Extra else do
+      choice ← choice_of phase (words part)
+      others ← each_choice (taken + 1) phase parts
+      Ok (choice ∷ others)
+
+-- at most 16 choices, in at most 16 phases: one more of either is one too many, whatever it says
+abbrev pub choices_of : List (List ℕ) → Result (List Choice) LineFault
+choices_of parts = each_choice 0 0 parts
 
 -- ---- lines
 
--- search BRANCH DEPTH RUNS GOAL, and in each further part a choice
+-- search BRANCH DEPTH RUNS GOAL, and in each further part a choice, or `then`
 unfoldable pub search_of : List (List ℕ) → Result SearchLine LineFault
 search_of [] = Err Missing
 search_of (first ∷ parts) = do

@@ -5,8 +5,9 @@ ghost use Rattle.std.specs.Option.{option_map};
 ghost use Rattle.pfl_lines.specs.Words.{words};
 ghost use Rattle.pfl_lines.specs.inner.Parts.{parts_behind};
 ghost use Rattle.pfl_lines.specs.inner.Readings.{Gives};
-ghost use Rattle.pfl_lines.specs.Search.{parts_of, judged_at, passed_at, unpassed_at, question_at, question_by, scope_at, goal_at, goal_of};
-ghost use Rattle.pfl_lines.specs.Search.{any_cut_at, any_frame_at, any_frame_by, given_at, move_at, move_of, choice_of, choices_of, search_of};
+ghost use Rattle.pfl_lines.specs.Search.{parts_of, judged_at, passed_at, unpassed_at, dropped_at, admitted_at, split_at, question_by};
+ghost use Rattle.pfl_lines.specs.Search.{question_at, scope_at, goal_at, goal_of};
+ghost use Rattle.pfl_lines.specs.Search.{any_cut_at, any_frame_at, any_frame_by, given_at, move_at, move_of, choice_of, says_then, choices_of, search_of};
 ghost use Rattle.pfl_lines.specs.Search.{searched, commanded, script_of, parsed_script, says_search, SaysCommand};
 
 use crate::commands::{checked, command_of, event_at, parse_line, whole_event};
@@ -22,6 +23,9 @@ use pfl_language::{BranchWord, Choice, Command, Event, FrameEvent, Goal, Move, Q
 /// The most events of a run that is searched for.
 const DEEPEST: u64 = 64;
 
+/// The last phase of a run that is searched for; the first one is 0.
+const LAST_PHASE: u32 = 15;
+
 /// What is searched for: the runs of a branch's next events.
 #[derive(Drop)]
 pub struct SearchLine {
@@ -33,7 +37,7 @@ pub struct SearchLine {
     pub most: u64,
     /// What a run is to lead to.
     pub goal: Goal,
-    /// Which events a run may have.
+    /// Which events a run may have, each in its phase.
     pub choices: ArrayVec<Choice, 16>,
 }
 
@@ -74,6 +78,36 @@ fn unpassed_at(line: &[u8]) -> Result<(Question, &[u8]), LineFault>
     Ok((Question::Unpassed(event), rest))
 }
 
+/// `EVENT`, by which a packet is to be dropped.
+#[tactic(auto, unfolding(crate::specs::Search::dropped_at))]
+fn dropped_at(line: &[u8]) -> Result<(Question, &[u8]), LineFault>
+    ensures { Gives (λ x. (x.0, words x.1.now)) result (dropped_at (words line.now)) }
+{
+    let (event, rest) = try_read!(judged_at(line));
+    Ok((Question::Dropped(event), rest))
+}
+
+/// `EVENT`, by which a packet is to pass, or to be held.
+#[tactic(auto, unfolding(crate::specs::Search::admitted_at))]
+fn admitted_at(line: &[u8]) -> Result<(Question, &[u8]), LineFault>
+    ensures { Gives (λ x. (x.0, words x.1.now)) result (admitted_at (words line.now)) }
+{
+    let (event, rest) = try_read!(judged_at(line));
+    Ok((Question::Admitted(event), rest))
+}
+
+/// `EVENT` of a node by itself, whose packet is to be dropped there and admitted at the other node.
+#[tactic(auto, unfolding(crate::specs::Search::split_at))]
+fn split_at(line: &[u8]) -> Result<(Question, &[u8]), LineFault>
+    ensures { Gives (λ x. (x.0, words x.1.now)) result (split_at (words line.now)) }
+{
+    let (event, rest) = try_read!(judged_at(line));
+    match event {
+        Event::At { node, event } => Ok((Question::Split { node, event }, rest)),
+        _ => Err(LineFault::Unknown),
+    }
+}
+
 /// What belongs to a question's word.
 fn question_by<'a>(word: &[u8], line: &'a [u8]) -> Result<(Question, &'a [u8]), LineFault>
     ensures { Gives (λ x. (x.0, words x.1.now)) result (question_by word.now (words line.now)) }
@@ -81,11 +115,23 @@ fn question_by<'a>(word: &[u8], line: &'a [u8]) -> Result<(Question, &'a [u8]), 
     if is_word(word, "apart") {
         return Ok((Question::Apart, line));
     }
+    if is_word(word, "differ") {
+        return Ok((Question::Differ, line));
+    }
     if is_word(word, "passed") {
         return passed_at(line);
     }
     if is_word(word, "unpassed") {
         return unpassed_at(line);
+    }
+    if is_word(word, "dropped") {
+        return dropped_at(line);
+    }
+    if is_word(word, "admitted") {
+        return admitted_at(line);
+    }
+    if is_word(word, "split") {
+        return split_at(line);
     }
     Err(LineFault::Unknown)
 }
@@ -99,18 +145,26 @@ fn question_at(line: &[u8]) -> Result<(Question, &[u8]), LineFault>
     question_by(word, rest)
 }
 
-/// `[landed|settled]`.
+/// `[landed|quiet|settled]`.
 fn scope_at(line: &[u8]) -> (Scope, &[u8])
     ensures { (result.0, words result.1.now) ≡ scope_at (words line.now) }
 {
-    match word_at(line) {
-        Ok((word, rest)) if is_word(word, "landed") => (Scope::Landed, rest),
-        Ok((word, rest)) if is_word(word, "settled") => (Scope::Settled, rest),
-        _ => (Scope::Everywhere, line),
+    let Ok((word, rest)) = word_at(line) else {
+        return (Scope::Everywhere, line);
+    };
+    if is_word(word, "landed") {
+        return (Scope::Landed, rest);
     }
+    if is_word(word, "quiet") {
+        return (Scope::Quiet, rest);
+    }
+    if is_word(word, "settled") {
+        return (Scope::Settled, rest);
+    }
+    (Scope::Everywhere, line)
 }
 
-/// `[landed|settled] QUESTION`.
+/// `[landed|quiet|settled] QUESTION`.
 #[tactic(auto, unfolding(crate::specs::Search::goal_at))]
 fn goal_at(line: &[u8]) -> Result<(Goal, &[u8]), LineFault>
     ensures { Gives (λ x. (x.0, words x.1.now)) result (goal_at (words line.now)) }
@@ -197,15 +251,15 @@ fn move_of(line: &[u8]) -> Result<Move, LineFault>
     }
 }
 
-/// `N MOVE`, a whole part.
+/// `N MOVE`, a whole part, as a choice of the phase.
 #[tactic(auto, unfolding(crate::specs::Search::choice_of))]
-fn choice_of(part: &[u8]) -> Result<Choice, LineFault>
-    ensures { result ≡ choice_of (words part.now) }
+fn choice_of(part: &[u8], phase: u32) -> Result<Choice, LineFault>
+    ensures { result ≡ choice_of phase (words part.now) }
 {
     let (uses, rest) = number_at(part, GREATEST_NUMBER)?;
     let what = move_of(rest)?;
     let uses = uses as u32;
-    Ok(Choice { what, uses })
+    Ok(Choice { what, uses, phase })
 }
 
 /// The first part, and what stands after its semicolon.
@@ -219,25 +273,43 @@ fn part_at(text: &[u8]) -> (&[u8], Option<&[u8]>)
     }
 }
 
-/// The choices after the first part, at most 16.
+/// Whether a part is `then`, which begins the next phase.
+fn says_then(part: &[u8]) -> bool
+    ensures { result ≡ says_then (words part.now) }
+{
+    match word_at(part) {
+        Ok((word, rest)) => word_at(rest).is_err() && is_word(word, "then"),
+        Err(_) => false,
+    }
+}
+
+/// The choices after the first part: at most 16, in at most 16 phases.
 fn choices_of(behind: Option<&[u8]>) -> Result<ArrayVec<Choice, 16>, LineFault>
     ensures { Gives (λ x. x.items) result (choices_of (parts_behind (option_map (λ x. x.now) behind.entry))) }
 {
     let mut choices = ArrayVec::new();
     let mut rest = behind;
+    let mut phase = 0;
     while let Some(text) = rest {
-        if choices.is_full() {
-            return Err(LineFault::Extra);
-        }
         let (part, others) = part_at(text);
-        let choice = choice_of(part)?;
-        choices.push(choice);
+        if says_then(part) {
+            if phase == LAST_PHASE {
+                return Err(LineFault::Extra);
+            }
+            phase += 1;
+        } else {
+            if choices.is_full() {
+                return Err(LineFault::Extra);
+            }
+            let choice = choice_of(part, phase)?;
+            choices.push(choice);
+        }
         rest = others;
     }
     Ok(choices)
 }
 
-/// `search BRANCH DEPTH RUNS GOAL; CHOICE; CHOICE ..`.
+/// `search BRANCH DEPTH RUNS GOAL; CHOICE; CHOICE ..; then; CHOICE ..`.
 #[tactic(auto, unfolding(crate::specs::Search::search_of))]
 fn search_of(text: &[u8]) -> Result<SearchLine, LineFault>
     ensures { result ≡ search_of (parts_of text.now) }

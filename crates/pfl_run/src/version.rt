@@ -2,4 +2,4 @@
 
 /// The release, the sum of its sources, and the logic that proves them.
 pub(crate) const VERSION: &str =
-    "release 15, sources 5ce7525344e7a2d3dfc22d2c7e28c0fa49c74602802afd2497061fcf3dfaa1de, logic dac8208d650f15bf";
+    "release 16, sources e0531e181a4c58610e0efacdc3f8b675eda217d15ba7460839308ef953368b41, logic dac8208d650f15bf";

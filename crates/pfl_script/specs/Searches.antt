@@ -1,5 +1,5 @@
 -- The text of the answer to a search (this project's profile).
-use Rattle.std.specs.Prelude.{ℕ, List, ◌++◌, length, codes}
+use Rattle.std.specs.Prelude.{ℕ, Bool, List, ◌++◌, length, codes, if◌then◌else◌}
 use Rattle.std.specs.Fmt.{decimal}
 use Rattle.pfl_language.specs.declared.event.Event.{Event}
 use Rattle.pfl_timeline.specs.Searches.{Finding, Found, Nothing, GaveUp, Refused}
@@ -14,9 +14,14 @@ found_line name events tried = codes "found " ++ name ++ codes " events " ++ dec
 unfoldable pub found_text : List ℕ → List Event → ℕ → List ℕ
 found_text name run tried = found_line name (length run) tried ++ logged_lines name 0 run ++ codes "end\n"
 
+-- how many events a run may have for which there is none: any number, where all runs have fewer than were allowed
+abbrev pub length_text : ℕ → Bool → List ℕ
+length_text depth ended = if ended then codes "any" else decimal depth
+
 -- the lines of the answer
 abbrev pub finding_text : Finding → List ℕ
 finding_text (Found name run tried) = found_text name run tried
-finding_text (Nothing depth tried) = codes "none " ++ decimal depth ++ codes " " ++ decimal tried ++ codes "\n"
+finding_text (Nothing depth tried asked ended) =
+    codes "none " ++ length_text depth ended ++ codes " " ++ decimal tried ++ codes " " ++ decimal asked ++ codes "\n"
 finding_text (GaveUp most) = codes "gave up " ++ decimal most ++ codes "\n"
 finding_text (Refused why) = codes "refused " ++ refused_text why ++ codes "\n"

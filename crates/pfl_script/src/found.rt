@@ -1,9 +1,10 @@
 //! The answers to searches.
 
-ghost use Rattle.std.specs.Prelude.{◌≡◌, ◌++◌, ℕ, take, IfErr, IfOk, OnErr, OnOk};
+ghost use Rattle.std.specs.Prelude.{◌≡◌, ◌+◌, ◌≤◌, ◌++◌, ℕ, take, IfErr, IfOk, OnErr, OnOk};
 ghost use Rattle.std.specs.Io.KnownBytes.{Appends};
 ghost use Rattle.pfl_script.specs.Readers.{IsWriteFault};
-ghost use Rattle.pfl_script.specs.Searches.{finding_text, found_line, found_text};
+ghost use Rattle.arrayvec.specs.ArrayString.{array_string_len};
+ghost use Rattle.pfl_script.specs.Searches.{finding_text, found_line, found_text, length_text};
 ghost use Rattle.pfl_script.specs.inner.Texts.{bytes_of};
 ghost use Rattle.pfl_timeline.specs.Searches.{GaveUp, Nothing, finding_of};
 
@@ -49,14 +50,29 @@ fn found_text<A: Allocator>(
     Ok(text)
 }
 
+/// Appends how many events a run may have for which there is none.
+fn push_length(line: &mut ShortLine, depth: u32, ended: bool)
+    requires room { array_string_len line.old ≤ 172 }
+    ensures bytes { line.new.bytes ≡ line.old.bytes ++ length_text depth ended }
+    ensures few { array_string_len line.new ≤ array_string_len line.old + 20 }
+{
+    if ended {
+        line.push_str("any");
+    } else {
+        push_number(line, u64::from(depth));
+    }
+}
+
 /// The line of a search that found nothing.
-fn nothing_line(depth: u32, tried: u64) -> ShortLine
-    ensures { result.bytes ≡ finding_text (Nothing depth tried) }
+fn nothing_line(depth: u32, tried: u64, asked: u64, ended: bool) -> ShortLine
+    ensures { result.bytes ≡ finding_text (Nothing depth tried asked ended) }
 {
     let mut line = plain_line("none ");
-    push_number(&mut line, u64::from(depth));
+    push_length(&mut line, depth, ended);
     line.push_str(" ");
     push_number(&mut line, tried);
+    line.push_str(" ");
+    push_number(&mut line, asked);
     line.push_str("\n");
     line
 }
@@ -82,7 +98,12 @@ fn text_of<'a, A: Allocator, B: Allocator>(
         Finding::Found { name, run, tried } => {
             ReplyText::Long(found_text(alloc, name.bytes(), run.as_slice(), *tried)?)
         }
-        Finding::Nothing { depth, tried } => ReplyText::Short(nothing_line(*depth, *tried)),
+        Finding::Nothing {
+            depth,
+            tried,
+            asked,
+            ended,
+        } => ReplyText::Short(nothing_line(*depth, *tried, *asked, *ended)),
         Finding::GaveUp(most) => ReplyText::Short(gave_up_line(*most)),
         Finding::Refused(why) => ReplyText::Short(refused_line(*why)),
     })

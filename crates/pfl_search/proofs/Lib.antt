@@ -1,6 +1,7 @@
 pub mod Lists
 pub mod Taking
 pub mod Meeting
+pub mod Compared
 pub mod Turning
 pub mod Visiting
 pub mod Searching

@@ -6,7 +6,7 @@ use Rattle.std.specs.Option.{option_map, option_or}
 use Rattle.std.proofs.Common.{◌∙◌, ap, sym, subst, inl, inr, arith}
 use Rattle.std.proofs.Math.Seq.{drop-append_seam}
 use Rattle.std.proofs.lemmas.List.{get_or-append_right, get_or-map, length-append, length-map}
-use Rattle.pfl_search.specs.Visits.{asked}
+use Rattle.pfl_search.specs.Visits.{one_if, tally}
 use Rattle.std.proofs.lemmas.List.Elements.{Contains-append_left, Contains-append_right, Contains-append_cases}
 
 -- ---- one that is found
@@ -127,38 +127,76 @@ module _ {X : Type 0} (p : X → Bool) where
   none_in [] x e h = absurd (nothing_in x h)
   none_in (y ∷ ys) x e h = none_at y ys x (p y) refl (none_in ys x) e h
 
--- ---- how many are asked
+-- ---- how many are of a kind
 
-pub asked-map : {X Y : Type 0} (f : X → Y) (p : Y → Bool) (xs : List X) → asked p (map f xs) ≡ asked (λ x. p (f x)) xs
-asked-map f p [] = refl
-asked-map f p (x ∷ xs) = ap (λ (n : ℕ). cond (p (f x)) 1 (n + 1)) (asked-map f p xs)
+pub tally-map : {X Y : Type 0} (f : X → Y) (k p : Y → Bool) (xs : List X) → tally k p (map f xs) ≡ tally (λ x. k (f x)) (λ x. p (f x)) xs
+tally-map f k p [] = refl
+tally-map f k p (x ∷ xs) = ap (λ (n : ℕ). one_if (k (f x)) + cond (p (f x)) 0 n) (tally-map f k p xs)
 
-module _ {X : Type 0} (p : X → Bool) where
-  all_asked : (x : X) (xs ys : List X) (b : Bool) → (find p xs ≡ None → asked p (xs ++ ys) ≡ asked p xs + asked p ys) → cond b (Some x) (find p xs) ≡ None
-      → cond b 1 (asked p (xs ++ ys) + 1) ≡ cond b 1 (asked p xs + 1) + asked p ys
-  all_asked x xs ys true later none = absurd cc
-  all_asked x xs ys false later none = let more = later none in omega arith
+module _ {X : Type 0} (k p : X → Bool) where
+  all_counted : (x : X) (xs ys : List X) (one : ℕ) (b : Bool) → (find p xs ≡ None → tally k p (xs ++ ys) ≡ tally k p xs + tally k p ys)
+      → cond b (Some x) (find p xs) ≡ None
+      → one + cond b 0 (tally k p (xs ++ ys)) ≡ one + cond b 0 (tally k p xs) + tally k p ys
+  all_counted x xs ys one true later none = absurd cc
+  all_counted x xs ys one false later none = let more = later none in omega arith
 
-  -- where none of the first passes, all of them are asked
-  pub asked-none : (xs ys : List X) → find p xs ≡ None → asked p (xs ++ ys) ≡ asked p xs + asked p ys
-  asked-none [] ys none = omega arith
-  asked-none (x ∷ xs) ys none = all_asked x xs ys (p x) (asked-none xs ys) none
+  -- where none of the first passes, all of them are counted
+  pub tally-none : (xs ys : List X) → find p xs ≡ None → tally k p (xs ++ ys) ≡ tally k p xs + tally k p ys
+  tally-none [] ys none = omega arith
+  tally-none (x ∷ xs) ys none = all_counted x xs ys (one_if (k x)) (p x) (tally-none xs ys) none
 
-  some_asked : (x : X) (xs ys : List X) (z : X) (b : Bool) → (find p xs ≡ Some z → asked p (xs ++ ys) ≡ asked p xs) → cond b (Some x) (find p xs) ≡ Some z
-      → cond b 1 (asked p (xs ++ ys) + 1) ≡ cond b 1 (asked p xs + 1)
-  some_asked x xs ys z true later some = refl
-  some_asked x xs ys z false later some = ap (λ (n : ℕ). n + 1) (later some)
+  some_counted : (x : X) (xs ys : List X) (z : X) (one : ℕ) (b : Bool) → (find p xs ≡ Some z → tally k p (xs ++ ys) ≡ tally k p xs)
+      → cond b (Some x) (find p xs) ≡ Some z
+      → one + cond b 0 (tally k p (xs ++ ys)) ≡ one + cond b 0 (tally k p xs)
+  some_counted x xs ys z one true later some = refl
+  some_counted x xs ys z one false later some = ap (λ (n : ℕ). one + n) (later some)
 
-  -- where one of the first passes, none after them is asked
-  pub asked-some : (xs ys : List X) (z : X) → find p xs ≡ Some z → asked p (xs ++ ys) ≡ asked p xs
-  asked-some [] ys z some = absurd cc
-  asked-some (x ∷ xs) ys z some = some_asked x xs ys z (p x) (asked-some xs ys z) some
+  -- where one of the first passes, none after them is counted
+  pub tally-some : (xs ys : List X) (z : X) → find p xs ≡ Some z → tally k p (xs ++ ys) ≡ tally k p xs
+  tally-some [] ys z some = absurd cc
+  tally-some (x ∷ xs) ys z some = some_counted x xs ys z (one_if (k x)) (p x) (tally-some xs ys z) some
 
-  less_asked : (x : X) (xs ys : List X) (b : Bool) → asked p xs ≤ asked p (xs ++ ys) → cond b 1 (asked p xs + 1) ≤ cond b 1 (asked p (xs ++ ys) + 1)
-  less_asked x xs ys true later = omega arith
-  less_asked x xs ys false later = omega arith
+  less_counted : (one m n : ℕ) (b : Bool) → m ≤ n → one + cond b 0 m ≤ one + cond b 0 n
+  less_counted one m n true later = omega arith
+  less_counted one m n false later = omega arith
 
-  -- of more no fewer are asked
-  pub asked-more : (xs ys : List X) → asked p xs ≤ asked p (xs ++ ys)
-  asked-more [] ys = omega arith
-  asked-more (x ∷ xs) ys = less_asked x xs ys (p x) (asked-more xs ys)
+  -- of more no fewer are counted
+  pub tally-more : (xs ys : List X) → tally k p xs ≤ tally k p (xs ++ ys)
+  tally-more [] ys = omega arith
+  tally-more (x ∷ xs) ys = less_counted (one_if (k x)) (tally k p xs) (tally k p (xs ++ ys)) (p x) (tally-more xs ys)
+
+  fewer_counted : (m n : ℕ) (c b : Bool) → m ≤ n → one_if c + cond b 0 m ≤ 1 + cond b 0 n
+  fewer_counted m n true true later = omega arith
+  fewer_counted m n true false later = omega arith
+  fewer_counted m n false true later = omega arith
+  fewer_counted m n false false later = omega arith
+
+  -- no more are of a kind than there are
+  pub tally-fewer : (xs : List X) → tally k p xs ≤ tally (λ x. true) p xs
+  tally-fewer [] = omega arith
+  tally-fewer (x ∷ xs) = fewer_counted (tally k p xs) (tally (λ y. true) p xs) (k x) (p x) (tally-fewer xs)
+
+  none_counted : (n : ℕ) (c b : Bool) → c ≡ false → n ≡ 0 → one_if c + cond b 0 n ≡ 0
+  none_counted n true b is none = absurd cc
+  none_counted n false true is none = omega arith
+  none_counted n false false is none = omega arith
+
+  -- where none is of the kind, none is counted
+  pub tally-zero : (xs : List X) → ((x : X) → Contains xs x → k x ≡ false) → tally k p xs ≡ 0
+  tally-zero [] none = refl
+  tally-zero (x ∷ xs) none =
+      none_counted (tally k p xs) (k x) (p x) (none x (in_front x xs x refl)) (tally-zero xs (λ y h. none y (in_rest x xs y h)))
+
+  counts_at : (y : X) (ys : List X) (x : X) (c b : Bool) → k y ≡ c → k x ≡ true → (find p ys ≡ None → Contains ys x → 0 < tally k p ys)
+      → cond b (Some y) (find p ys) ≡ None → Contains (y ∷ ys) x → 0 < one_if c + cond b 0 (tally k p ys)
+  counts_at y ys x true b at is later none h = omega arith
+  counts_at y ys x false true at is later none h = absurd cc
+  counts_at y ys x false false at is later none h = elim (in_cons y ys x h) [
+    | inl e ↦ (let same : k y ≡ k x = ap k e in absurd cc)
+    | inr r ↦ (let some = later none r in omega arith)
+  ]
+
+  -- where none passes, one that is of the kind is counted
+  pub tally-counts : (xs : List X) (x : X) → find p xs ≡ None → Contains xs x → k x ≡ true → 0 < tally k p xs
+  tally-counts [] x none h is = absurd (nothing_in x h)
+  tally-counts (y ∷ ys) x none h is = counts_at y ys x (k y) (p y) refl is (λ less there. tally-counts ys x less there is) none h

@@ -9,12 +9,12 @@ use Rattle.pfl_world.specs.Meanings.{Stepped}
 use Rattle.pfl_world.specs.Worlds.{World}
 use Rattle.pfl_search.proofs.Lists.{from_filter, in_added}
 use Rattle.pfl_search.proofs.Turning.{get_read, get_within, given_back, length-used, of_turns}
-use Rattle.pfl_search.proofs.Visiting.{among_found, among_passed, among_refused, first_among, visited_among, visited_found, visited_part}
-use Rattle.pfl_search.proofs.Visiting.{visited_passed, visited_refused}
-use Rattle.pfl_search.specs.Choices.{turns, used}
-use Rattle.pfl_search.specs.Orders.{is_in_turn, last_of}
+use Rattle.pfl_search.proofs.Visiting.{among_found, among_passed, among_refused, first_among, tally_among, tally_found, tally_part}
+use Rattle.pfl_search.proofs.Visiting.{tally_passed, tally_refused}
+use Rattle.pfl_search.specs.Choices.{stage, taken, turns, used}
+use Rattle.pfl_search.specs.Orders.{in_phase, is_in_turn, last_of}
 use Rattle.pfl_search.specs.Runs.{IsStop, first_run_after}
-use Rattle.pfl_search.specs.Visits.{in_turn, worlds_visited_after}
+use Rattle.pfl_search.specs.Visits.{Kind, in_turn, tally_after}
 use Rattle.pfl_language.specs.declared.choice.Choice.{Choice}
 use Rattle.pfl_language.specs.declared.goal.Goal.{Goal}
 use Rattle.pfl_search.specs.declared.order.Last.{Last}
@@ -24,11 +24,12 @@ use Rattle.pfl_search.specs.declared.turns.Candidate.{Candidate}
 use Rattle.pfl_search.specs.inner.Turns.{IsOf}
 
 -- the turn that is tried next is of a choice with a use left
-pub is_of : (last : Option Last) (cs : List Choice) (w : World) (before ts : List Candidate) (first i : ℕ) (t : Candidate)
-    → ts ≡ before ++ in_turn last w (turns cs w) → first ≡ length before → first ≤ i → i < length ts → t ≡ slice_index_or ts i t → IsOf cs t
-is_of last cs w before ts first i t all begins past within is =
-    let there = in_added before (in_turn last w (turns cs w)) ts i t all (omega arith) within is in
-    of_turns cs w t (from_filter (λ (u : Candidate). is_in_turn last w u.event) (turns cs w) t there).0
+pub is_of : (last : Option Last) (begun : ℕ) (cs : List Choice) (w : World) (before ts : List Candidate) (first i : ℕ) (t : Candidate)
+    → ts ≡ before ++ in_turn last begun w (turns (stage cs begun) w) → first ≡ length before → first ≤ i → i < length ts → t ≡ slice_index_or ts i t → IsOf cs t
+is_of last begun cs w before ts first i t all begins past within is =
+    let there = in_added before (in_turn last begun w (turns (stage cs begun) w)) ts i t all (omega arith) within is in
+    of_turns (stage cs begun) w t
+    (from_filter (λ (u : Candidate). is_in_turn (in_phase last begun u.phase) w u.event) (turns (stage cs begun) w) t there).0
 
 pub held_of : (cs held : List Choice) (t : Candidate) → held ≡ cs → IsOf cs t → IsOf held t
 held_of cs held t holds of = subst (λ (xs : List Choice). IsOf xs t) (sym holds) of
@@ -56,7 +57,7 @@ pub reversed : (e : Event) (es fs : List Event) → fs ≡ es ++ e ∷ [] → re
 reversed e es fs is = ap (λ (xs : List Event). reverse xs) is ∙ reverse-append es (e ∷ [])
 
 -- The search has come to a turn: the world and the choices are what they were.
-module _ (g : Goal) (d : ℕ) (cs : List Choice) (w : World) (ts : List Candidate) (i : ℕ) (t : Candidate) (within : i < length ts)
+module _ (g : Goal) (d : ℕ) (cs : List Choice) (begun : ℕ) (w : World) (ts : List Candidate) (i : ℕ) (t : Candidate) (within : i < length ts)
     (is : t ≡ slice_index_or ts i t)
     (at : World) (same : at ≡ w) (held : List Choice) (holds : held ≡ cs) where
   rest_is : drop i ts ≡ t ∷ drop (i + 1) ts
@@ -67,11 +68,13 @@ module _ (g : Goal) (d : ℕ) (cs : List Choice) (w : World) (ts : List Candidat
     refused_here : step w t.event ≡ Err why
     refused_here = subst (λ (u : World). step u t.event ≡ Err why) same refused
 
-    pub refused_first : first_among g d cs w (drop (i + 1) ts) ≡ first_among g d cs w (drop i ts)
-    refused_first = sym (ap (first_among g d cs w) rest_is ∙ among_refused g d cs w t (drop (i + 1) ts) why refused_here)
+    pub refused_first : first_among g d (stage cs begun) w (drop (i + 1) ts) ≡ first_among g d (stage cs begun) w (drop i ts)
+    refused_first =
+        sym (ap (first_among g d (stage cs begun) w) rest_is ∙ among_refused g d (stage cs begun) w t (drop (i + 1) ts) why refused_here)
 
-    pub refused_count : visited_among g d cs w (drop i ts) ≡ visited_among g d cs w (drop (i + 1) ts)
-    refused_count = ap (visited_among g d cs w) rest_is ∙ visited_refused g d cs w t (drop (i + 1) ts) why refused_here
+    pub refused_count : (kind : Kind) → tally_among g kind d (stage cs begun) w (drop i ts) ≡ tally_among g kind d (stage cs begun) w (drop (i + 1) ts)
+    refused_count kind =
+        ap (tally_among g kind d (stage cs begun) w) rest_is ∙ tally_refused g kind d (stage cs begun) w t (drop (i + 1) ts) why refused_here
 
   -- its event is accepted
   module _ (v : World) (left : List Choice) (latest : Last) (s : Stepped) (accepted : step at t.event ≡ Ok s) (went : v ≡ s.world)
@@ -86,39 +89,53 @@ module _ (g : Goal) (d : ℕ) (cs : List Choice) (w : World) (ts : List Candidat
     latest_is : Some latest ≡ Some (last_of w t.event)
     latest_is = ap Some (kept ∙ ap (λ (u : World). last_of u t.event) same)
 
-    child : first_run_after (Some (last_of w t.event)) g d (used cs t.place) s.world ≡ first_run_after (Some latest) g d left v
+    child : first_run_after (Some (last_of w t.event)) g d (taken (stage cs begun) t.place t.phase) s.world
+        ≡ first_run_after (Some latest) g d (stage left t.phase) v
     child =
-        ap (λ (xs : List Choice). first_run_after (Some (last_of w t.event)) g d xs s.world) (sym left_is)
-        ∙ ap (λ (u : World). first_run_after (Some (last_of w t.event)) g d left u) (sym went)
-        ∙ ap (λ (l : Option Last). first_run_after l g d left v) (sym latest_is)
+        ap (λ (xs : List Choice). first_run_after (Some (last_of w t.event)) g d (stage xs t.phase) s.world) (sym left_is)
+        ∙ ap (λ (u : World). first_run_after (Some (last_of w t.event)) g d (stage left t.phase) u) (sym went)
+        ∙ ap (λ (l : Option Last). first_run_after l g d (stage left t.phase) v) (sym latest_is)
 
-    child_count : worlds_visited_after (Some (last_of w t.event)) g d (used cs t.place) s.world ≡ worlds_visited_after (Some latest) g d left v
-    child_count =
-        ap (λ (xs : List Choice). worlds_visited_after (Some (last_of w t.event)) g d xs s.world) (sym left_is)
-        ∙ ap (λ (u : World). worlds_visited_after (Some (last_of w t.event)) g d left u) (sym went)
-        ∙ ap (λ (l : Option Last). worlds_visited_after l g d left v) (sym latest_is)
+    child_count : (kind : Kind) → tally_after kind (Some (last_of w t.event)) g d (taken (stage cs begun) t.place t.phase) s.world
+        ≡ tally_after kind (Some latest) g d (stage left t.phase) v
+    child_count kind =
+        ap (λ (xs : List Choice). tally_after kind (Some (last_of w t.event)) g d (stage xs t.phase) s.world) (sym left_is)
+        ∙ ap (λ (u : World). tally_after kind (Some (last_of w t.event)) g d (stage left t.phase) u) (sym went)
+        ∙ ap (λ (l : Option Last). tally_after kind l g d (stage left t.phase) v) (sym latest_is)
 
-    pub passed_first : first_run_after (Some latest) g d left v ≡ None → first_among g d cs w (drop (i + 1) ts) ≡ first_among g d cs w (drop i ts)
-    passed_first none = sym (ap (first_among g d cs w) rest_is ∙ among_passed g d cs w t (drop (i + 1) ts) s accepted_here (child ∙ none))
+    pub passed_first : first_run_after (Some latest) g d (stage left t.phase) v ≡ None
+        → first_among g d (stage cs begun) w (drop (i + 1) ts) ≡ first_among g d (stage cs begun) w (drop i ts)
+    passed_first none =
+        sym (ap (first_among g d (stage cs begun) w) rest_is
+        ∙ among_passed g d (stage cs begun) w t (drop (i + 1) ts) s accepted_here (child ∙ none))
 
-    pub passed_count : first_run_after (Some latest) g d left v ≡ None
-        → visited_among g d cs w (drop i ts) ≡ worlds_visited_after (Some latest) g d left v + visited_among g d cs w (drop (i + 1) ts)
-    passed_count none =
-        ap (visited_among g d cs w) rest_is ∙ visited_passed g d cs w t (drop (i + 1) ts) s accepted_here (child ∙ none)
-        ∙ ap (λ (n : ℕ). n + visited_among g d cs w (drop (i + 1) ts)) child_count
+    pub passed_count : (kind : Kind) → first_run_after (Some latest) g d (stage left t.phase) v ≡ None
+        → tally_among g kind d (stage cs begun) w (drop i ts)
+        ≡ tally_after kind (Some latest) g d (stage left t.phase) v + tally_among g kind d (stage cs begun) w (drop (i + 1) ts)
+    passed_count kind none =
+        ap (tally_among g kind d (stage cs begun) w) rest_is
+        ∙ tally_passed g kind d (stage cs begun) w t (drop (i + 1) ts) s accepted_here (child ∙ none)
+        ∙ ap (λ (n : ℕ). n + tally_among g kind d (stage cs begun) w (drop (i + 1) ts)) (child_count kind)
 
-    pub found_first : (es : List Event) → first_run_after (Some latest) g d left v ≡ Some es → first_among g d cs w (drop i ts) ≡ Some (t.event ∷ es)
-    found_first es found = ap (first_among g d cs w) rest_is ∙ among_found g d cs w t (drop (i + 1) ts) s es accepted_here (child ∙ found)
+    pub found_first : (es : List Event) → first_run_after (Some latest) g d (stage left t.phase) v ≡ Some es
+        → first_among g d (stage cs begun) w (drop i ts) ≡ Some (t.event ∷ es)
+    found_first es found =
+        ap (first_among g d (stage cs begun) w) rest_is
+        ∙ among_found g d (stage cs begun) w t (drop (i + 1) ts) s es accepted_here (child ∙ found)
 
-    pub found_count : (es : List Event) → first_run_after (Some latest) g d left v ≡ Some es
-        → visited_among g d cs w (drop i ts) ≡ worlds_visited_after (Some latest) g d left v
-    found_count es found = ap (visited_among g d cs w) rest_is ∙ visited_found g d cs w t (drop (i + 1) ts) s es accepted_here (child ∙ found) ∙ child_count
+    pub found_count : (kind : Kind) (es : List Event) → first_run_after (Some latest) g d (stage left t.phase) v ≡ Some es
+        → tally_among g kind d (stage cs begun) w (drop i ts) ≡ tally_after kind (Some latest) g d (stage left t.phase) v
+    found_count kind es found =
+        ap (tally_among g kind d (stage cs begun) w) rest_is
+        ∙ tally_found g kind d (stage cs begun) w t (drop (i + 1) ts) s es accepted_here (child ∙ found)
+        ∙ child_count kind
 
-    pub part_count : worlds_visited_after (Some latest) g d left v ≤ visited_among g d cs w (drop i ts)
-    part_count =
-        let part = visited_part g d cs w t (drop (i + 1) ts) s accepted_here in
-        let here : visited_among g d cs w (drop i ts) ≡ visited_among g d cs w (t ∷ drop (i + 1) ts) = ap (visited_among g d cs w) rest_is in
-        let same_child = child_count in
+    pub part_count : (kind : Kind) → tally_after kind (Some latest) g d (stage left t.phase) v ≤ tally_among g kind d (stage cs begun) w (drop i ts)
+    part_count kind =
+        let part = tally_part g kind d (stage cs begun) w t (drop (i + 1) ts) s accepted_here in
+        let here : tally_among g kind d (stage cs begun) w (drop i ts) ≡ tally_among g kind d (stage cs begun) w (t ∷ drop (i + 1) ts) =
+        ap (tally_among g kind d (stage cs begun) w) rest_is in
+        let same_child = child_count kind in
         omega arith
 
 -- where too few worlds are left for the search after a turn, too few are left for all of them

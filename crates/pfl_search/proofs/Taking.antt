@@ -1,5 +1,5 @@
 -- An event that happened stands on the tape above the mark that was set before it, and taking the tape back to the mark gives what was.
-use Rattle.std.specs.Prelude.{◌≡◌, ◌≢◌, ◌≤◌, ℕ, false, List, length, Result, Ok, Err}
+use Rattle.std.specs.Prelude.{◌≡◌, ◌≢◌, ◌≤◌, ℕ, List, length, None, Result, Ok, Err}
 use Rattle.std.proofs.Common.{◌∙◌, ap, sym}
 use Rattle.pfl_base.specs.declared.refusal.Refusal.{Refusal}
 use Rattle.pfl_base.specs.declared.refusal.Refusal.TheVariants.{NoMemory}
@@ -12,7 +12,7 @@ use Rattle.pfl_world.specs.Meanings.{Stepped}
 use Rattle.pfl_world.specs.WorldEdits.{Finds, put_back}
 use Rattle.pfl_world.specs.Worlds.{World, IsWorld}
 use Rattle.pfl_world.specs.declared.edit.WorldEdit.{WorldEdit}
-use Rattle.pfl_search.specs.Goals.{passes}
+use Rattle.pfl_search.specs.Fates.{fate_after}
 
 module _ {M : Type 0} (old new : World) (tape longer : List (WorldEdit M)) (taped : below (length tape) longer ≡ tape)
     (fits : Fits Finds IsWorld put_back (above (length tape) longer) new) (leads_back : back put_back (above (length tape) longer) new ≡ old)
@@ -37,6 +37,6 @@ the_first (Err first) why is other = ap Err (sym is)
 pub refusal_is : (w : World) (e : Event) (why : Refusal) → IsEventRefusal w e why → why ≢ NoMemory → step w e ≡ Err why
 refusal_is w e why is other = the_first (step w e) why is other
 
--- no packet passes by an event that is refused
-pub passes-refused : (w : World) (e : Event) (why : Refusal) → IsEventRefusal w e why → why ≢ NoMemory → false ≡ passes (step w e)
-passes-refused w e why is other = sym (ap passes (refusal_is w e why is other))
+-- nothing becomes of a packet by an event that is refused
+pub fate-refused : (w : World) (e : Event) (why : Refusal) → IsEventRefusal w e why → why ≢ NoMemory → None ≡ fate_after (step w e)
+fate-refused w e why is other = sym (ap fate_after (refusal_is w e why is other))

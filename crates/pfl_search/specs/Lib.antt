@@ -1,4 +1,6 @@
 pub mod Choices
+pub mod Fates
+pub mod Differing
 pub mod Goals
 pub mod Orders
 pub mod Ordered

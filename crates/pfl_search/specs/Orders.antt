@@ -1,5 +1,5 @@
 -- Orders of events: of two that commute one order is tried (this project's profile).
-use Rattle.std.specs.Prelude.{ℕ, Bool, true, false, not, ◌&&◌, nat_lt, Option, Some, None}
+use Rattle.std.specs.Prelude.{ℕ, Bool, true, false, not, ◌&&◌, nat_eq, nat_lt, if◌then◌else◌, Option, Some, None}
 use Rattle.std.specs.Option.{option_map_or}
 use Rattle.pfl_base.specs.declared.node_id.NodeId.{NodeId}
 use Rattle.pfl_base.specs.declared.node_id.NodeId.TheVariants.{A, B}
@@ -67,3 +67,7 @@ comes_first last w e = nat_lt (rank w e) last.rank && may_pass last.kind (kind_o
 abbrev pub is_in_turn : Option Last → World → Event → Bool
 is_in_turn None w e = true
 is_in_turn (Some last) w e = not (comes_first last w e)
+
+-- the last event, if it came in the phase that has begun and the next one is of that phase too: else the order of the two stays
+abbrev pub in_phase : Option Last → ℕ → ℕ → Option Last
+in_phase last begun phase = if nat_eq begun phase then last else None

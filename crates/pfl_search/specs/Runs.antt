@@ -6,46 +6,60 @@ use Rattle.pfl_world.specs.Events.{step}
 use Rattle.pfl_world.specs.Meanings.{Stepped}
 use Rattle.pfl_world.specs.Runs.{run}
 use Rattle.pfl_world.specs.Worlds.{World}
-use Rattle.pfl_search.specs.Choices.{instances, used}
+use Rattle.pfl_search.specs.Choices.{Stage, instances, start, taken}
 use Rattle.pfl_search.specs.Goals.{meets}
 use Rattle.pfl_search.specs.Visits.{first_visit_after}
-use Rattle.pfl_search.specs.declared.order.Last.{Last}
 use Rattle.pfl_language.specs.declared.choice.Choice.{Choice}
+use Rattle.pfl_search.specs.declared.order.Last.{Last}
 use Rattle.pfl_language.specs.declared.goal.Goal.{Goal}
 use Rattle.pfl_search.specs.declared.stopped.Stopped.{Stopped}
 use Rattle.pfl_search.specs.declared.stopped.Stopped.TheVariants.{NoMemory, TooMany}
 
--- An event is one of a choice that has a use left, it is accepted, and the rest has that use no more.
-pub record Begins (cs : List Choice) (w : World) (e : Event) (rest : List Choice → World → Type 0) : Type 0 where
+-- An event is one of a choice whose phase is not over and that has a use left, it is accepted, and the rest has that use no more, nor
+-- any choice of an earlier phase.
+pub record Begins (st : Stage) (w : World) (e : Event) (rest : Stage → World → Type 0) : Type 0 where
   pub place : ℕ
   pub choice : Choice
-  pub at : slice_get cs place ≡ Some choice
+  pub at : slice_get st.choices place ≡ Some choice
+  pub not_over : st.phase ≤ choice.phase
   pub left : 0 < choice.uses
   pub fits : Contains (instances w choice.what) e
   pub gives : Stepped
   pub accepted : step w e ≡ Ok gives
-  pub goes_on : rest (used cs place) gives.world
+  pub goes_on : rest (taken st place choice.phase) gives.world
 
--- each event is one of a choice that has a use left when it comes, and is accepted there
-abbrev pub IsRun : List Choice → World → List Event → Type 0
-IsRun cs w [] = Unit {0}
-IsRun cs w (e ∷ es) = Begins cs w e (λ left v. IsRun left v es)
+-- each event is one of a choice that has a use left when it comes, no event of a later phase came before it, and it is accepted there
+abbrev pub IsRun : Stage → World → List Event → Type 0
+IsRun st w [] = Unit {0}
+IsRun st w (e ∷ es) = Begins st w e (λ left v. IsRun left v es)
+
+-- a run of choices from the start
+abbrev pub IsRunOf : List Choice → World → List Event → Type 0
+IsRunOf cs w es = IsRun (start cs) w es
+
+-- each run of the choices has fewer events
+abbrev pub EndBefore : ℕ → List Choice → World → Type 0
+EndBefore depth cs w = (es : List Event) → IsRunOf cs w es → length es < depth
 
 -- the events are a run of the choices, no more than `depth`, and the world that they lead to meets the goal
 pub record LeadsTo (goal : Goal) (depth : ℕ) (cs : List Choice) (w : World) (es : List Event) : Type 0 where
-  pub is_run : IsRun cs w es
+  pub is_run : IsRunOf cs w es
   pub within : length es ≤ depth
   pub world : World
   pub reached : run w es ≡ Some world
   pub met : IsTrue (meets goal world)
 
+-- no run of the choices leads to the goal, however long
+abbrev pub NeverLeads : Goal → List Choice → World → Type 0
+NeverLeads goal cs w = (depth : ℕ) (es : List Event) → ¬ (LeadsTo goal depth cs w es)
+
 -- the first run after the last event that leads to the goal: that of the first world which meets it
-abbrev pub first_run_after : Option Last → Goal → ℕ → List Choice → World → Option (List Event)
-first_run_after last goal depth cs w = option_map (λ v. v.run) (first_visit_after last goal depth cs w)
+abbrev pub first_run_after : Option Last → Goal → ℕ → Stage → World → Option (List Event)
+first_run_after last goal depth st w = option_map (λ v. v.run) (first_visit_after last goal depth st w)
 
 -- the first run that leads to the goal, where no event came before
 abbrev pub first_run : Goal → ℕ → List Choice → World → Option (List Event)
-first_run goal depth cs w = first_run_after None goal depth cs w
+first_run goal depth cs w = first_run_after None goal depth (start cs) w
 
 -- the run that searches of this depth and of each that is deeper by up to `more` find first
 unfoldable pub first_deeper : Goal → ℕ → ℕ → List Choice → World → Option (List Event)

@@ -3,6 +3,8 @@
 #![tactic(auto)]
 
 mod append;
+mod differing;
+mod fate;
 mod goal;
 mod laws;
 mod names;
@@ -10,6 +12,7 @@ mod order;
 mod runs;
 mod shortest;
 mod stopped;
+mod tally;
 mod turns;
 
 pub use laws::searches_are_exhaustive;
@@ -19,4 +22,5 @@ pub use pfl_world::{Counters, Node, World, WorldFault, WorldTape};
 pub use runs::{Searched, search};
 pub use shortest::search_shortest;
 pub use stopped::Stopped;
+pub use tally::Tally;
 pub use turns::Candidate;

@@ -1,7 +1,7 @@
 //! The order in which events that commute are tried.
 
 ghost use Rattle.std.specs.Prelude.{◌≡◌};
-ghost use Rattle.pfl_search.specs.Orders.{comes_first, frame_rank, is_in_turn, kind_of, last_of, may_pass, node_rank, rank, stood_at};
+ghost use Rattle.pfl_search.specs.Orders.{comes_first, frame_rank, in_phase, is_in_turn, kind_of, last_of, may_pass, node_rank, rank, stood_at};
 
 use pfl_base::NodeId;
 use pfl_language::{Event, FrameEvent};
@@ -146,4 +146,11 @@ pub(crate) fn is_in_turn<A: Allocator>(last: Option<Last>, world: &World<A>, eve
         Some(last) => !comes_first(&last, world, event),
         None => true,
     }
+}
+
+/// The last event, if it came in the phase that has begun and this one is of that phase too: else the order of the two stays.
+pub(crate) fn in_phase(last: Option<Last>, begun: u32, phase: u32) -> Option<Last>
+    ensures { result ≡ in_phase last begun phase }
+{
+    if begun == phase { last } else { None }
 }

@@ -18,10 +18,13 @@ pub enum Finding<A: Allocator> {
         run: Vec<Event, A>,
         tried: u64,
     },
-    /// No run of at most `depth` events leads to the goal; and how many were tried.
+    /// No run of at most `depth` events leads to the goal, and none of any length where `ended`: each run of the choices has fewer
+    /// events; how many runs were tried, and how often the question was asked of the worlds that they led to.
     Nothing {
         depth: u32,
         tried: u64,
+        asked: u64,
+        ended: bool,
     },
     /// More than this number of runs were to be tried.
     GaveUp(u64),
@@ -31,12 +34,20 @@ pub enum Finding<A: Allocator> {
 
 /// What was found from where a branch stands.
 pub(crate) fn found<A: Allocator>(name: BranchWord, depth: u32, searched: Searched<A>) -> Finding<A>
-    ensures { finding_of result ≡ found_by name depth searched.worlds (option_map (λ run. run.items) searched.found) }
+    ensures { finding_of result
+        ≡ found_by name depth searched.worlds searched.asked searched.ended (option_map (λ run. run.items) searched.found) }
 {
     let tried = searched.worlds;
+    let asked = searched.asked;
+    let ended = searched.ended;
     match searched.found {
         Some(run) => Finding::Found { name, run, tried },
-        None => Finding::Nothing { depth, tried },
+        None => Finding::Nothing {
+            depth,
+            tried,
+            asked,
+            ended,
+        },
     }
 }
 

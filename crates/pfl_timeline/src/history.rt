@@ -339,7 +339,7 @@ impl<A: Allocator + Copy> History<A> {
         most: u64,
     ) -> Result<Searched<A>, Stopped>
         ensures gives { IfOk result (λ s. (w : Pair) × (reached self.old ≡ Some w)
-            × Gives (λ run. run.items) (sought goal.now depth choices.now most) w s.found s.worlds) }
+            × Gives (λ run. run.items) (sought goal.now depth choices.now most) w s.found s.worlds s.asked s.ended) }
         ensures stopped { IfErr result (λ why. (w : Pair) × (reached self.old ≡ Some w)
             × IsStop most (runs_to_try (sought goal.now depth choices.now most) w) why) }
         ensures unchanged { self.new ≡ self.old }

@@ -100,14 +100,17 @@ fn choices(losses: u32) -> [Choice; 3] {
         Choice {
             what: Move::Given(flush),
             uses: 1,
+            phase: 0,
         },
         Choice {
             what: Move::AnyFrame(FrameEvent::Deliver),
             uses: 1,
+            phase: 0,
         },
         Choice {
             what: Move::AnyFrame(FrameEvent::Lose),
             uses: losses,
+            phase: 0,
         },
     ]
 }

@@ -1,5 +1,5 @@
 -- Turns as the search has them in hand.
-use Rattle.std.specs.Prelude.{◌≡◌, ◌<◌, Bool, true, false, List, length, slice_get, Some, Ok, Err}
+use Rattle.std.specs.Prelude.{◌≡◌, ◌<◌, ◌+◌, ℕ, Bool, true, false, List, length, slice_get, Option, Some, Ok, Err}
 use Rattle.pfl_base.specs.declared.refusal.Refusal.{Refusal}
 use Rattle.pfl_edits.specs.Changes.{Fits, back}
 use Rattle.pfl_edits.specs.Tapes.{above, below}
@@ -8,8 +8,12 @@ use Rattle.pfl_world.specs.Events.{step}
 use Rattle.pfl_world.specs.Meanings.{Stepped}
 use Rattle.pfl_world.specs.WorldEdits.{Finds, put_back}
 use Rattle.pfl_world.specs.Worlds.{World, IsWorld}
-use Rattle.pfl_search.specs.Choices.{used}
+use Rattle.pfl_search.specs.Choices.{Stage, used}
+use Rattle.pfl_search.specs.Visits.{asking, at_end, each, tally_after}
 use Rattle.pfl_language.specs.declared.choice.Choice.{Choice}
+use Rattle.pfl_search.specs.declared.order.Last.{Last}
+use Rattle.pfl_language.specs.declared.goal.Goal.{Goal}
+use Rattle.pfl_search.specs.declared.tally.Tally.{Tally}
 use Rattle.pfl_search.specs.declared.turns.Candidate.{Candidate}
 
 -- the turn is of a choice that has a use left
@@ -40,3 +44,10 @@ pub record Stays {M : Type 0} (t : Candidate) (old new : World) (tape longer : L
 abbrev pub Enters : {M : Type 0} → Candidate → World → World → List (WorldEdit M) → List (WorldEdit M) → List Choice → List Choice → Bool → Type 0
 Enters t old new tape longer cs left true = Entered t old new tape longer cs left
 Enters t old new tape longer cs left false = Stays t old new tape longer cs left
+
+-- A search from a world was counted: each world that was visited, those in which the question was asked, and those that a run of as many
+-- events leads to as there may be.
+pub record Tallies (old new : Tally) (before : Option Last) (goal : Goal) (depth : ℕ) (st : Stage) (w : World) : Type 0 where
+  pub left : new.left + tally_after each before goal depth st w ≡ old.left
+  pub asked : new.asked ≡ old.asked + tally_after (asking goal) before goal depth st w
+  pub at_end : new.at_end ≡ old.at_end + tally_after at_end before goal depth st w

@@ -6,5 +6,5 @@ use Rattle.pfl_search.proofs.turns.add_all.Given as goal
 -- what stood there, the turns of the choices so far, and those of the others
 abbrev pub invariant-loop-place : goal.invariant-loop-place
 invariant-loop-place g l =
-    l.turns.items ++ in_turn l.last l.world (turns_from l.place l.world (drop l.place l.choices))
-    ≡ l.initial.turns.items ++ in_turn l.last l.world (turns_from 0 l.world l.choices)
+    l.turns.items ++ in_turn l.last l.begun l.world (turns_from l.begun l.place l.world (drop l.place l.choices))
+    ≡ l.initial.turns.items ++ in_turn l.last l.begun l.world (turns_from l.begun 0 l.world l.choices)

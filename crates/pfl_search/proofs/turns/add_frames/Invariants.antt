@@ -5,8 +5,8 @@ use Rattle.pfl_search.proofs.turns.add_frames.Given as goal
 
 abbrev pub invariant-loop-ticketed : goal.invariant-loop-ticketed
 invariant-loop-ticketed g l =
-    l.turns.items ++ in_turn l.last l.world (map (λ t. turn_on l.place l.event t.ticket) l.frames)
-    ≡ l.initial.turns.items ++ in_turn l.last l.world (map (λ t. turn_on l.place l.event t.ticket) l.initial.frames)
+    l.turns.items ++ in_turn l.last l.begun l.world (map (λ t. turn_on l.place l.phase l.event t.ticket) l.frames)
+    ≡ l.initial.turns.items ++ in_turn l.last l.begun l.world (map (λ t. turn_on l.place l.phase l.event t.ticket) l.initial.frames)
 
 abbrev pub decreases-loop-ticketed : goal.decreases-loop-ticketed
 decreases-loop-ticketed g l = length l.frames

@@ -21,9 +21,9 @@ returns-clause-finding g c =
             e.0,
             seen ∙ e.1,
             w.found.ensures
-                ∙ ap (λ n. found_by n c.args.depth w.in-Ok.searched.worlds (option_map (λ run. run.items) w.in-Ok.searched.found))
+                ∙ ap (λ n. found_by n c.args.depth w.in-Ok.searched.worlds w.in-Ok.searched.asked w.in-Ok.searched.ended (option_map (λ run. run.items) w.in-Ok.searched.found))
                 (ap (λ (r : Rooted). r.branch.name) c.self.view_is)
-                ∙ answered (λ run. run.items) s b e.0 w.in-Ok.searched.found w.in-Ok.searched.worlds e.2,
+                ∙ answered (λ run. run.items) s b e.0 w.in-Ok.searched.found _ _ _ e.2,
           )
       | in-Err w ↦
           let e = w.in-Err.ensures.stopped in
@@ -40,12 +40,12 @@ returns-clause-means g c =
       | in-Ok w ↦
           let e = w.in-Ok.ensures.gives in
           let is = w.found.ensures
-          ∙ ap (λ n. found_by n c.args.depth w.in-Ok.searched.worlds (option_map (λ run. run.items) w.in-Ok.searched.found))
+          ∙ ap (λ n. found_by n c.args.depth w.in-Ok.searched.worlds w.in-Ok.searched.asked w.in-Ok.searched.ended (option_map (λ run. run.items) w.in-Ok.searched.found))
           (ap (λ (r : Rooted). r.branch.name) c.self.view_is) in
           if_ok _ _ _ w.result-is (
             e.0,
             seen ∙ e.1,
-            subst (λ (f : Finding). IsAnswer s e.0 f) (sym is) (meant (λ run. run.items) s b e.0 w.in-Ok.searched.found w.in-Ok.searched.worlds e.2),
+            subst (λ (f : Finding). IsAnswer s e.0 f) (sym is) (meant (λ run. run.items) s b e.0 w.in-Ok.searched.found _ _ _ e.2),
           )
       | in-Err w ↦
           let e = w.in-Err.ensures.stopped in

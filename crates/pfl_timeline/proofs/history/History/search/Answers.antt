@@ -11,9 +11,9 @@ returns-clause-gives g c =
     let e = c.search_shortest.ensures in
     IfOk-weaker c.search_shortest.result _ _
     (λ s gives. (c.self.inside.world, ap reached (sym c.self.view_is) ∙ reached-kept _ _ _ _ c.self.invariant, gives))
-    (gives_all (λ s. s.found) (λ s. s.worlds)
+    (gives_all (λ s. s.found) (λ s. s.worlds) (λ s. s.asked) (λ s. s.ended)
     (λ run. run.items) (sought c.args.goal.now c.args.depth c.args.choices.now c.args.most) c.self.inside.world c.search_shortest.result
-    e.first e.found e.shortest e.none e.worlds e.within)
+    e.first e.found e.shortest e.none e.ended e.never e.ends e.worlds e.asked e.within)
 
 pub returns-clause-stopped : goal.returns-clause-stopped
 returns-clause-stopped g c =
