@@ -10,7 +10,7 @@ from typing import Callable, Deque, Iterator, List, NamedTuple, Optional, Sequen
 
 from .language.commands import CHANGING, LOOKING, OPEN
 from .language.searches import SEARCH
-from .programs import ENTRY, FULL, SETUP_WORD, VIEW, Client, Ended, Run, Session, check_setup, commands_of, uninterrupted
+from .programs import ENTRY, FULL, SETUP_WORD, TOO_LONG, VIEW, Client, Ended, Run, Session, check_setup, commands_of, uninterrupted
 from .setups import Setup
 
 # How many seconds to wait for an entry that the server has.
@@ -220,10 +220,14 @@ class Joined(NamedTuple):
 
 
 def joined(client: Client, program: str, given: Optional[Setup]) -> Joined:
-    """Follows a server that reports its setup. A server of an older release does not; then the setup is the given one, if any."""
+    """Follows a server that reports its setup. A server of an older release does not, nor does one whose setup is too long; then the
+    setup is the given one, if any."""
     *lines, last = client.ask(SETUP_WORD)
     if last.startswith("bad "):
         return Joined(client, given)
+    if last == TOO_LONG:
+        rest = "the setup is that of --setup" if given else "what needs the setup needs --setup FILE, the file that it read"
+        return Joined(client, given, f"the server's setup is too long for it to send; the server answers looks, and {rest}")
     fault = check_setup(program, lines)
     if fault:
         return Joined(client, given, f"the program here does not take the server's setup: {fault.words}; the server answers looks")

@@ -26,6 +26,8 @@ SENT = (ENTRY, BEHIND) = ("entry ", "behind ")
 FOLLOWING, FOLLOWED = "following ", "followed "
 # The answer of a server to each further command once it has taken all that it can.
 FULL = "full"
+# The answer of a server to `setup` if it has not kept the lines, because they are too many.
+TOO_LONG = f"{SETUP_WORD} too long"
 
 
 class Ended(Exception):
@@ -267,7 +269,7 @@ class Client(Stream):
 
     def _reply(self, line: str) -> List[str]:
         reply = super()._reply(line)
-        if line.split() == [SETUP_WORD] and reply and not reply[0].startswith("bad "):
+        if line.split() == [SETUP_WORD] and reply and begins_setup(reply[0]):
             while not opens(reply[-1]):
                 more = super()._reply(line)
                 if not more:
@@ -278,6 +280,12 @@ class Client(Stream):
     def close(self) -> None:
         super().close()
         self.connection.close()
+
+
+def begins_setup(line: str) -> bool:
+    """Whether an answer to `setup` that begins with this line is the setup, and ends with its line `open`. Otherwise it is this line, which
+    no setup has: it would be faulty there."""
+    return line != TOO_LONG and not line.startswith("bad ")
 
 
 def commands_of(view: str) -> int:

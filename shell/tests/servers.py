@@ -17,12 +17,16 @@ from ..language.events import plain_event
 from ..language.lines import LONGEST_LINE, has_word, opens
 from ..pages.server import free_port
 from ..pair import read_shown
-from ..programs import FOLLOW, SETUP_WORD, VIEW, Run
+from ..programs import FOLLOW, SETUP_WORD, TOO_LONG, VIEW, Run
 
 RULES = ["rule a pass any", "rule b pass any", "open"]
 # How long an entry takes, in seconds, and how many are to come where the server says that it is behind.
 DELAY = 0.03
 MANY = 100
+# How many bytes the lines of a setup before `open` may have for a server to keep them; a setup that has as many; and one that has more.
+LONGEST_TEXT = 1 << 24
+LONGEST = ["#" * 512] * 32704 + ["#" * 31, *RULES]
+TOO_LONG_BY_ONE = ["#" * 32 if len(it) == 31 else it for it in LONGEST]
 
 
 def plain(line: str) -> str:
@@ -38,7 +42,10 @@ class Server:
 
     def __init__(self, path: str, setup: Sequence[str], sessions: int, port: int = 0, knows: bool = True):
         """One that does not know the two words is of an older release."""
-        self.setup, self.knows = [it.encode(errors="surrogateescape").removesuffix(b"\r")[:LONGEST_LINE] for it in setup], knows
+        lines = [it.encode(errors="surrogateescape").removesuffix(b"\r")[:LONGEST_LINE] + b"\n" for it in setup]
+        # What it answers to `setup`.
+        self.setup = f"{TOO_LONG}\n".encode() if sum(map(len, lines[:-1])) > LONGEST_TEXT else b"".join(lines)
+        self.knows = knows
         self.run = Run(path, [it for it in setup if has_word(it) and not opens(it)])
         self.entries: List[Tuple[int, str]] = []
         self._view, self._viewed = "", -1
@@ -120,7 +127,7 @@ class Visit:
         if words == [VIEW]:
             self._send([self.server.view()])
         elif self.server.knows and words == [SETUP_WORD]:
-            self.connection.sendall(b"".join(it + b"\n" for it in self.server.setup))
+            self.connection.sendall(self.server.setup)
         elif self.server.knows and words[0] == FOLLOW:
             now = len(self.server.entries)
             at = min(int(words[1]), now) if words[1:] else now

@@ -9,7 +9,7 @@ from typing import List
 
 from . import program
 from .bridges import PACKET, PROMPT, Bridged
-from .servers import RULES, Server, proved_server, standin_server
+from .servers import RULES, TOO_LONG_BY_ONE, Server, proved_server, standin_server
 from ..laboratory import Unknown
 from ..mirror import Shared, joined as joined_to
 from ..pages.door import Door
@@ -177,6 +177,16 @@ class Setups(Pages):
             port = ends.enter_context(standin_server(1, knows=False)).port
             with self.assertRaisesRegex(Unknown, "^this server does not report its setup, which a page needs: --setup FILE"):
                 serve(program(), 0, joined(program(), port, None, io.StringIO()), io.StringIO())
+
+    def test_a_server_whose_setup_is_too_long_needs_one(self) -> None:
+        out = io.StringIO()
+        with self.assertRaisesRegex(Unknown, "^this server does not report its setup, which a page needs: --setup FILE"):
+            serve(program(), 0, joined(program(), self.begin(1, TOO_LONG_BY_ONE), None, out), io.StringIO())
+        door = self.served(joined(program(), self.begin(1, TOO_LONG_BY_ONE), Setup.of(RULES[:-1]), out))
+        self.step(door, PACKET)
+        self.assertEqual(self.page(door)["branches"][0]["moments"][0]["outcome"], "pass 1.1")
+        self.assertRegex(out.getvalue().splitlines()[1], "^the server's setup is too long for it to send; the server answers looks, and what needs")
+        self.assertRegex(out.getvalue().splitlines()[3], "the setup is that of --setup$")
 
 
 if __name__ == "__main__":

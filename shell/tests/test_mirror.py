@@ -7,7 +7,7 @@ import unittest
 from typing import List
 
 from .followers import QUERY, STEP, Followers, ProvedFollowers, shared
-from .servers import MANY, RULES, standin_server
+from .servers import LONGEST, MANY, RULES, TOO_LONG_BY_ONE, standin_server
 from ..colours import PLAIN
 from ..laboratory import Laboratory
 from ..language.commands import CHANGING
@@ -224,6 +224,34 @@ class Older(Followers):
     def test_the_setup_of_a_file_is_taken(self) -> None:
         lab = self.laboratory(self.serve_older(1), Setup.of(RULES[:-1]))
         self.assertEqual((lab.join(), lab.shared, lab.knows_setup), ("", None, True))
+        shell = Shell(lab, io.StringIO(), PLAIN)
+        self.said(shell, QUERY)
+        self.assertRegex(self.said(shell, "log")[1], "pass 1.1$")
+
+
+class Long(Followers):
+    """A server whose setup has as many lines as it keeps, or more."""
+
+    def test_the_longest_one_that_is_kept_is_taken(self) -> None:
+        lab = self.laboratory(self.serve(1, LONGEST))
+        self.assertEqual(lab.join(), "")
+        self.assertEqual((shared(lab).client.ask("setup") == LONGEST, lab.setup.lines, lab.is_mirrored), (True, RULES[:-1], True))
+
+    def test_of_a_longer_one_all_is_asked_of_the_server(self) -> None:
+        lab = self.laboratory(self.serve(1, TOO_LONG_BY_ONE))
+        looks = "the server's setup is too long for it to send; the server answers looks"
+        told = f"{looks}, and what needs the setup needs --setup FILE, the file that it read"
+        self.assertEqual((lab.join(), lab.shared, lab.knows_setup), (told, None, False))
+        shell = Shell(lab, io.StringIO(), PLAIN)
+        self.assertEqual(self.said(shell, QUERY), ["step pass 1.1 dropped 0"])
+        self.assertRegex(self.said(shell, "log")[0], "the outcomes are known with --setup FILE")
+        self.assertEqual(self.said(shell, "setup", "  setup "), ["setup too long"] * 2)
+        self.assertEqual(lab.ask("names"), ["names main"])
+
+    def test_the_setup_of_a_file_is_taken_for_a_longer_one(self) -> None:
+        lab = self.laboratory(self.serve(1, TOO_LONG_BY_ONE), Setup.of(RULES[:-1]))
+        told = "the server's setup is too long for it to send; the server answers looks, and the setup is that of --setup"
+        self.assertEqual((lab.join(), lab.shared, lab.setup), (told, None, Setup.of(RULES[:-1])))
         shell = Shell(lab, io.StringIO(), PLAIN)
         self.said(shell, QUERY)
         self.assertRegex(self.said(shell, "log")[1], "pass 1.1$")

@@ -192,6 +192,8 @@ class Lines(Followers):
         client = self.client(its.port)
         self.assertEqual(client.ask("setup"), ["", "# open", "rule a pass any", "\topen \r"])
         self.assertEqual(client.ask("names"), ["names main"])
+        client = self.client(self.scripted("setup too long\n", "names main\n").port)
+        self.assertEqual((client.ask("setup"), client.ask("names")), (["setup too long"], ["names main"]))
         its = self.scripted("rule a pass any\n", ends=True)
         with closing(Client(its.port)) as cut, self.assertRaises(Ended):
             cut.ask("setup")
