@@ -10,7 +10,8 @@ A page quotes by a comment on a line of its own, and the fenced block after it i
     <!-- file PATH -->                       a whole file
     <!-- naming PATTERN -->                  the files, folder by folder, with a word that matches a regular expression, in any case
     <!-- refusals CRATE NAME .. -->          the refusals, in order, of the events that these definitions of meanings distinguish
-    <!-- reached CRATE NAME .. -->           how many definitions these definitions of specs/ are made of, crate by crate
+    <!-- reached CRATE NAME .. -->           how many definitions these definitions of specs/ are made of, crate by crate, and how many of
+                                             them the page shows
     <!-- reached PAGE -->                    the same for the definitions cited by the contracts that the page quotes
 
 Names are looked up in the crate, in whatever file they are; a name that is gone or that is there twice is an error. A contract is on
@@ -18,7 +19,8 @@ one page only: a function that is quoted twice over all pages, by `contracts` or
 is reached, a definition that is quoted but not reached is an error: nobody has to believe it. If it says so for another page's
 contracts, a definition that one of their clauses cites and that it does not quote is an error, too; for a law, a function without
 code, so is a definition that its statement is made of. README.md names in its promises the functions and laws that carry them: each
-must be quoted in docs/PROVED.md, and a page must say what that page's contracts reach.
+must be quoted in docs/PROVED.md, and a page must say what that page's contracts reach. The table of laws in docs/ARCHITECTURE.md must have
+each law of the crates, and nothing that is no function; docs/PROVED.md must name each.
 
     docs/reading.py            writes the blocks
     docs/reading.py --check    changes nothing, and exits with 1 if a block is stale or a name is not found
@@ -51,11 +53,16 @@ FAMILIES = {
 PROMISES = ("README.md", "## What it promises", "docs/PROVED.md")
 # The name of a function or a law, and not a word of a command line: it has its type before it, or consists of several words.
 CARRIES = re.compile(r"`((?:\w+::)+\w+|[a-z]\w*_\w+)`")
+# The page with the table of laws, the head of that table, and the page that names them crate by crate.
+LAWS = ("docs/ARCHITECTURE.md", "| Law | Named by |", "docs/PROVED.md")
+# What a row of that table is named by: functions, and the crate that they are of.
+NAMED_BY = re.compile(r"`(?P<name>[\w:]+)`|\bof (?P<crate>pfl_\w+)")
 WIDTH = 120
 MARKER = re.compile(r"<!-- (definition|theorem|contracts|function|file|naming|reached|refusals) (.+?) -->$")
 DEFINITION = r"^ *(?:abbrev pub|unfoldable pub|pub record|pub data) {name}(?= |$)"
 THEOREM = r"^{name} :"
 FUNCTION = r"^ *(?:pub(?:\(crate\))? )?(?:const )?fn {name}[(<]"
+PUBLIC = re.compile(r" *pub (?:const )?fn (\w+)[(<]")
 CLAUSE = re.compile(r" *(?:ensures|requires)\b")
 # Where to look for a change: the crates, and what is around the program.
 WITH_SOURCES = ("crates/*/src", "crates/*/specs", "crates/*/proofs", "shell", "oracle", "fuzzing")
@@ -296,12 +303,14 @@ def reached_from(words: Sequence[str]) -> Set[Place]:
     return definitions.reached(stated_on(words[0]))
 
 
-def reached(*words: str) -> List[str]:
-    found = reached_from(words)
-    (count, lines), (all_count, all_lines) = definitions.size(found), definitions.size(definitions.all_definitions())
+def reached(page: Path, *words: str) -> List[str]:
+    found, every = reached_from(words), definitions.all_definitions()
+    (count, lines), (all_count, all_lines) = definitions.size(found), definitions.size(every)
+    shown_count, shown_lines = definitions.size(found & shown_on(page))
     by_crate = collections.Counter(module.split(".")[0] for module, _name in found)
     counts = ", ".join(f"{crate} {by_crate[crate]}" for crate in sorted(by_crate))
-    return [f"{count} of {all_count} definitions, {lines} of {all_lines} lines:", *textwrap.wrap(counts, WIDTH)]
+    return [f"{count} of {all_count} definitions, {lines} of {all_lines} lines; this page shows {shown_count} of these {count}, in"
+            f" {shown_lines} lines:", *textwrap.wrap(counts, WIDTH)]
 
 
 def refusals(*words: str) -> List[str]:
@@ -379,6 +388,49 @@ def not_judged() -> List[str]:
     return [] if [other] in judged else [f"{other}: no page says what its contracts reach"]
 
 
+def laws() -> Set[Tuple[str, str]]:
+    """The laws of the crates, each with its crate before it: what is public in a `laws.rt`, and elsewhere what has clauses and no code."""
+    found = set()
+    for path in sorted((TOP / "crates").glob("pfl_*/src/**/*.rt")):
+        lines = path.read_text().splitlines()
+        for at, name in ((at, it[1]) for at, it in enumerate(map(PUBLIC.match, lines)) if it):
+            end = body_start(lines, at)
+            has_clause = any(map(CLAUSE.match, lines[at : end + 1]))
+            if path.name == "laws.rt" or (lines[end].endswith("{}") and has_clause and not owner(lines, at)):
+                found.add((path.relative_to(TOP / "crates").parts[0], name))
+    return found
+
+
+def table_of_laws() -> Iterator[Tuple[str, str]]:
+    """The functions that the table of laws names, each with its crate before it."""
+    page, heading, _other = LAWS
+    lines = (TOP / page).read_text().splitlines()
+    start = lines.index(heading) if heading in lines else len(lines)
+    for row in itertools.takewhile(lambda it: it.startswith("|"), lines[start + 2:]):
+        names: List[str] = []
+        for found in NAMED_BY.finditer(row.split(" | ")[-1]):
+            if found["crate"]:
+                yield from ((found["crate"], name) for name in names)
+                names = []
+            else:
+                names.append(found["name"])
+
+
+def not_in_table() -> List[str]:
+    """The laws that the table of laws or the page of the promises lacks, and what the table names that is not there."""
+    page, _heading, other = LAWS
+    known, named = laws(), set(table_of_laws())
+    text = (TOP / other).read_text()
+    faults = [f"{page}: the table of laws lacks {name} of {crate}" for crate, name in sorted(known - named)]
+    faults += [f"{other}: does not name the law {name} of {crate}" for crate, name in sorted(known) if f"`{name}`" not in text]
+    for crate, name in sorted(named - known):
+        try:
+            find_function(crate, name)
+        except Missing as fault:
+            faults.append(f"{page}: the table of laws: {fault}")
+    return faults
+
+
 LANGUAGES: Dict[Callable[..., List[str]], str] = {definition: "antt", theorem: "antt", contracts: "rust", function: "rust", file: "text", naming: "text", reached: "text",
              refusals: "text"}
 QUOTES = {quote.__name__: quote for quote in LANGUAGES}
@@ -395,9 +447,9 @@ def refreshed(page: Path) -> Tuple[str, List[str]]:
         at += 1
         if not marker:
             continue
-        quote = QUOTES[marker[1]]
+        quote, words = QUOTES[marker[1]], marker[2].split()
         try:
-            text = quote(*marker[2].split())
+            text = reached(page, *words) if quote is reached else quote(*words)
         except (Missing, FileNotFoundError) as fault:
             faults.append(f"{page.relative_to(TOP)}:{at}: {fault}")
             continue
@@ -427,7 +479,7 @@ def main(words: List[str]) -> int:
         else:
             page.write_text(text)
             print(f"{page.relative_to(TOP)}: written")
-    faults += [*quoted_twice(), *not_carried(), *not_judged()]
+    faults += [*quoted_twice(), *not_carried(), *not_judged(), *not_in_table()]
     for fault in faults:
         print(f"docs/reading.py: {fault}", file=sys.stderr)
     return 1 if faults else 0

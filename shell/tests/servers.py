@@ -180,11 +180,11 @@ class Proved(NamedTuple):
 
 
 @contextlib.contextmanager
-def proved_server(sessions: int, setup: Sequence[str] = RULES) -> Iterator[Proved]:
-    """The program's own server, once it listens."""
+def proved_server(sessions: int, setup: Sequence[str] = RULES, faults: int = subprocess.DEVNULL) -> Iterator[Proved]:
+    """The program's own server, once it listens. What it reports on standard error is lost, or can be read where that is a pipe."""
     port = free_port()
     words = [program(), "serve", "--sessions", str(sessions), "--port", str(port)]
-    with subprocess.Popen(words, stdin=subprocess.PIPE, stdout=subprocess.PIPE, stderr=subprocess.DEVNULL, text=True) as its:
+    with subprocess.Popen(words, stdin=subprocess.PIPE, stdout=subprocess.PIPE, stderr=faults, text=True) as its:
         assert its.stdin and its.stdout
         its.stdin.write("".join(f"{line}\n" for line in setup))
         its.stdin.close()

@@ -257,6 +257,10 @@ class Long(Followers):
         self.assertRegex(self.said(shell, "log")[1], "pass 1.1$")
 
 
+class LongProved(ProvedFollowers, Long):
+    """The same over the program's own server."""
+
+
 class Given(Followers):
     """A setup that is given by --setup, too."""
 

@@ -12,7 +12,8 @@ from typing import Tuple
 from . import TOP
 
 README = "# Lab\n\n## What it promises\n1. All is well: `Pair::apply` carries this, with the law `all_is_well`.\n\n## Documents\nSee `Pair::other`.\n"
-PROVED = "# Proved\n\n<!-- contracts pfl_pair Pair::apply all_is_well -->\n"
+ARCHITECTURE = "# Architecture\n\n| Law | Named by |\n|---|---|\n| all is well | `all_is_well` of pfl_pair |\n\nNot `this` of pfl_pair.\n"
+PROVED = "# Proved\nThe law is `all_is_well`.\n\n<!-- contracts pfl_pair Pair::apply all_is_well -->\n"
 READING = "# Reading\n\n<!-- reached docs/PROVED.md -->\n\n<!-- definition pfl_pair step AllIsWell is_well -->\n"
 SOURCE = """ghost use Rattle.pfl_pair.specs.Pairs.{step};
 ghost use Rattle.pfl_pair.specs.Laws.{AllIsWell};
@@ -53,6 +54,7 @@ AllIsWell = (n : ℕ) → IsTrue (is_well n)
 """
 FILES = {
     "README.md": README,
+    "docs/ARCHITECTURE.md": ARCHITECTURE,
     "docs/PROVED.md": PROVED,
     "docs/READING.md": READING,
     "crates/pfl_pair/src/pair.rt": SOURCE,
@@ -130,6 +132,23 @@ class Quotes(unittest.TestCase):
         (self.top / "docs/READING.md").write_text("# Reading\n")
         self.run_it()
         self.refuses("docs/PROVED.md: no page says what its contracts reach")
+
+    def test_the_table_has_to_have_each_law(self) -> None:
+        self.change("docs/ARCHITECTURE.md", "`all_is_well` of", "`Pair::apply` of")
+        self.refuses("docs/ARCHITECTURE.md: the table of laws lacks all_is_well of pfl_pair")
+
+    def test_the_table_names_nothing_else(self) -> None:
+        self.change("docs/ARCHITECTURE.md", "`all_is_well` of", "`all_is_well` and `nobody_is_well` of")
+        self.refuses("docs/ARCHITECTURE.md: the table of laws: function nobody_is_well of pfl_pair: not found")
+
+    def test_a_law_has_to_be_named(self) -> None:
+        self.change("docs/PROVED.md", "The law is `all_is_well`.", "There is a law.")
+        self.refuses("docs/PROVED.md: does not name the law all_is_well of pfl_pair")
+
+    def test_a_page_counts_what_it_shows(self) -> None:
+        self.change("docs/READING.md", "step AllIsWell is_well", "step AllIsWell is_well more")
+        text = (self.top / "docs/READING.md").read_text()
+        self.assertIn("```text\n4 of 4 definitions, 8 of 8 lines; this page shows 4 of these 4, in 8 lines:\npfl_pair 4\n```", text)
 
     def test_definitions_of_one_file_stand_below_its_name(self) -> None:
         self.run_it()

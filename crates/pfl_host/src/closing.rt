@@ -1,17 +1,18 @@
-//! The outcome of sessions that are served over connections.
+//! The outcome of sessions that are served.
 
-ghost use Rattle.std.specs.Prelude.{◌≡◌, ◌⊎◌, length, map, IfOk, IfErr};
+ghost use Rattle.std.specs.Prelude.{◌≡◌, ◌+◌, ◌≤◌, ◌⊎◌, length, map, IfOk, IfErr};
 ghost use Rattle.pfl_run.specs.declared.fault.RunFault.TheVariants as fault;
-ghost use Rattle.pfl_host.specs.Servers.{fault_in, first_fault, first_of, of_serve, ServesAll};
+ghost use Rattle.pfl_host.specs.Reports.{fault_in, first_fault, first_of};
+ghost use Rattle.pfl_host.specs.Servers.{of_serve, AreUnfailed, ServesAll};
 
-use crate::doors::Doors;
-use crate::network::seats;
+use crate::lobby::Lobby;
+use crate::seats::seats;
 use crate::server::Server;
 use pfl_base::{Input, Output};
+use pfl_doors::{Doors, Screened, Sides};
 use pfl_run::{Ended, EngineFault, RunFault};
 use pfl_serve::{Closing, EndedSeat, Gate, Opened, ServeFault, Service, Which};
 use std::alloc::Global;
-use std::net::TcpStream;
 use std::sync::Wait;
 use std::thread::Threads;
 
@@ -22,6 +23,8 @@ pub(crate) struct ServedSessions {
     pub(crate) entries: usize,
     /// The fault of the first session that had one.
     pub(crate) fault: Option<EngineFault>,
+    /// How many of them were browsers.
+    pub(crate) browsers: u32,
 }
 
 /// The first fault, once one more session has ended.
@@ -35,28 +38,47 @@ fn first_of(fault: Option<EngineFault>, ended: Result<Ended, EngineFault>) -> Op
     }
 }
 
-/// The fault of the first session that had one.
-fn first_fault<I: Input + Drop, O: Output + Drop>(
-    ended: Vec<EndedSeat<I, O>>,
-) -> Option<EngineFault>
-    ensures { result ≡ first_fault (map (λ e. e.result) ended.items) }
+/// The number of browsers, once one more session has ended.
+fn counted(browsers: u32, is_browser: bool) -> u32
+    ensures { result ≤ browsers + 1 }
+{
+    if is_browser {
+        browsers.saturating_add(1)
+    } else {
+        browsers
+    }
+}
+
+/// The fault of the first session that had one, and how many were browsers.
+fn ends_of<I: Input + Drop, O: Output + Drop>(
+    ended: Vec<EndedSeat<Screened<I>, O>>,
+) -> (Option<EngineFault>, u32)
+    ensures fault { result.0 ≡ first_fault (map (λ e. e.result) ended.items) }
+    ensures browsers { result.1 ≤ length ended.items }
 {
     let mut fault = None;
+    let mut browsers: u32 = 0;
     for seat in ended {
         fault = first_of(fault, seat.result);
+        browsers = counted(browsers, seat.reader.into_inner().turned());
     }
-    fault
+    (fault, browsers)
 }
 
 /// The outcome of sessions that have been served.
-fn outcome_of<I: Input + Drop, O: Output + Drop>(closing: Closing<Global, I, O>) -> ServedSessions
+fn outcome_of<I: Input + Drop, O: Output + Drop>(
+    closing: Closing<Global, Screened<I>, O>,
+) -> ServedSessions
     ensures entries { result.entries ≡ length closing.closed.journal.items }
     ensures fault { result.fault ≡ first_fault (map (λ e. e.result) closing.ended.items) }
+    ensures browsers { result.browsers ≤ length closing.ended.items }
 {
     let Closing { closed, ended } = closing;
+    let (fault, browsers) = ends_of(ended);
     ServedSessions {
         entries: closed.journal.len(),
-        fault: first_fault(ended),
+        fault,
+        browsers,
     }
 }
 
@@ -71,24 +93,27 @@ fn lab_fault(why: ServeFault) -> RunFault
 }
 
 impl<G: Gate + Sync, R: Threads + Wait + Sync> Server<'_, G, R> {
-    /// Serves a session over each stream, and closes the lab.
-    pub(crate) fn serve_streams<J: Which + Send + Sync>(
+    /// Serves a session over each connection that the doors gave, and closes the lab.
+    pub(crate) fn serve_given<J: Which + Send + Sync, D: Doors + Sync>(
         &self,
         opened: Opened<Global>,
-        streams: &[TcpStream],
+        doors: &D,
+        given: Vec<Sides<D::Reader, D::Writer>>,
     ) -> Result<ServedSessions, RunFault>
         requires tables { (opened.publisher ≡ J.publisher) × (opened.tallies ≡ J.tallies) }
         requires opening { (opened.opening ≡ J.opening) × (opened.setup ≡ J.setup) × (opened.limit ≡ J.limit) }
-        requires all { length streams.now ≡ length J.tallies }
-        ensures serves { IfOk result (λ o. ServesAll J.Which o.fault o.entries) }
+        requires all { length given.items ≡ length J.tallies }
+        requires unfailed { AreUnfailed D.Reader.has_failed D.Writer.has_failed given.items }
+        ensures serves { IfOk result (λ o. ServesAll D.Reader.left D.Writer.Output D.heard J.Which given.items o.fault o.entries) }
+        ensures browsers { IfOk result (λ o. o.browsers ≤ length J.tallies) }
         ensures fault { IfErr result (λ f. (f ≡ fault.NoThread) ⊎ (f ≡ fault.NoMemory)) }
     {
         let (lab, passes) = opened.named::<J>();
-        let seats = seats(self.alloc, passes, streams)?;
+        let seats = seats(self.alloc, passes, given)?;
         let service = Service {
             rt: self.rt,
             alloc: self.alloc,
-            gate: &Doors::new(self.gate, streams),
+            gate: &Lobby::new(self.gate, doors),
         };
         match service.serve_and_close(lab, seats) {
             Ok(closing) => Ok(outcome_of(closing)),

@@ -1,25 +1,27 @@
-//! Labs that are served over the network.
+//! Labs that are served to those who come through doors.
 
-ghost use Rattle.std.specs.Prelude.{◌≡◌, ◌≤◌, ◌++◌, ◌⊎◌, ℕ, true, false, length, take, codes, IfOk, IfErr, OnOk, OnErr};
+ghost use Rattle.std.specs.Prelude.{◌≡◌, ◌≤◌, ◌++◌, ◌⊎◌, ℕ, true, false, [], Some, length, take, codes, IfOk, IfErr, OnOk, OnErr};
 ghost use Rattle.std.specs.Fmt.{decimal};
 ghost use Rattle.std.specs.Io.KnownBytes.{Appends};
 ghost use Rattle.pfl_base.specs.Counts.{Counts, CountsWithin};
+ghost use Rattle.pfl_doors.specs.Visits.{entrance};
 ghost use Rattle.pfl_serve.specs.session.Totals.{HasFewEvents};
-ghost use Rattle.pfl_run.specs.Runs.{HasFailed, IsDeviceFault, IsSetupStop, Stops};
+ghost use Rattle.pfl_run.specs.Runs.{HasFailed, IsDeviceFault};
 ghost use Rattle.pfl_run.specs.declared.fault.RunFault.TheVariants as fault;
-ghost use Rattle.pfl_host.specs.Servers.{closed_text, listening_text, PrintsClosed, IsAwaitStop, IsCloseStop, IsLabStop, IsServeStop, HostServes};
-ghost use Rattle.pfl_host.specs.Servers.{ServesFromDevice, ServesToEnd, SetsUpBase, HostServesWhole, ReportsFirst};
+ghost use Rattle.pfl_host.specs.Reports.{browser_lines, HostServes, HostStops, NotesBrowsers, NotesIfOpen, PrintsOn};
+ghost use Rattle.pfl_host.specs.Servers.{closed_text, listening_text, AreUnfailed, IsAwaitStop, IsCloseStop, IsLabStop, IsServeStop};
+ghost use Rattle.pfl_host.specs.Servers.{HostServesWhole, PrintsClosed, ServesFromDevice, ServesToEnd};
 
-use crate::network::{accept_all, listen};
+use crate::admission::{admit_all, door_fault};
+use crate::closing::ServedSessions;
+use crate::pairs::{Pair, read_pair};
+use crate::reports::{conclude, report_stop};
 use pfl_base::{Input, Output};
-use pfl_run::{
-    EngineFault, LineReader, Opening, RunFault, ShortLine, Timeline, open_pair, plain_line,
-    push_number, report_fault, write_text,
-};
+use pfl_doors::{Doors, Sides};
+use pfl_run::{LineReader, RunFault, ShortLine, plain_line, push_number, write_text};
 use pfl_serve::{Gate, MOST_ENTRIES, Opened};
 use std::alloc::Global;
 use std::marker::Brand;
-use std::net::{Net, TcpListener, TcpStream};
 use std::sync::Wait;
 use std::thread::Threads;
 
@@ -49,14 +51,7 @@ fn write_number<W: Output>(writer: &mut W, text: &str, number: u64) -> Result<()
     }
 }
 
-/// A pair with its branches, and the lines that it was set up with.
-#[derive(Drop)]
-struct Pair {
-    timeline: Timeline<Global>,
-    setup: Vec<u8>,
-}
-
-/// What labs are served with over the network: the runtime, the allocator, the gate that the calls of sessions go through, the port,
+/// What labs are served with: the runtime, the allocator, the gate that the calls of sessions go through, the port,
 /// and how many sessions a lab has.
 #[derive(Drop)]
 pub struct Server<'a, G: Gate, R> {
@@ -87,41 +82,7 @@ fn print_closed<O: Output>(writer: &mut O, entries: usize) -> Result<(), RunFaul
     write_number(writer, "closed ", entries as u64)
 }
 
-/// Reports the first fault of the sessions, if one had any, and returns the exit status.
-fn conclude<F: Output>(first: Option<EngineFault>, faults: &mut F) -> u8
-    ensures { ReportsFirst first (F.written faults.old) (F.written faults.new) (F.has_failed faults.new) result }
-{
-    match first {
-        Some(fault) => report_fault(RunFault::from(fault), faults),
-        None => 0,
-    }
-}
-
-/// Sets a pair up by the first lines that the reader has, up to `open`. There is none without memory for these lines.
-fn read_pair<I: Input>(alloc: Global, reader: &mut LineReader<I>) -> Result<Pair, RunFault>
-    requires fresh { reader.old.lines ≡ 0 }
-    ensures sets_up { IfOk result (λ p. SetsUpBase reader.old.left reader.new.left reader.new.lines (record { opening = p.timeline; setup = p.setup.items })) }
-    ensures stop { IfErr result (λ f. IsSetupStop f reader.old.left) }
-    ensures device { IfErr result (λ f. IsDeviceFault f reader.new.failed (reader.new.turns ≡ 16777216) false) }
-    ensures reads { Counts reader.old.reads reader.new.reads reader.new.turns }
-    ensures few { reader.new.turns ≤ 16777216 }
-{
-    match open_pair(alloc, reader) {
-        Ok(opening) => {
-            let Opening { timeline, text } = opening;
-            match text {
-                Some(setup) => Ok(Pair { timeline, setup }),
-                None => Err(RunFault::NoMemory),
-            }
-        }
-        Err(fault) => Err(fault),
-    }
-}
-
-impl<
-    G: Gate + Sync,
-    R: Net<Listener = TcpListener, Stream = TcpStream> + Threads + Wait + Sync,
-> Server<'_, G, R> {
+impl<G: Gate + Sync, R: Threads + Wait + Sync> Server<'_, G, R> {
     /// Opens a lab over the pair, with a session for each.
     fn open_lab(&self, pair: Pair) -> Result<Opened<Global>, RunFault>
         requires few { HasFewEvents 4294967295 pair.timeline }
@@ -137,154 +98,222 @@ impl<
         }
     }
 
-    /// Writes that the port is listened on, and accepts a connection for each session.
-    fn accept_sessions<O: Output>(
+    /// Lets a connection in for each session. Then nobody listens any more.
+    fn let_in<D: Doors, F: Output>(
         &self,
-        listener: TcpListener,
+        doors: &mut D,
+        faults: &mut F,
+    ) -> Result<Vec<Sides<D::Reader, D::Writer>>, RunFault>
+        requires none { D.given doors.old ≡ [] }
+        ensures given { IfOk result (λ given. D.given doors.new ≡ given.items) }
+        ensures unfailed { IfOk result (λ given. AreUnfailed D.Reader.has_failed D.Writer.has_failed given.items) }
+        ensures all { IfOk result (λ given. length given.items ≡ self.now.sessions) }
+        ensures port { D.listens doors.new ≡ D.listens doors.old }
+        ensures noted { NotesBrowsers (D.turned doors.old) (D.turned doors.new)
+            (F.written faults.old) (F.written faults.new) (F.has_failed faults.old) (F.has_failed faults.new) }
+        ensures fault { IfErr result (λ f. (f ≡ fault.Network) ⊎ (f ≡ fault.NoMemory)) }
+    {
+        let given = admit_all(self.rt, self.alloc, doors, self.sessions, faults);
+        doors.close();
+        given
+    }
+
+    /// Writes that the port is listened on, and lets a connection in for each session. Then nobody listens any more.
+    fn await_sessions<D: Doors, O: Output, F: Output>(
+        &self,
+        doors: &mut D,
         writer: &mut O,
-    ) -> Result<Vec<TcpStream>, RunFault>
-        ensures all { IfOk result (λ streams. length streams.items ≡ self.now.sessions) }
+        faults: &mut F,
+    ) -> Result<Vec<Sides<D::Reader, D::Writer>>, RunFault>
+        requires none { D.given doors.old ≡ [] }
+        ensures given { IfOk result (λ given. D.given doors.new ≡ given.items) }
+        ensures unfailed { IfOk result (λ given. AreUnfailed D.Reader.has_failed D.Writer.has_failed given.items) }
+        ensures all { IfOk result (λ given. length given.items ≡ self.now.sessions) }
+        ensures port { D.listens doors.new ≡ D.listens doors.old }
         ensures written { OnOk result (Appends (O.written writer.old) (O.written writer.new) (listening_text self.now.port)) }
-        ensures stop { IfErr result (λ f. IsAwaitStop f self.now.port (O.written writer.old) (O.written writer.new)) }
+        ensures noted { NotesBrowsers (D.turned doors.old) (D.turned doors.new)
+            (F.written faults.old) (F.written faults.new) (F.has_failed faults.old) (F.has_failed faults.new) }
+        ensures stop { IfErr result (λ f. IsAwaitStop self.now.port f (O.written writer.old) (O.written writer.new)) }
         ensures device { IfErr result (λ f. f ≡ fault.Write → O.has_failed writer.new ≡ true) }
     {
         match print_listening(writer, self.port) {
-            Ok(()) => accept_all(self.alloc, listener, self.sessions),
+            Ok(()) => self.let_in(doors, faults),
             Err(fault) => Err(fault),
         }
     }
 
-    /// Listens, writes that it does, and accepts a connection for each session.
-    fn await_sessions<O: Output>(&self, writer: &mut O) -> Result<Vec<TcpStream>, RunFault>
-        ensures all { IfOk result (λ streams. length streams.items ≡ self.now.sessions) }
-        ensures written { OnOk result (Appends (O.written writer.old) (O.written writer.new) (listening_text self.now.port)) }
-        ensures stop { IfErr result (λ f. IsAwaitStop f self.now.port (O.written writer.old) (O.written writer.new)) }
-        ensures device { IfErr result (λ f. f ≡ fault.Write → O.has_failed writer.new ≡ true) }
-    {
-        match listen(self.rt, self.port) {
-            Ok(listener) => self.accept_sessions(listener, writer),
-            Err(fault) => Err(fault),
-        }
-    }
-
-    /// Serves the sessions of a lab over these streams, and writes how many entries its journal has at the end.
-    fn serve_connections<O: Output>(
+    /// Serves the sessions of a lab over the connections that the doors gave, and writes how many entries its journal has at the end.
+    fn serve_connections<D: Doors + Sync, O: Output>(
         &self,
         opened: Opened<Global>,
-        streams: &[TcpStream],
+        doors: &D,
+        given: Vec<Sides<D::Reader, D::Writer>>,
         writer: &mut O,
-    ) -> Result<Option<EngineFault>, RunFault>
-        requires all { length streams.now ≡ length opened.tallies }
+    ) -> Result<ServedSessions, RunFault>
+        requires given { D.given doors.now ≡ given.items }
+        requires unfailed { AreUnfailed D.Reader.has_failed D.Writer.has_failed given.items }
+        requires all { (length given.items ≡ self.now.sessions) × (length opened.tallies ≡ self.now.sessions) × (self.now.sessions ≤ 8) }
+        requires port { D.listens doors.now ≡ Some self.now.port }
         requires limit { opened.limit ≡ 1000000 }
-        ensures closes { IfOk result (λ first.
-            PrintsClosed (record { opening = opened.opening; setup = opened.setup }) (length opened.tallies) first
-            (O.written writer.old) (O.written writer.new)) }
-        ensures stop { IfErr result (λ f. IsCloseStop f (record { opening = opened.opening; setup = opened.setup }) (length opened.tallies)
-            (O.written writer.old) (O.written writer.new)) }
+        ensures closes { IfOk result (λ o. PrintsClosed D.Reader.left D.Writer.Output D.heard (entrance D.listens D.given D.turned doors.now) self.now.port self.now.sessions
+            (record { opening = opened.opening; setup = opened.setup }) o.fault (O.written writer.old) (O.written writer.new)) }
+        ensures browsers { IfOk result (λ o. o.browsers ≤ self.now.sessions) }
+        ensures stop { IfErr result (λ f. IsCloseStop D.Reader.left D.Writer.Output D.heard (entrance D.listens D.given D.turned doors.now) self.now.port self.now.sessions f
+            (record { opening = opened.opening; setup = opened.setup }) (O.written writer.old) (O.written writer.new)) }
         ensures device { IfErr result (λ f. f ≡ fault.Write → O.has_failed writer.new ≡ true) }
     {
-        match self.serve_streams::<Brand>(opened, streams) {
+        match self.serve_given::<Brand, D>(opened, doors, given) {
             Ok(outcome) => match print_closed(writer, outcome.entries) {
-                Ok(()) => Ok(outcome.fault),
+                Ok(()) => Ok(outcome),
                 Err(fault) => Err(fault),
             },
             Err(fault) => Err(fault),
         }
     }
 
-    /// Serves a lab over the network.
-    fn serve_opened<O: Output>(
+    /// Serves a lab through doors that were opened.
+    fn serve_listening<D: Doors + Sync, O: Output, F: Output>(
         &self,
         opened: Opened<Global>,
+        doors: &mut D,
         writer: &mut O,
-    ) -> Result<Option<EngineFault>, RunFault>
-        requires sessions { length opened.tallies ≡ self.now.sessions }
+        faults: &mut F,
+    ) -> Result<ServedSessions, RunFault>
+        requires open { (D.listens doors.old ≡ Some self.now.port) × (D.given doors.old ≡ []) × (D.turned doors.old ≡ 0) }
+        requires sessions { (length opened.tallies ≡ self.now.sessions) × (self.now.sessions ≤ 8) }
         requires limit { opened.limit ≡ 1000000 }
-        ensures serves { IfOk result (λ first.
-            HostServesWhole (record { opening = opened.opening; setup = opened.setup }) self.now.port self.now.sessions first
-            (O.written writer.old) (O.written writer.new)) }
-        ensures stop { IfErr result (λ f.
-            IsLabStop f (record { opening = opened.opening; setup = opened.setup }) self.now.port self.now.sessions
-            (O.written writer.old) (O.written writer.new)) }
+        ensures serves { IfOk result (λ o. HostServesWhole D.Reader.left D.Writer.Output D.heard (entrance D.listens D.given D.turned doors.new) self.now.port self.now.sessions
+            (record { opening = opened.opening; setup = opened.setup }) o.fault (O.written writer.old) (O.written writer.new)) }
+        ensures browsers { IfOk result (λ o. o.browsers ≤ self.now.sessions) }
+        ensures noted { PrintsOn (browser_lines (D.turned doors.new))
+            (F.written faults.old) (F.written faults.new) (F.has_failed faults.old) (F.has_failed faults.new) }
+        ensures stop { IfErr result (λ f. IsLabStop D.Reader.left D.Writer.Output D.heard (entrance D.listens D.given D.turned doors.new) self.now.port self.now.sessions f
+            (record { opening = opened.opening; setup = opened.setup }) (O.written writer.old) (O.written writer.new)) }
         ensures device { IfErr result (λ f. f ≡ fault.Write → O.has_failed writer.new ≡ true) }
     {
-        match self.await_sessions(writer) {
-            Ok(streams) => self.serve_connections(opened, &streams, writer),
+        match self.await_sessions(doors, writer, faults) {
+            Ok(given) => self.serve_connections(opened, doors, given, writer),
             Err(fault) => Err(fault),
         }
     }
 
-    /// Opens a lab over the pair, serves its sessions over the network, and writes how many entries its journal has at the end.
-    fn serve_pair<O: Output>(
+    /// Serves a lab through the doors, which it opens.
+    #[tactic(auto, using(crate::proofs::Printing::notes_closed, crate::proofs::Printing::notes_open))]
+    fn serve_opened<D: Doors + Sync, O: Output, F: Output>(
+        &self,
+        opened: Opened<Global>,
+        doors: &mut D,
+        writer: &mut O,
+        faults: &mut F,
+    ) -> Result<ServedSessions, RunFault>
+        requires sessions { (length opened.tallies ≡ self.now.sessions) × (self.now.sessions ≤ 8) }
+        requires limit { opened.limit ≡ 1000000 }
+        ensures serves { IfOk result (λ o. HostServesWhole D.Reader.left D.Writer.Output D.heard (entrance D.listens D.given D.turned doors.new) self.now.port self.now.sessions
+            (record { opening = opened.opening; setup = opened.setup }) o.fault (O.written writer.old) (O.written writer.new)) }
+        ensures browsers { IfOk result (λ o. o.browsers ≤ self.now.sessions) }
+        ensures noted { OnOk result (PrintsOn (browser_lines (D.turned doors.new))
+            (F.written faults.old) (F.written faults.new) (F.has_failed faults.old) (F.has_failed faults.new)) }
+        ensures noted_some { OnErr result (NotesIfOpen (D.turned doors.new)
+            (F.written faults.old) (F.written faults.new) (F.has_failed faults.old) (F.has_failed faults.new)) }
+        ensures stop { IfErr result (λ f. IsLabStop D.Reader.left D.Writer.Output D.heard (entrance D.listens D.given D.turned doors.new) self.now.port self.now.sessions f
+            (record { opening = opened.opening; setup = opened.setup }) (O.written writer.old) (O.written writer.new)) }
+        ensures device { IfErr result (λ f. f ≡ fault.Write → O.has_failed writer.new ≡ true) }
+    {
+        match doors.listen(self.port) {
+            Ok(()) => self.serve_listening(opened, doors, writer, faults),
+            Err(why) => Err(door_fault(why)),
+        }
+    }
+
+    /// Opens a lab over the pair, serves its sessions through the doors, and writes how many entries its journal has at the end.
+    #[tactic(auto, using(crate::proofs::Printing::notes_closed, crate::proofs::Printing::notes_open))]
+    fn serve_pair<D: Doors + Sync, O: Output, F: Output>(
         &self,
         pair: Pair,
+        doors: &mut D,
         writer: &mut O,
-    ) -> Result<Option<EngineFault>, RunFault>
+        faults: &mut F,
+    ) -> Result<ServedSessions, RunFault>
         requires few { HasFewEvents 4294967295 pair.timeline }
         requires sessions { (1 ≤ self.now.sessions) × (self.now.sessions ≤ 8) }
-        ensures serves { IfOk result (λ first.
-            HostServesWhole (record { opening = pair.timeline; setup = pair.setup.items }) self.now.port self.now.sessions first
-            (O.written writer.old) (O.written writer.new)) }
-        ensures stop { IfErr result (λ f.
-            IsLabStop f (record { opening = pair.timeline; setup = pair.setup.items }) self.now.port self.now.sessions
-            (O.written writer.old) (O.written writer.new)) }
+        ensures serves { IfOk result (λ o. HostServesWhole D.Reader.left D.Writer.Output D.heard (entrance D.listens D.given D.turned doors.new) self.now.port self.now.sessions
+            (record { opening = pair.timeline; setup = pair.setup.items }) o.fault (O.written writer.old) (O.written writer.new)) }
+        ensures browsers { IfOk result (λ o. o.browsers ≤ self.now.sessions) }
+        ensures noted { OnOk result (PrintsOn (browser_lines (D.turned doors.new))
+            (F.written faults.old) (F.written faults.new) (F.has_failed faults.old) (F.has_failed faults.new)) }
+        ensures noted_some { OnErr result (NotesIfOpen (D.turned doors.new)
+            (F.written faults.old) (F.written faults.new) (F.has_failed faults.old) (F.has_failed faults.new)) }
+        ensures stop { IfErr result (λ f. IsLabStop D.Reader.left D.Writer.Output D.heard (entrance D.listens D.given D.turned doors.new) self.now.port self.now.sessions f
+            (record { opening = pair.timeline; setup = pair.setup.items }) (O.written writer.old) (O.written writer.new)) }
         ensures device { IfErr result (λ f. f ≡ fault.Write → O.has_failed writer.new ≡ true) }
     {
         match self.open_lab(pair) {
-            Ok(opened) => self.serve_opened(opened, writer),
+            Ok(opened) => self.serve_opened(opened, doors, writer, faults),
             Err(fault) => Err(fault),
         }
     }
 
     /// Sets a pair up by the first lines that the reader has, up to `open`, and serves its lab.
-    fn serve_whole<I: Input, O: Output>(
+    #[tactic(auto, using(crate::proofs::Printing::notes_closed, crate::proofs::Printing::notes_open))]
+    fn serve_whole<D: Doors + Sync, I: Input, O: Output, F: Output>(
         &self,
+        doors: &mut D,
         reader: &mut LineReader<I>,
         writer: &mut O,
-    ) -> Result<Option<EngineFault>, RunFault>
+        faults: &mut F,
+    ) -> Result<ServedSessions, RunFault>
         requires fresh { reader.old.lines ≡ 0 }
         requires sessions { (1 ≤ self.now.sessions) × (self.now.sessions ≤ 8) }
-        ensures serves { IfOk result (λ first. ServesToEnd reader.old.left reader.new.left self.now.port self.now.sessions
-            (O.written writer.old) (O.written writer.new) first) }
-        ensures stop { IfErr result (λ f. IsServeStop f reader.old.left self.now.port self.now.sessions (O.written writer.old) (O.written writer.new)) }
+        ensures serves { IfOk result (λ o. ServesToEnd D.Reader.left D.Writer.Output D.heard (entrance D.listens D.given D.turned doors.new) self.now.port self.now.sessions
+            reader.old.left reader.new.left (O.written writer.old) (O.written writer.new) o.fault) }
+        ensures browsers { IfOk result (λ o. o.browsers ≤ self.now.sessions) }
+        ensures noted { OnOk result (PrintsOn (browser_lines (D.turned doors.new))
+            (F.written faults.old) (F.written faults.new) (F.has_failed faults.old) (F.has_failed faults.new)) }
+        ensures noted_some { OnErr result (NotesIfOpen (D.turned doors.new)
+            (F.written faults.old) (F.written faults.new) (F.has_failed faults.old) (F.has_failed faults.new)) }
+        ensures stop { IfErr result (λ f. IsServeStop D.Reader.left D.Writer.Output D.heard (entrance D.listens D.given D.turned doors.new) self.now.port self.now.sessions f
+            reader.old.left (O.written writer.old) (O.written writer.new)) }
         ensures device { IfErr result (λ f. IsDeviceFault f reader.new.failed (reader.new.turns ≡ 16777216) (O.has_failed writer.new)) }
         ensures reads { Counts reader.old.reads reader.new.reads reader.new.turns }
         ensures few { reader.new.turns ≤ 16777216 }
     {
         match read_pair(self.alloc, reader) {
-            Ok(pair) => self.serve_pair(pair, writer),
+            Ok(pair) => self.serve_pair(pair, doors, writer, faults),
             Err(fault) => Err(fault),
         }
     }
 
     /// Sets a pair up by the first lines of the device, up to `open`, and serves a lab over it: its sessions, from 1 to 8, each over
-    /// a connection to the port of 127.0.0.1, at the same time. Sessions count in the order in which their connections are accepted.
-    /// It writes that the port is listened on, and at the end how many entries there are. A fault of a session ends no other. Why
-    /// serving stops, or else the fault of the first session that had one, goes to `faults` in one line. The result is the program's
-    /// exit status: 0, or 1 after a fault, or 3 for want of memory.
+    /// a connection that comes through the doors, at the same time. Sessions count in the order in which their connections are given.
+    /// It writes that the port is listened on, and at the end how many entries there are. A fault of a session ends no other. Each
+    /// browser that is turned away is reported to `faults` by a line; then why serving stops, or else the fault of the first session
+    /// that had one. The result is the program's exit status: 0, or 1 after a fault, or 3 for want of memory.
     #[tactic(auto, using(pfl_run::proofs::ForCallers::setup_calls, pfl_run::proofs::ForCallers::setup_has_failed))]
-    pub fn serve_lab<I: Input, O: Output, F: Output>(
+    pub fn serve_lab<D: Doors + Sync, I: Input, O: Output, F: Output>(
         &self,
+        doors: &mut D,
         reader: &mut I,
         writer: &mut O,
         faults: &mut F,
     ) -> u8
         requires sessions { (1 ≤ self.now.sessions) × (self.now.sessions ≤ 8) }
         ensures reads { CountsWithin 0 16777216 (I.reads reader.old) (I.reads reader.new) }
-        ensures serves { HostServes (ServesFromDevice (I.left reader.old) (I.left reader.new) self.now.port self.now.sessions
-            (O.written writer.old) (O.written writer.new))
+        ensures serves { HostServes (D.turned doors.new) self.now.sessions
+            (ServesFromDevice D.Reader.left D.Writer.Output D.heard (entrance D.listens D.given D.turned doors.new) self.now.port self.now.sessions
+            (I.left reader.old) (I.left reader.new) (O.written writer.old) (O.written writer.new))
             (F.written faults.old) (F.written faults.new) (F.has_failed faults.new) result
-            ⊎ Stops (λ f. IsServeStop f (I.left reader.old) self.now.port self.now.sessions (O.written writer.old) (O.written writer.new))
+            ⊎ HostStops (D.turned doors.new)
+            (λ f. IsServeStop D.Reader.left D.Writer.Output D.heard (entrance D.listens D.given D.turned doors.new) self.now.port self.now.sessions f (I.left reader.old) (O.written writer.old) (O.written writer.new))
             (λ f. HasFailed f (I.has_failed reader.new) (I.reads reader.old) (I.reads reader.new) (O.has_failed writer.new))
             (F.written faults.old) (F.written faults.new) (F.has_failed faults.new) result }
     {
         let mut lines = LineReader::new(reader);
-        let whole = self.serve_whole(&mut lines, writer);
+        let whole = self.serve_whole(doors, &mut lines, writer, faults);
         // What became of the device is known once it is given back.
         lines.into_inner();
         match whole {
-            Ok(first) => conclude(first, faults),
-            Err(fault) => report_fault(fault, faults),
+            Ok(outcome) => conclude(outcome.browsers, outcome.fault, faults),
+            Err(fault) => report_stop(fault, faults),
         }
     }
 }

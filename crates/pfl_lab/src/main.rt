@@ -5,7 +5,7 @@
 ghost use Rattle.std.specs.Prelude.{◌≡◌};
 
 use pfl_base::Std;
-use pfl_host::{Open, Program, RunFault, report_fault};
+use pfl_host::{Network, Open, Program, RunFault, report_fault};
 use std::env;
 use std::io::{self, ErrorKind};
 use std::process::ExitCode;
@@ -34,6 +34,7 @@ fn main(rt: HostRuntime) -> ExitCode {
     ExitCode::from(match words_of(&rt) {
         Ok(words) => program.obey(
             words.as_slice(),
+            &mut Network::new(&rt, rt.alloc()),
             &mut Std::new(rt.stdin()),
             &mut Std::new(rt.stdout()),
             &mut Std::new(rt.stderr()),

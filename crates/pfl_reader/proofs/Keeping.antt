@@ -1,12 +1,12 @@
 -- What is kept of a line stays right from byte to byte.
-use Rattle.std.proofs.Common.{◌≡◌, ℕ, ◌<◌, ◌≤◌, Bool, true, false, List, [], ◌∷◌, ◌++◌, length, take, refl, sym, arith, length-append, inl, inr, cond}
+use Rattle.std.proofs.Common.{◌≡◌, ◌≢◌, ℕ, ◌<◌, ◌≤◌, Bool, true, false, List, [], ◌∷◌, ◌++◌, length, take, refl, sym, ap, arith, length-append, inl, inr, cond}
 use Rattle.std.specs.Prelude.{nat_lt}
 use Rattle.std.proofs.lemmas.Bool.{lt-ltb, le-ltb, cases_lt}
-use Rattle.std.proofs.lemmas.Bool.Decides.{nat_tests}
+use Rattle.std.proofs.lemmas.Bool.Decides.{eqb_tells, nat_tests}
 use Rattle.std.proofs.lemmas.List.{take-append-le, take_all, length-take, append-nil}
 use Rattle.pfl_reader.specs.declared.head.Head.{Head}
 use Rattle.pfl_reader.specs.Scans.{Keeps, head_from, head_after}
-use Rattle.pfl_reader.specs.inner.Scans.{Carried, kept, pushed, settled, counted}
+use Rattle.pfl_reader.specs.inner.Scans.{Carried, added, kept, nothing, pushed, settled, counted}
 use Rattle.pfl_reader.proofs.Scans.{carriage_of}
 
 -- the head of a line with one more byte
@@ -58,3 +58,21 @@ Keeps-carriage k body false h = rw append-nil h
 -- what is kept stays right once the CR that came last is counted
 pub Keeps-settled : (k : Carried) (body : List ℕ) → Keeps (kept k) body → Keeps (kept (settled k)) (body ++ carriage_of k.carriage)
 Keeps-settled k body h = Keeps-carriage k body k.carriage h
+
+-- one more byte leaves something of a line
+pushed-some : (k : Carried) (b : ℕ) → pushed k b ≢ nothing
+pushed-some k b none =
+    let bytes : cond (nat_lt (length k.bytes) 512) (k.bytes ++ b ∷ []) k.bytes ≡ [] = ap (λ (j : Carried). j.bytes) none in
+    let long : cond (nat_lt (length k.bytes) 512) k.long true ≡ false = ap (λ (j : Carried). j.long) none in
+    elim (cases_lt (length k.bytes) 512) [
+      | inl room ↦ let all : k.bytes ++ b ∷ [] ≡ [] = rw (lt-ltb (length k.bytes) 512 room) at bytes in
+          omega (arith, ap length all, length-append k.bytes (b ∷ []))
+      | inr full ↦ let h : true ≡ false = rw (le-ltb (length k.bytes) 512 full) at long in cc
+    ]
+
+-- ... a CR too
+pub added-some : (k : Carried) (b : ℕ) → added k b ≢ nothing
+added-some k b none = elim (eqb_tells b 13) [
+  | inl e ↦ let h = rw e.0 at none in let last : true ≡ false = ap (λ (j : Carried). j.carriage) h in cc
+  | inr e ↦ let h = rw e.0 at none in pushed-some (settled k) b h
+]

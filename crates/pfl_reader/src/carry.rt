@@ -114,6 +114,7 @@ impl Carry {
     /// Reads the next line in place of the last one, and says whether there was one.
     pub(crate) fn read<R: Input>(&mut self, feed: &mut Feed<R>) -> Result<bool, ReadFault>
         ensures line { IfOk result (λ more. Gives feed.old.left feed.new.left more (kept self.new)) }
+        ensures awaited { IfOk result (λ more. more ≡ false → feed.old.waiting ≡ 0) }
         ensures room { IfOk result (λ more. more ≡ true → room (idle feed.new) < room (idle feed.old)) }
         ensures turns { CountsTurns (idle feed.old) (idle feed.new) }
         ensures few { feed.old.turns ≤ 16777216 → feed.new.turns ≤ 16777216 }

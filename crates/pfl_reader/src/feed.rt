@@ -1,7 +1,7 @@
 //! The bytes of a device, read in blocks.
 
 ghost use Rattle.std.specs.Prelude.{◌≡◌, ◌+◌, ◌<◌, ◌≤◌, ◌-◌, ◌^◌, slice_range, length, take, true, false, Some, IfOk, IfErr, IfSome, OnOk, ◌↔◌};
-ghost use Rattle.std.specs.Prelude.{IsTrue, MatchOption};
+ghost use Rattle.std.specs.Prelude.{IsTrue, MatchOption, ⊤};
 ghost use Rattle.std.specs.Io.KnownBytes.{Keeps, IsAtEnd};
 ghost use Rattle.pfl_reader.specs.Readers.{room, CountsTurns, IsReadFault, Releases};
 ghost use Rattle.pfl_reader.specs.inner.Feeds.{cut, idle, TakesWhole};
@@ -165,6 +165,7 @@ impl<R: Input> Feed<R> {
         ensures left { Keeps self.old.left self.new.left }
         ensures some { IfOk result (λ some. some ≡ true → 0 < self.new.waiting) }
         ensures end { IfOk result (λ some. some ≡ false → IsAtEnd self.new.left) }
+        ensures awaited { IfOk result (λ some. some ≡ false → self.old.waiting ≡ 0) }
         ensures room { OnOk result (room (idle self.new) ≤ room (idle self.old)) }
         ensures turns { CountsTurns (idle self.old) (idle self.new) }
         ensures few { self.old.turns ≤ 16777216 → self.new.turns ≤ 16777216 }
@@ -180,6 +181,7 @@ impl<R: Input> Feed<R> {
     /// Takes a byte, or nothing at the end.
     pub(crate) fn take_byte(&mut self) -> Result<Option<u8>, ReadFault>
         ensures byte { IfOk result (λ o. TakesByte self.old.left self.new.left o) }
+        ensures awaited { IfOk result (λ o. MatchOption o (self.old.waiting ≡ 0) (λ _. ⊤)) }
         ensures spent { OnOk result (room (idle self.new) ≤ room (idle self.old)) }
         ensures room { IfOk result (λ o. IfSome o (λ _. room (idle self.new) < room (idle self.old))) }
         ensures turns { CountsTurns (idle self.old) (idle self.new) }

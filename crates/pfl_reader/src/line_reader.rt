@@ -113,7 +113,9 @@ impl<R: Input> LineReader<R> {
     /// Reads a block if no byte waits, and says whether one does then: at the end none does.
     fn await_bytes(&mut self) -> Result<bool, ReadFault>
         ensures left { Keeps self.old.left self.new.left }
+        ensures some { IfOk result (λ some. some ≡ true → 0 < self.new.waiting) }
         ensures end { IfOk result (λ some. some ≡ false → IsAtEnd self.new.left) }
+        ensures awaited { IfOk result (λ some. some ≡ false → self.old.waiting ≡ 0) }
         ensures room { OnOk result (room self.new ≤ room self.old) }
         ensures lines { self.new.lines ≡ self.old.lines }
         ensures turns { CountsTurns self.old self.new }
@@ -151,6 +153,7 @@ impl<R: Input> LineReader<R> {
     /// Reads the next line byte by byte, and says whether there was one.
     fn carry_over(&mut self) -> Result<bool, ReadFault>
         ensures line { IfOk result (λ more. Gives self.old.left self.new.left more self.new.line) }
+        ensures awaited { IfOk result (λ more. more ≡ false → self.old.waiting ≡ 0) }
         ensures room { IfOk result (λ more. more ≡ true → room self.new < room self.old) }
         ensures lines { self.new.lines ≡ self.old.lines }
         ensures turns { CountsTurns self.old self.new }
@@ -165,6 +168,7 @@ impl<R: Input> LineReader<R> {
     /// Reads the next line, of which at most 512 bytes are kept, and says whether there was one.
     pub fn advance(&mut self) -> Result<bool, ReadFault>
         ensures line { IfOk result (λ more. Gives self.old.left self.new.left more self.new.line) }
+        ensures awaited { IfOk result (λ more. more ≡ false → self.old.waiting ≡ 0) }
         ensures room { IfOk result (λ more. more ≡ true → room self.new < room self.old) }
         ensures lines { IfOk result (λ more. self.new.lines ≡ lines_after more self.old.lines) }
         ensures uncounted { OnErr result (self.new.lines ≡ self.old.lines) }

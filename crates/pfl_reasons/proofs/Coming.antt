@@ -35,7 +35,7 @@ refused-by w e why is not = by (step w e) is
     by (Ok s) is = absurd (not is)
     by (Err first) is = ap Err (sym is)
 
-no_memory : (w : World) (e : Event) → StandsAgainst e (against w e NoMemory) NoMemory → ⊥
+no_memory : (w : World) (e : Event) → StandsAgainst w e (against w e NoMemory) NoMemory → ⊥
 unfolding against
 no_memory w e stands = stands
 
@@ -45,4 +45,4 @@ accepted-by w e is = by (step w e) refl is
   where
     by : (r : Result Stepped Refusal) → step w e ≡ r → IsRefusalOf r NoMemory → IsOk r
     by (Ok s) at is = refl
-    by (Err first) at is = absurd (no_memory w e (subst (λ (why : Refusal). StandsAgainst e (against w e why) why) (sym is) (numbers-stand w e first at)))
+    by (Err first) at is = absurd (no_memory w e (subst (λ (why : Refusal). StandsAgainst w e (against w e why) why) (sym is) (numbers-stand w e first at)))

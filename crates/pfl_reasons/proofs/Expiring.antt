@@ -16,7 +16,8 @@ use Rattle.pfl_reasons.specs.Purges.{expiries, expiry_of}
 abbrev is_later : Node → State → Bool
 is_later n s = nat_lt n.clock s.last
 
-passes : {X : Type 0} (p : X → Bool) (xs : List X) (x : X) → find p xs ≡ Some x → p x ≡ true
+-- what is found passes
+pub passes : {X : Type 0} (p : X → Bool) (xs : List X) (x : X) → find p xs ≡ Some x → p x ≡ true
 passes p [] x is = absurd (cc)
 passes p (y ∷ ys) x is = elim (p y) as (λ b. p y ≡ b → cond b (Some y) (find p ys) ≡ Some x → p x ≡ true) [
   | true ↦ λ e is. let same : y ≡ x = cc in ap p (sym same) ∙ e

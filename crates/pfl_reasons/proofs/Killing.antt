@@ -19,7 +19,7 @@ use Rattle.pfl_world.specs.Events.{step}
 use Rattle.pfl_world.specs.Meanings.{Stepped}
 use Rattle.pfl_world.specs.Worlds.{World, node_at, with_node}
 
-own-node : (w : World) (id : NodeId) (n : Node) → node_at (with_node w id n) id ≡ n
+pub own-node : (w : World) (id : NodeId) (n : Node) → node_at (with_node w id n) id ≡ n
 own-node w A n = refl
 own-node w B n = refl
 

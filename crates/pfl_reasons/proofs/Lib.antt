@@ -1,4 +1,7 @@
 pub mod Agreeing
+pub mod Deciding
+pub mod Handling
+pub mod Purged
 pub mod Arriving
 pub mod Coming
 pub mod Expiring
@@ -8,6 +11,8 @@ pub mod Killing
 pub mod Plain
 pub mod Refusing
 pub mod Clearing
+pub mod Emptying
+pub mod Stated
 pub mod Counted
 pub mod Fated
 pub mod Moving
@@ -17,3 +22,4 @@ pub mod Passing
 mod WorkedReasons
 mod WorkedRecords
 mod WorkedFrames
+mod WorkedLaws

@@ -1,6 +1,7 @@
 -- Why an event has its outcome: what it is about, read off the pair before it (this project's profile).
-use Rattle.std.specs.Prelude.{◌≡◌, ℕ, List, length, filter, Result, Ok, Err}
+use Rattle.std.specs.Prelude.{◌≡◌, ℕ, List, [], ◌∷◌, length, map, IsSomeAnd, Result, Ok, Err}
 use Rattle.std.specs.Option.{option_map_or}
+use Rattle.std.specs.Result.{IsOkAnd}
 use Rattle.pfl_edits.specs.Maps as maps
 use Rattle.pfl_rules.specs.declared.adaptive.Adaptive.{Adaptive}
 use Rattle.pfl_base.specs.declared.refusal.Refusal.{Refusal}
@@ -31,8 +32,8 @@ use Rattle.pfl_reasons.specs.declared.packet_reason.PacketReason.{PacketReason}
 use Rattle.pfl_reasons.specs.declared.record_fate.TakenRecord.{TakenRecord}
 use Rattle.pfl_reasons.specs.Against.{StandsAgainst, against}
 use Rattle.pfl_reasons.specs.Packets.{HandledSo, packet_reason}
-use Rattle.pfl_reasons.specs.Purges.{expiries, is_due}
-use Rattle.pfl_reasons.specs.Records.{fates}
+use Rattle.pfl_reasons.specs.Purges.{PurgedSo, expiries}
+use Rattle.pfl_reasons.specs.Records.{FatedSo, fates}
 
 -- an explanation
 pub data Explained : Type 0 where
@@ -89,23 +90,55 @@ came_of (Err why) = Err why
 
 -- ---- the outcome that follows
 
--- of an explanation: the packet's fate, the number of records, the number of states that are due; without one, none of these
-abbrev pub FollowsFrom : Explained → Outcome → Type 0
-FollowsFrom (Packet why) (At (Handled f)) = HandledSo why f
-FollowsFrom (Records list) (Taken n) = n ≡ length list
-FollowsFrom (Expiries clock states between list) (At (Purged n)) = n ≡ length (filter (is_due clock) list)
-FollowsFrom Plain (At (Handled f)) = ⊥
-FollowsFrom Plain (At (Purged n)) = ⊥
-FollowsFrom Plain (Taken n) = ⊥
-FollowsFrom Plain outcome = Unit {0}
-FollowsFrom _ _ = ⊥
+-- a packet at a node has the fate that follows from its reason, and leaves the node so
+abbrev pub PacketSo : World → Event → PacketReason → World → Outcome → Type 0
+PacketSo w (event.At node (at_node.Packet dir p)) why after (At (Handled f)) =
+    HandledSo (node_at w node) dir p why (record { fate = f; node = node_at after node })
+PacketSo w _ why after _ = ⊥
 
--- of an event with what it gives: its outcome follows from the explanation, or the numbers in that stand against it
-abbrev pub AgreesWith : Event → Explained → Result Stepped Refusal → Type 0
-AgreesWith e why (Ok s) = FollowsFrom why s.outcome
-AgreesWith e (Stopped numbers) (Err why) = StandsAgainst e numbers why
-AgreesWith e _ (Err why) = ⊥
+-- records one after another, each of which counts as its fate says, lead from a node to the one after them
+abbrev pub TakenSo : Node → List TakenRecord → Node → Type 0
+TakenSo n [] after = after ≡ n
+TakenSo n (t ∷ ts) after = (next : Node) × FatedSo n t.message t.fate next × TakenSo next ts after
+
+-- the records are those of the frame, and lead from its receiver to the receiver after it
+abbrev pub ArrivedSo : World → List TakenRecord → World → InFlight → Type 0
+ArrivedSo w list after f = IsOkAnd (reading f.bytes) (λ g. map (λ (t : TakenRecord). t.message) list ≡ records_of g)
+    × TakenSo (node_at w f.to) list (node_at after f.to)
+
+-- a frame that comes to its receiver gives as many records as are listed
+abbrev pub RecordsSo : World → Event → List TakenRecord → Stepped → Type 0
+RecordsSo w (event.Of ticket frame.Deliver) list s =
+    (s.outcome ≡ Taken (length list)) × IsSomeAnd (maps.get w.link.frames ticket) (ArrivedSo w list s.world)
+RecordsSo w _ list s = ⊥
+
+-- a purge of a node deletes what is due by its list
+abbrev pub ExpiredSo : World → Event → ℕ → ℕ → Adaptive → List Expiry → World → Outcome → Type 0
+ExpiredSo w (event.At node at_node.Purge) clock states between list after (At (Purged many)) =
+    PurgedSo (node_at w node) clock states between list many (node_at after node)
+ExpiredSo w _ clock states between list after _ = ⊥
+
+-- the outcome says it all: it is that of no packet, no records and no purge
+abbrev pub NeedsNoReason : Outcome → Type 0
+NeedsNoReason (At (Handled f)) = ⊥
+NeedsNoReason (At (Purged many)) = ⊥
+NeedsNoReason (Taken many) = ⊥
+NeedsNoReason _ = Unit {0}
+
+-- what an event that is accepted gives, the pair after it with its outcome, follows from its explanation
+abbrev pub FollowsFrom : World → Event → Explained → Stepped → Type 0
+FollowsFrom w e (Packet why) s = PacketSo w e why s.world s.outcome
+FollowsFrom w e (Records list) s = RecordsSo w e list s
+FollowsFrom w e (Expiries clock states between list) s = ExpiredSo w e clock states between list s.world s.outcome
+FollowsFrom w e Plain s = NeedsNoReason s.outcome
+FollowsFrom w e (Stopped against) s = ⊥
+
+-- of an event with what it gives: this follows from the explanation, or the numbers in that stand against the event
+abbrev pub AgreesWith : World → Event → Explained → Result Stepped Refusal → Type 0
+AgreesWith w e why (Ok s) = FollowsFrom w e why s
+AgreesWith w e (Stopped numbers) (Err why) = StandsAgainst w e numbers why
+AgreesWith w e _ (Err why) = ⊥
 
 -- each event agrees with its explanation
 abbrev pub ReasonsAgree : Type 0
-ReasonsAgree = (w : World) (e : Event) → AgreesWith e (explained w e) (step w e)
+ReasonsAgree = (w : World) (e : Event) → AgreesWith w e (explained w e) (step w e)

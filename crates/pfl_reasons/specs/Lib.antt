@@ -1,6 +1,7 @@
 pub mod Against
 pub mod Frames
 pub mod Senders
+pub mod Deciding
 pub mod Packets
 pub mod Records
 pub mod Purges

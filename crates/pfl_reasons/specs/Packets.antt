@@ -1,32 +1,34 @@
 -- Why a packet has its fate (pf.c, pf.conf(5); that it is shown is this project's profile).
-use Rattle.std.specs.Prelude.{◌≡◌, ◌⊎◌, ℕ, true, nat_le, Option, Some, None, if◌then◌else◌, unwrap_or}
+use Rattle.std.specs.Prelude.{◌≡◌, ◌≤◌, ◌⊎◌, ℕ, Bool, true, false, nat_le, Option, Some, None, IsSomeAnd, if◌then◌else◌, unwrap_or}
 use Rattle.std.specs.Option.{option_map_or}
 use Rattle.pfl_base.specs.declared.direction.Dir.{Dir}
 use Rattle.pfl_base.specs.declared.packet.Packet.{Packet}
-use Rattle.pfl_base.specs.Keys.{key}
-use Rattle.pfl_base.specs.Packets.{is_tcp}
+use Rattle.pfl_base.specs.declared.state_name.StateName.{StateName}
+use Rattle.pfl_base.specs.Keys.{is_key, key}
+use Rattle.pfl_base.specs.Packets.{is_request, is_tcp}
 use Rattle.pfl_edits.specs.Maps as maps
 use Rattle.pfl_rules.specs.declared.rule.Rule.{Rule}
 use Rattle.pfl_rules.specs.declared.verdict.Verdict.{Verdict}
+use Rattle.pfl_rules.specs.Matching.{is_pass}
 use Rattle.pfl_rules.specs.Rules.{verdict, rule_at}
 use Rattle.pfl_track.specs.declared.edges.WindowTest.{WindowTest}
 use Rattle.pfl_track.specs.declared.state.State.{State}
 use Rattle.pfl_track.specs.declared.tracked.Tracked.{Tracked}
 use Rattle.pfl_track.specs.declared.tracked.Tracked.TheVariants.{Reused}
 use Rattle.pfl_track.specs.Edges.{is_met, window_test}
-use Rattle.pfl_track.specs.Tracking.{tracked}
-use Rattle.pfl_language.specs.declared.fate.Fate.{Fate}
+use Rattle.pfl_track.specs.Tracking.{is_closed, tracked}
 use Rattle.pfl_language.specs.declared.fate.Fate.TheVariants as fate
 use Rattle.pfl_language.specs.declared.fate.Reason.TheVariants as reason
 use Rattle.pfl_world.specs.desk.Changes.{deleted}
 use Rattle.pfl_world.specs.desk.Nodes.{Node}
-use Rattle.pfl_world.specs.node.Starting.{is_at_max, next_name}
+use Rattle.pfl_world.specs.node.Starting.{Handled, drop, is_at_max, next_name, pass}
 use Rattle.pfl_world.specs.table.Tables.{by_stack, by_wire, count_of_rule, found}
 use Rattle.pfl_world.specs.table.Translating.{new_keys}
 use Rattle.pfl_reasons.specs.declared.packet_reason.Judged.{Judged}
 use Rattle.pfl_reasons.specs.declared.packet_reason.Judged.TheVariants as judged
 use Rattle.pfl_reasons.specs.declared.packet_reason.PacketReason.{PacketReason}
 use Rattle.pfl_reasons.specs.declared.packet_reason.PacketReason.TheVariants.{OfState, ByRules}
+use Rattle.pfl_reasons.specs.Deciding.{Decides, NoneMatches}
 
 -- a state that has a key of the new one stands against it, the one with the wire key first; where a rule has several ports, this is about
 -- the last of them
@@ -70,19 +72,59 @@ by_found n dir p (Some s) = by_tracked n dir p s (tracked s p dir n.clock)
 unfoldable pub packet_reason : Node → Dir → Packet → PacketReason
 packet_reason n dir p = by_found n dir p (found n.states (key p dir) dir)
 
--- ---- the fate that follows
+-- ---- what follows
 
--- from what the rules made of it
-abbrev pub JudgedSo : Judged → Fate → Type 0
-JudgedSo judged.Unmatched f = f ≡ fate.Pass None
-JudgedSo (judged.Blocked rule) f = f ≡ fate.Dropped reason.Block
-JudgedSo (judged.AtMax rule most states) f = f ≡ fate.Dropped reason.Max
-JudgedSo (judged.Full rule limit states) f = f ≡ fate.Dropped reason.Full
-JudgedSo (judged.WireInUse rule name) f = f ≡ fate.Dropped reason.Key
-JudgedSo (judged.StackInUse rule name) f = f ≡ fate.Dropped reason.Key
-JudgedSo (judged.Makes rule name) f = (f ≡ fate.Pass (Some name)) ⊎ (f ≡ fate.Held name)
+-- a rule of the node with this number decides about the packet, and passes it; and of that rule this is so
+abbrev pub IsPassedBy : Node → Dir → Packet → ℕ → (Rule → Type 0) → Type 0
+IsPassedBy n dir p number P = (r : Rule) × Decides n.rules.list p dir number r × (is_pass r.action ≡ true) × P r
 
--- from the reason
-abbrev pub HandledSo : PacketReason → Fate → Type 0
-HandledSo (OfState name test) f = f ≡ (if option_map_or is_met test true then fate.Pass (Some name) else fate.Dropped reason.Window)
-HandledSo (ByRules closed made) f = JudgedSo made f
+-- a rule of the node with this number decides about the packet, and blocks it
+abbrev pub IsBlockedBy : Node → Dir → Packet → ℕ → Type 0
+IsBlockedBy n dir p number = (r : Rule) × Decides n.rules.list p dir number r × (is_pass r.action ≡ false)
+
+-- the node has a state of this name of which this is so
+abbrev pub HasState : Node → StateName → (State → Type 0) → Type 0
+HasState n name P = (at : StateName) × (s : State) × (maps.get n.states at ≡ Some s) × (s.name ≡ name) × P s
+
+-- From what the rules of the node made of it: what the packet gives, its fate with the node after it. No rule matches a packet that goes on
+-- without a state; any other has the rule that decides about it, and what prevents a new state is so at the node: the rule's limit and the
+-- number of its states, the table's, or the state that has a key which the new one would have. Where nothing prevents it, the new state
+-- has the node's next name and this rule, and its packet goes on or is held
+abbrev pub JudgedSo : Node → Dir → Packet → Judged → Handled → Type 0
+JudgedSo n dir p judged.Unmatched h = (h ≡ pass n None) × NoneMatches n.rules.list p dir
+JudgedSo n dir p (judged.Blocked rule) h = (h ≡ drop n reason.Block) × IsBlockedBy n dir p rule
+JudgedSo n dir p (judged.AtMax rule most states) h =
+    (h ≡ drop n reason.Max)
+    × IsPassedBy n dir p rule (λ r. (r.max ≡ Some most) × (states ≡ count_of_rule n.states rule) × (most ≤ states))
+JudgedSo n dir p (judged.Full rule limit states) h =
+    (h ≡ drop n reason.Full)
+    × IsPassedBy n dir p rule (λ r. (limit ≡ n.limits.states) × (states ≡ maps.len n.states) × (limit ≤ states))
+JudgedSo n dir p (judged.WireInUse rule name) h =
+    (h ≡ drop n reason.Key)
+    × IsPassedBy n dir p rule (λ r. HasState n name (λ s. is_key s.wire (new_keys n.states r (key p dir)).wire ≡ true))
+JudgedSo n dir p (judged.StackInUse rule name) h =
+    (h ≡ drop n reason.Key)
+    × IsPassedBy n dir p rule (λ r. HasState n name (λ s. is_key s.stack (new_keys n.states r (key p dir)).stack ≡ true))
+JudgedSo n dir p (judged.Makes rule name) h =
+    ((h.fate ≡ fate.Pass (Some name)) ⊎ (h.fate ≡ fate.Held name))
+    × IsSomeAnd (maps.get h.node.states name) (λ s. s.rule ≡ Some rule)
+    × IsPassedBy n dir p rule (λ r. name ≡ next_name n)
+
+-- a packet of TCP asks for a new connection over this one, which is closed
+abbrev pub IsReuse : State → Packet → Type 0
+IsReuse s p = (is_tcp p.proto ≡ true) × (is_request p ≡ true) × (is_closed s ≡ true)
+
+-- of a packet of the state, by whether the test of its window misses no edge: it goes on, or is dropped and counted, and nothing else
+abbrev pub TestedSo : Node → StateName → Bool → Handled → Type 0
+TestedSo n name true h = h.fate ≡ fate.Pass (Some name)
+TestedSo n name false h = h ≡ drop n reason.Window
+
+-- From the reason, at the node before it. The state that has the packet's key is of that name, and the test is that of its window, which a
+-- packet without a test does not miss; without such a state the rules decide; and over a closed connection they decide as they do at the
+-- node without that
+abbrev pub HandledSo : Node → Dir → Packet → PacketReason → Handled → Type 0
+HandledSo n dir p (OfState name test) h =
+    IsSomeAnd (found n.states (key p dir) dir) (λ s. (s.name ≡ name) × (test ≡ tested s dir p)) × TestedSo n name (option_map_or is_met test true) h
+HandledSo n dir p (ByRules None made) h = (found n.states (key p dir) dir ≡ None) × JudgedSo n dir p made h
+HandledSo n dir p (ByRules (Some name) made) h =
+    IsSomeAnd (found n.states (key p dir) dir) (λ s. (s.name ≡ name) × IsReuse s p × JudgedSo (deleted n s) dir p made h)

@@ -1,8 +1,8 @@
 //! Pairs that are set up.
 
-ghost use Rattle.std.specs.Prelude.{◌≡◌, ◌≤◌, None, false, IfOk, IfErr, IfSome};
+ghost use Rattle.std.specs.Prelude.{◌≡◌, ◌≤◌, None, false, IfOk, IfErr};
 ghost use Rattle.pfl_base.specs.Counts.{Counts};
-ghost use Rattle.pfl_script.specs.Setups.{IsSetupText};
+ghost use Rattle.pfl_script.specs.Setups.{IsKeptText};
 ghost use Rattle.pfl_script.specs.world.Worlds.{new_world, world_fault};
 ghost use Rattle.pfl_script.specs.timeline.Timelines.{new_timeline};
 ghost use Rattle.pfl_run.specs.Runs.{IsDeviceFault, IsSetupStop, SetsUp};
@@ -11,15 +11,15 @@ use crate::fault::RunFault;
 use crate::setups::read_opening;
 use pfl_base::Input;
 use pfl_edits::NoMemory;
-use pfl_script::{LineReader, Setup, Timeline, World, WorldFault};
+use pfl_script::{LineReader, Setup, SetupText, Timeline, World, WorldFault};
 use std::alloc::Allocator;
 
 /// A pair that is set up.
 #[derive(Drop)]
 pub struct Opening<A: Allocator> {
     pub timeline: Timeline<A>,
-    /// The lines of its setup, as `Setup` has them.
-    pub text: Option<Vec<u8, A>>,
+    /// What is kept of the lines of its setup.
+    pub text: SetupText<A>,
 }
 
 /// The pair of a setup, with an empty branch `main`, and the setup's text.
@@ -44,14 +44,15 @@ fn opening_of<A: Allocator + Copy>(alloc: A, setup: Setup<A>) -> Result<Opening<
     }
 }
 
-/// Sets a pair up by the first lines that the reader has, up to `open`, and keeps their text where there is memory for it.
+/// Sets a pair up by the first lines that the reader has, up to `open`, and keeps their text where it is not too long and there is
+/// memory for it.
 pub fn open_pair<A: Allocator + Copy, R: Input>(
     alloc: A,
     reader: &mut LineReader<R>,
 ) -> Result<Opening<A>, RunFault>
     requires fresh { reader.old.lines ≡ 0 }
     ensures sets_up { IfOk result (λ o. SetsUp reader.old.left reader.new.left reader.new.lines o.timeline) }
-    ensures text { IfOk result (λ o. IfSome o.text (λ text. IsSetupText reader.old.left reader.new.left text.items)) }
+    ensures text { IfOk result (λ o. IsKeptText reader.old.left reader.new.left o.text) }
     ensures stop { IfErr result (λ fault. IsSetupStop fault reader.old.left) }
     ensures device { IfErr result (λ fault. IsDeviceFault fault reader.new.failed (reader.new.turns ≡ 16777216) false) }
     ensures reads { Counts reader.old.reads reader.new.reads reader.new.turns }

@@ -1,8 +1,8 @@
 //! Setups of scripts, which runs and checks read alike.
 
-ghost use Rattle.std.specs.Prelude.{◌≡◌, ◌≤◌, ◌^◌, None, false, IfOk, IfErr, IfSome, OnOk};
+ghost use Rattle.std.specs.Prelude.{◌≡◌, ◌≤◌, ◌^◌, None, false, IfOk, IfErr, OnOk};
 ghost use Rattle.pfl_base.specs.Counts.{Counts};
-ghost use Rattle.pfl_script.specs.Setups.{IsSetupText};
+ghost use Rattle.pfl_script.specs.Setups.{IsKeptText};
 ghost use Rattle.pfl_script.specs.world.Worlds.{world_fault};
 ghost use Rattle.pfl_run.specs.Runs.{IsDeviceFault, IsSetup, IsSetupStop};
 ghost use Rattle.pfl_run.specs.inner.Runs.{IsLimitsStop};
@@ -33,7 +33,7 @@ pub fn read_opening<A: Allocator + Copy, R: Input>(
 ) -> Result<Setup<A>, RunFault>
     requires fresh { reader.old.lines ≡ 0 }
     ensures setup { IfOk result (λ s. IsSetup reader.old.left reader.new.left reader.new.lines s.limits s.rules_a s.rules_b) }
-    ensures text { IfOk result (λ s. IfSome s.text (λ text. IsSetupText reader.old.left reader.new.left text.items)) }
+    ensures text { IfOk result (λ s. IsKeptText reader.old.left reader.new.left s.text) }
     ensures few_lines { OnOk result (reader.new.lines ≤ 2 ^ 41) }
     ensures stop { IfErr result (λ fault. IsSetupStop fault reader.old.left) }
     ensures device { IfErr result (λ fault. IsDeviceFault fault reader.new.failed (reader.new.turns ≡ 16777216) false) }

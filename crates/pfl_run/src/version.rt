@@ -2,4 +2,4 @@
 
 /// The release, the sum of its sources, and the logic that proves them.
 pub(crate) const VERSION: &str =
-    "release 16, sources e0531e181a4c58610e0efacdc3f8b675eda217d15ba7460839308ef953368b41, logic dac8208d650f15bf";
+    "release 17, sources 5ecfbe122d4d70d5e8f3b28b15b30cf7c5b43d758926928fdf50531d283a47dc, logic dac8208d650f15bf";

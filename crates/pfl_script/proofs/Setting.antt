@@ -1,13 +1,13 @@
 -- A setup is read line by line.
-use Rattle.std.proofs.Common.{◌≡◌, ℕ, ◌+◌, Bool, true, false, List, [], ◌∷◌, ◌++◌, length, refl, sym, ◌∙◌, ap, subst, arith, length-append, inl, inr}
+use Rattle.std.proofs.Common.{◌≡◌, ℕ, ◌+◌, ◌<◌, ◌≤◌, Bool, true, false, List, [], ◌∷◌, ◌++◌, length, refl, sym, ◌∙◌, ap, subst, arith, length-append, inl, inr}
 use Rattle.std.proofs.Common.{cond, Option, Some, None, Ok, Err}
-use Rattle.std.specs.Prelude.{◌&&◌, Result, IfOk, IfErr, IfSome, OnErr, unwrap_or}
+use Rattle.std.specs.Prelude.{◌&&◌, Result, IfOk, IfErr, OnErr, unwrap_or}
 use Rattle.std.specs.List.{flat_map}
 use Rattle.pfl_rules.specs.declared.fault.RuleFault.{RuleFault}
 use Rattle.pfl_rules.specs.declared.fault.RuleFault.TheVariants as rule
 use Rattle.pfl_rules.specs.declared.rule.Rule.{Rule}
 use Rattle.pfl_rules.specs.Rules.{rule_fault}
-use Rattle.std.specs.Option.{option_map, option_or}
+use Rattle.std.specs.Option.{option_or}
 use Rattle.std.proofs.lemmas.Bool.{lt-ltb, le-ltb, cases_lt}
 use Rattle.std.proofs.lemmas.List.{flat_map_more, take_all}
 use Rattle.std.proofs.lemmas.List.Folds.{list_all-append}
@@ -20,11 +20,14 @@ use Rattle.pfl_reader.specs.Scans.{Kept, Keeps, ReadsLine, TakesLines, IsOver, h
 use Rattle.pfl_reader.specs.Saids.{kept_setup}
 use Rattle.pfl_script.specs.declared.setup_fault.SetupFault.{SetupFault}
 use Rattle.pfl_script.specs.declared.setup_fault.SetupFault.TheVariants as fault
+use Rattle.pfl_script.specs.declared.setup_text.SetupText.{SetupText}
+use Rattle.pfl_script.specs.declared.setup_text.SetupText.TheVariants as setup_text
 use Rattle.pfl_reader.specs.Readers.{Source, IsReadFault}
 use Rattle.pfl_reader.specs.declared.fault.ReadFault.{ReadFault}
 use Rattle.pfl_reader.specs.declared.fault.ReadFault.TheVariants as read
 use Rattle.pfl_script.specs.Readers.{setup_of_read}
-use Rattle.pfl_script.specs.Setups.{is_rule, says_rule, kept_line, IsSetupFault, IsSetupText, Draft, nothing_set, said, kept_words, set_by_said}
+use Rattle.pfl_script.specs.Setups.{is_rule, says_rule, kept_line, longest_text, IsKeptText, IsSetupFault, IsTooLong, KeepsText}
+use Rattle.pfl_script.specs.Setups.{Draft, nothing_set, said, kept_words, set_by_said}
 use Rattle.pfl_script.specs.Setups.{goes_on, drafted, all_go_on, Opens, IsFaultyAt, IsUnopened, WantsRule, GoOn, StopsAt}
 use Rattle.pfl_script.specs.inner.Setups.{Grows, IsTakeFault, IsRuleStop, IsFinishStop, Takes}
 use Rattle.pfl_script.proofs.Running.{taken-none, taken-line, taken-first, taken-all}
@@ -261,14 +264,62 @@ Texted-more old mid new k before text h reads is = record {
 }
 
 Texted-open : (old mid new : Option (List ℕ)) (k : Kept) (before text : List ℕ) → Texted old mid before → ReadsLine k mid new →
-    text ≡ before ++ (k.bytes ++ 10 ∷ []) → kept_words k ≡ Some (Ok setup.Open) → IsSetupText old new text
-Texted-open old mid new k before text h reads is opens = record {
+    length before ≤ longest_text → text ≡ before ++ (k.bytes ++ 10 ∷ []) → kept_words k ≡ Some (Ok setup.Open) → KeepsText old new text
+Texted-open old mid new k before text h reads short is opens = record {
+  lines = record {
+    before = h.lines;
+    last = reads.body;
+    taken = taken-line old mid new h.lines reads.body h.taken reads.takes;
+    opened = sym (words-kept k reads.body reads.keeps) ∙ opens;
+    whole = text-push h.lines k reads.body before text reads.keeps h.whole is;
+  };
+  short = subst (λ (bytes : List ℕ). length bytes ≤ longest_text) h.whole short;
+}
+
+-- lines were taken so far that are too long
+pub record LongSo (old new : Option (List ℕ)) : Type 0 where
+  pub lines : List (List ℕ)
+  pub taken : TakesLines old new lines
+  pub long : longest_text < length (flat_map kept_line lines)
+
+-- so are they with one line more
+long-push : (lines : List (List ℕ)) (line : List ℕ) → longest_text < length (flat_map kept_line lines) →
+    longest_text < length (flat_map kept_line (lines ++ line ∷ []))
+long-push lines line h =
+    let more : flat_map kept_line lines ++ kept_line line ≡ flat_map kept_line (lines ++ line ∷ []) = flat_map_more kept_line [] lines line in
+    subst (λ (bytes : List ℕ). longest_text < length bytes) more
+    (omega (arith, h, length-append (flat_map kept_line lines) (kept_line line)))
+
+LongSo-more : (old mid new : Option (List ℕ)) (k : Kept) → LongSo old mid → ReadsLine k mid new → LongSo old new
+LongSo-more old mid new k h reads = record {
+  lines = h.lines ++ reads.body ∷ [];
+  taken = taken-line old mid new h.lines reads.body h.taken reads.takes;
+  long = long-push h.lines reads.body h.long;
+}
+
+LongSo-open : (old mid new : Option (List ℕ)) (k : Kept) → LongSo old mid → ReadsLine k mid new →
+    kept_words k ≡ Some (Ok setup.Open) → IsTooLong old new
+LongSo-open old mid new k h reads opens = record {
   before = h.lines;
   last = reads.body;
   taken = taken-line old mid new h.lines reads.body h.taken reads.takes;
   opened = sym (words-kept k reads.body reads.keeps) ∙ opens;
-  whole = text-push h.lines k reads.body before text reads.keeps h.whole is;
+  long = h.long;
 }
+
+-- the text of lines that is too long
+LongSo-texted : (old new : Option (List ℕ)) (text : List ℕ) → Texted old new text → longest_text < length text → LongSo old new
+LongSo-texted old new text h long = record {
+  lines = h.lines;
+  taken = h.taken;
+  long = subst (λ (bytes : List ℕ). longest_text < length bytes) h.whole long;
+}
+
+-- what is kept of the lines that were taken so far
+abbrev pub KeptSo : {M : Type 0} → Option (List ℕ) → Option (List ℕ) → SetupText M → Type 0
+KeptSo old new (setup_text.Kept bytes) = Texted old new bytes.items
+KeptSo old new setup_text.TooLong = LongSo old new
+KeptSo old new setup_text.NoMemory = Unit {0}
 
 -- no line yet
 pub Text-none : (old mid : Option (List ℕ)) (text : List ℕ) → mid ≡ old → text ≡ [] → Texted old mid text
@@ -278,22 +329,30 @@ Text-none old mid text e none = record { lines = []; taken = rw e (taken-none ol
 with-bytes : (text before : List ℕ) (k : Kept) (line : List ℕ) → line ≡ k.bytes → text ≡ before ++ (line ++ 10 ∷ []) → text ≡ before ++ (k.bytes ++ 10 ∷ [])
 with-bytes text before k line same is = is ∙ ap (λ (bytes : List ℕ). before ++ (bytes ++ 10 ∷ [])) same
 
--- one line more, as long as there is memory
-pub Text-more : {V : Type 0} (items : V → List ℕ) (t u : Option V) (old mid new : Option (List ℕ)) (k : Kept) (line : List ℕ) → line ≡ k.bytes →
-    IfSome t (λ v. Texted old mid (items v)) → ReadsLine k mid new → Grows (option_map items t) (option_map items u) (line ++ 10 ∷ []) →
-    IfSome u (λ v. Texted old new (items v))
-Text-more items t None old mid new k line is h reads grows = tt
-Text-more items None (Some v) old mid new k line is h reads grows = absurd grows
-Text-more items (Some w) (Some v) old mid new k line is h reads grows = Texted-more old mid new k (items w) (items v) h reads (with-bytes _ _ k line is grows)
+-- one line more, until they are too long, and as long as there is memory
+pub Text-more : {M : Type 0} (t u : SetupText M) (old mid new : Option (List ℕ)) (k : Kept) (line : List ℕ) → line ≡ k.bytes →
+    KeptSo old mid t → ReadsLine k mid new → Grows t u (line ++ 10 ∷ []) → KeptSo old new u
+Text-more t setup_text.NoMemory old mid new k line is h reads grows = tt
+Text-more (setup_text.Kept w) (setup_text.Kept v) old mid new k line is h reads grows =
+    Texted-more old mid new k w.items v.items h reads (with-bytes _ _ k line is grows.1)
+Text-more (setup_text.Kept w) setup_text.TooLong old mid new k line is h reads grows = LongSo-more old mid new k (LongSo-texted old mid w.items h grows) reads
+Text-more setup_text.TooLong (setup_text.Kept v) old mid new k line is h reads grows = absurd grows
+Text-more setup_text.TooLong setup_text.TooLong old mid new k line is h reads grows = LongSo-more old mid new k h reads
+Text-more setup_text.NoMemory (setup_text.Kept v) old mid new k line is h reads grows = absurd grows
+Text-more setup_text.NoMemory setup_text.TooLong old mid new k line is h reads grows = absurd grows
 
 -- the line that ends the setup
-pub Text-open : {V : Type 0} (items : V → List ℕ) (t u : Option V) (old mid new : Option (List ℕ)) (k : Kept) (line : List ℕ) → line ≡ k.bytes →
-    IfSome t (λ v. Texted old mid (items v)) → ReadsLine k mid new → Grows (option_map items t) (option_map items u) (line ++ 10 ∷ []) →
-    kept_words k ≡ Some (Ok setup.Open) → IfSome u (λ v. IsSetupText old new (items v))
-Text-open items t None old mid new k line is h reads grows opens = tt
-Text-open items None (Some v) old mid new k line is h reads grows opens = absurd grows
-Text-open items (Some w) (Some v) old mid new k line is h reads grows opens =
-    Texted-open old mid new k (items w) (items v) h reads (with-bytes _ _ k line is grows) opens
+pub Text-open : {M : Type 0} (t u : SetupText M) (old mid new : Option (List ℕ)) (k : Kept) (line : List ℕ) → line ≡ k.bytes →
+    KeptSo old mid t → ReadsLine k mid new → Grows t u (line ++ 10 ∷ []) → kept_words k ≡ Some (Ok setup.Open) → IsKeptText old new u
+Text-open t setup_text.NoMemory old mid new k line is h reads grows opens = tt
+Text-open (setup_text.Kept w) (setup_text.Kept v) old mid new k line is h reads grows opens =
+    Texted-open old mid new k w.items v.items h reads grows.0 (with-bytes _ _ k line is grows.1) opens
+Text-open (setup_text.Kept w) setup_text.TooLong old mid new k line is h reads grows opens =
+    LongSo-open old mid new k (LongSo-texted old mid w.items h grows) reads opens
+Text-open setup_text.TooLong (setup_text.Kept v) old mid new k line is h reads grows opens = absurd grows
+Text-open setup_text.TooLong setup_text.TooLong old mid new k line is h reads grows opens = LongSo-open old mid new k h reads opens
+Text-open setup_text.NoMemory (setup_text.Kept v) old mid new k line is h reads grows opens = absurd grows
+Text-open setup_text.NoMemory setup_text.TooLong old mid new k line is h reads grows opens = absurd grows
 
 -- what is true of each good value
 pub on-ok : {X E : Type 0} {P Q : X → Type 0} (r : Result X E) → ((x : X) → P x → Q x) → IfOk r P → IfOk r Q

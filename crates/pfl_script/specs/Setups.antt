@@ -1,5 +1,5 @@
 -- How lines set up a pair (this project's profile).
-use Rattle.std.specs.Prelude.{◌≡◌, ℕ, ◌+◌, Bool, true, false, not, List, [], ◌∷◌, ◌++◌, length, set, take, if◌then◌else◌, Option, Some, None, ◌⊎◌}
+use Rattle.std.specs.Prelude.{◌≡◌, ℕ, ◌+◌, ◌<◌, ◌≤◌, Bool, true, false, not, List, [], ◌∷◌, ◌++◌, length, set, take, if◌then◌else◌, Option, Some, None, ◌⊎◌}
 use Rattle.std.specs.Prelude.{Result, Ok, Err}
 use Rattle.std.specs.List.{flat_map, fold, list_all}
 use Rattle.std.specs.Option.{option_or}
@@ -18,6 +18,8 @@ use Rattle.pfl_lines.specs.declared.setup.SetupLine.TheVariants as setup
 use Rattle.pfl_lines.specs.Setup.{parsed_setup}
 use Rattle.pfl_script.specs.declared.setup_fault.SetupFault.{SetupFault}
 use Rattle.pfl_script.specs.declared.setup_fault.SetupFault.TheVariants as fault
+use Rattle.pfl_script.specs.declared.setup_text.SetupText.{SetupText}
+use Rattle.pfl_script.specs.declared.setup_text.SetupText.TheVariants as setup_text
 use Rattle.pfl_reader.specs.Saids.{kept_setup}
 use Rattle.pfl_reader.specs.Scans.{Kept, head_of, has_word, TakesLines}
 use Rattle.pfl_reader.specs.Readers.{Source}
@@ -155,6 +157,29 @@ pub record IsSetupText (old new : Option (List ℕ)) (text : List ℕ) : Type 0 
   pub taken : TakesLines old new (before ++ last ∷ [])
   pub opened : said last ≡ Some (Ok setup.Open)
   pub whole : text ≡ flat_map kept_line (before ++ last ∷ [])
+
+-- the greatest length of the lines before `open`, as a setup's text has them, with which the text is kept: 16 MiB
+abbrev pub longest_text : ℕ
+longest_text = 16777216
+
+-- the text of the lines that were taken, up to `open`, of which those before it are not too long
+pub record KeepsText (old new : Option (List ℕ)) (text : List ℕ) : Type 0 where
+  pub lines : IsSetupText old new text
+  pub short : length (flat_map kept_line lines.before) ≤ longest_text
+
+-- of the lines that were taken, up to `open`, those before it are too long for the text to be kept
+pub record IsTooLong (old new : Option (List ℕ)) : Type 0 where
+  pub before : List (List ℕ)
+  pub last : List ℕ
+  pub taken : TakesLines old new (before ++ last ∷ [])
+  pub opened : said last ≡ Some (Ok setup.Open)
+  pub long : longest_text < length (flat_map kept_line before)
+
+-- what is kept of the text of the lines that were taken, up to `open`; where there was no memory for it, this says nothing
+abbrev pub IsKeptText : {M : Type 0} → Option (List ℕ) → Option (List ℕ) → SetupText M → Type 0
+IsKeptText old new (setup_text.Kept bytes) = KeepsText old new bytes.items
+IsKeptText old new setup_text.TooLong = IsTooLong old new
+IsKeptText old new setup_text.NoMemory = Unit {0}
 
 -- rules were set that are no rule sets
 pub record HasRuleFault (old new : Option (List ℕ)) (n : ℕ) (why : RuleFault) : Type 0 where

@@ -1,14 +1,14 @@
 //! Setups of pairs.
 
-ghost use Rattle.std.specs.Prelude.{◌≡◌, ◌+◌, ◌≤◌, ◌^◌, [], ◌∷◌, ◌++◌, true, IfOk, IfErr, IfSome, OnOk, OnErr, Ok, None, Some};
-ghost use Rattle.std.specs.Option.{option_map};
+ghost use Rattle.std.specs.Prelude.{◌≡◌, ◌+◌, ◌≤◌, ◌^◌, [], true, IfOk, IfErr, OnOk, OnErr, Ok, None, Some};
 ghost use Rattle.pfl_base.specs.Counts.{Counts};
 ghost use Rattle.pfl_rules.specs.Rules.{rule_fault, rule_set};
-ghost use Rattle.pfl_script.specs.Setups.{kept_words, nothing_set, with_rule, is_rule, CountsLines, Finishes, IsSetupFault, IsSetupText, ReadsSetup};
+ghost use Rattle.pfl_script.specs.Setups.{kept_words, nothing_set, with_rule, is_rule, CountsLines, Finishes, IsKeptText, IsSetupFault, ReadsSetup};
 ghost use Rattle.pfl_script.specs.Setups.{ReadsSetupTo};
-ghost use Rattle.pfl_script.specs.inner.Setups.{Grows, IsFinishStop, IsRuleStop, IsTakeFault, Takes};
+ghost use Rattle.pfl_script.specs.inner.Setups.{IsFinishStop, IsRuleStop, IsTakeFault, Takes};
 
 use crate::setup_fault::SetupFault;
+use crate::setup_text::SetupText;
 use pfl_base::{Input, NodeId};
 use pfl_language::Limits;
 use pfl_lines::SetupLine;
@@ -23,25 +23,8 @@ pub struct Setup<A: Allocator> {
     pub limits: Limits,
     pub rules_a: RuleSet<A>,
     pub rules_b: RuleSet<A>,
-    /// The lines up to `open`, comments and blank lines among them, each with a line feed and cut after 512 bytes; none where those
-    /// before the last have more than 16 MiB, or there was no memory for them.
-    pub text: Option<Vec<u8, A>>,
-}
-
-/// The length of a setup's text, in bytes, after which no further line is kept: some 30,000 lines of 512 bytes.
-const LONGEST_TEXT: usize = 1 << 24;
-
-/// The text with a line more and a line feed; none where it is too long already, or there is no memory.
-fn with_line<A: Allocator>(text: Option<Vec<u8, A>>, line: &[u8]) -> Option<Vec<u8, A>>
-    ensures { Grows (option_map (λ v. v.items) text) (option_map (λ v. v.items) result) (line.now ++ 10 ∷ []) }
-{
-    let mut text = text?;
-    if text.len() > LONGEST_TEXT {
-        return None;
-    }
-    text.extend_from_slice(line).ok()?;
-    text.push(b'\n').ok()?;
-    Some(text)
+    /// What is kept of the lines that it was read from.
+    pub text: SetupText<A>,
 }
 
 /// What lines have set.
@@ -147,7 +130,7 @@ fn rule_set_of<A: Allocator + Copy>(
 fn finish<A: Allocator + Copy>(
     alloc: A,
     draft: SetupDraft<A>,
-    text: Option<Vec<u8, A>>,
+    text: SetupText<A>,
     number: u64,
 ) -> Result<Setup<A>, SetupFault>
     ensures setup { IfOk result (λ s. Finishes draft s.limits s.rules_a s.rules_b) }
@@ -177,7 +160,7 @@ pub fn read_setup<A: Allocator + Copy, R: Input>(
 ) -> Result<Setup<A>, SetupFault>
     ensures setup { IfOk result (λ s. ReadsSetup reader.old.left reader.new.left s.limits s.rules_a s.rules_b) }
     ensures counted { IfOk result (λ s. reader.old.lines ≡ 0 → ReadsSetupTo reader.old.left reader.new.left reader.new.lines s.limits s.rules_a s.rules_b) }
-    ensures text { IfOk result (λ s. IfSome s.text (λ text. IsSetupText reader.old.left reader.new.left text.items)) }
+    ensures text { IfOk result (λ s. IsKeptText reader.old.left reader.new.left s.text) }
     ensures few_lines { OnOk result (reader.new.lines ≤ reader.old.lines + 2 ^ 41) }
     ensures fault { IfErr result (λ e. IsSetupFault e reader.old.left reader.new) }
     ensures lines { IfErr result (λ e. CountsLines e reader.old reader.new) }
@@ -187,12 +170,12 @@ pub fn read_setup<A: Allocator + Copy, R: Input>(
 {
     reader.begin();
     let mut draft = SetupDraft::new(Vec::new(alloc), Vec::new(alloc));
-    let mut text = Some(Vec::new(alloc));
+    let mut text = SetupText::Kept(Vec::new(alloc));
     let mut number: u64 = 0;
     while reader.advance()? {
         number += 1;
         let line = reader.line();
-        text = with_line(text, line.text());
+        text = text.with_line(line.text());
         if draft.take_line(&line, number)? {
             return finish(alloc, draft, text, number);
         }

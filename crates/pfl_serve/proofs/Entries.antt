@@ -1,10 +1,10 @@
 -- Entries of the journal that are sent to a session.
 use Rattle.std.proofs.Common.{◌≡◌, ◌≤◌, ℕ, zero, suc, ◌+◌, List, [], ◌∷◌, ◌++◌, length, take, refl, sym, ◌∙◌, ap, subst, arith, length-append}
 use Rattle.std.proofs.Common.{append_assoc, inl, inr, Option, Some, None, Ok, Err}
-use Rattle.std.specs.Prelude.{slice_get, min, Result, IfErr, IfOk, OnErr, OnOk}
+use Rattle.std.specs.Prelude.{slice_get, map, min, Result, IfErr, IfOk, OnErr, OnOk}
 use Rattle.std.specs.Io.KnownBytes.{Appends}
 use Rattle.std.proofs.Math.Seq.{take-append-add}
-use Rattle.std.proofs.lemmas.List.{append-nil, take-append-le, take_min}
+use Rattle.std.proofs.lemmas.List.{append-nil, map-append, take-append-le, take_min}
 use Rattle.std.proofs.lemmas.Option.{slice_get_within}
 use Rattle.pfl_script.specs.declared.fault.EngineFault.{EngineFault}
 use Rattle.pfl_script.specs.declared.fault.EngineFault.TheVariants as engine
@@ -20,7 +20,7 @@ use Rattle.pfl_session.specs.publish.Revisions.{Log}
 use Rattle.pfl_session.specs.publish.Seats.{LoadsOnce}
 use Rattle.pfl_session.proofs.ForCallers.{count-append, goes-on, length-history}
 use Rattle.pfl_serve.proofs.Passed.{goes-none, not-called-own}
-use Rattle.pfl_serve.specs.Sessions.{sent_lines, AreSent, Follows, HasAsked, IsFollowed, IsFollowing, IsNotCalled, IsSent, Site, Sending}
+use Rattle.pfl_serve.specs.Sessions.{nows, sent_lines, AreAmong, AreSent, Follows, HasAsked, IsFollowed, IsFollowing, IsNotCalled, IsSent, Site, Sending}
 use Rattle.pfl_serve.specs.Texts.{first_sent, followed_text, following_text, sent_text}
 use Rattle.pfl_serve.specs.inner.Answers.{Breaks, IsFollowingOn, IsSentOn, Writes}
 
@@ -40,6 +40,25 @@ got-in-longer : {X : Type 0} (xs ys : List X) (n : ℕ) (x : X) → slice_get xs
 got-in-longer [] ys n x is = absurd cc
 got-in-longer (z ∷ xs) ys zero x is = is
 got-in-longer (z ∷ xs) ys (suc n) x is = got-in-longer xs ys n x is
+
+-- numbers that are among others are among more that come later
+among-later : (ns before others : List ℕ) → AreAmong ns others → AreAmong ns (before ++ others)
+among-later ns [] others are = are
+among-later [] (b ∷ before) others are = tt
+among-later (n ∷ ns) (b ∷ before) others are = inr (among-later (n ∷ ns) before others are)
+
+-- numbers among others, and then more among more
+among-then : (ns ms others more : List ℕ) → AreAmong ns others → AreAmong ms more → AreAmong (ns ++ ms) (others ++ more)
+among-then [] ms others more ns-are ms-are = among-later ms others more ms-are
+among-then (n ∷ ns) ms [] more ns-are ms-are = absurd ns-are
+among-then (n ∷ ns) ms (o ∷ others) more ns-are ms-are = elim ns-are [
+  | inl here ↦ inl (here.0, among-then ns ms others more here.1 ms-are)
+  | inr later ↦ inr (among-then (n ∷ ns) ms others more later ms-are)
+]
+
+-- loads, and then more
+loads-then : (a b c ab bc : List ℕ) → b ≡ a ++ ab → c ≡ b ++ bc → c ≡ a ++ (ab ++ bc)
+loads-then a b c ab bc first then = then ∙ (ap (λ (l : List ℕ). l ++ bc) first ∙ append_assoc a ab bc)
 
 module _ {M : Type 0} where
   sent-more : (low n : ℕ) (ts : List (Sending M)) (js more : List (Entry M)) → AreSent low n ts js → AreSent low n ts (js ++ more)
@@ -65,7 +84,7 @@ module _ {M : Type 0} where
       (ts-are.0, ts-are.1, ts-are.2, ts-are.3, sent-append low (n + 1) ts us js ts-are.4 (subst (λ (m : ℕ). AreSent low m us js) same us-are))
 
   -- a pass that has not called has seen no less
-  grown : (a b : Seen M) → IsNotCalled a b → length (seen_in a) ≤ length (seen_in b)
+  pub grown : (a b : Seen M) → IsNotCalled a b → length (seen_in a) ≤ length (seen_in b)
   grown a b met = omega (arith, ap (λ (l : List (Entry M)). length l) met.others.seen, length-append (seen_in a) met.others.others)
 
   lines-append : (n : ℕ) (ts us : List (Sending M)) → sent_lines n (ts ++ us) ≡ sent_lines n ts ++ sent_lines (n + length ts) us
@@ -99,6 +118,11 @@ module _ {M : Type 0} where
       half = bc.half ∙ ab.half;
     }
 
+    -- the number that a pass loads once is that of the last entry that it has seen then
+    loaded-number : (a b : Seen M) → HasAsked site a b → (looked : LoadsOnce a.viewer b.viewer) → looked.0 ≡ length (seen_in b)
+    loaded-number a b asked looked =
+        omega (arith, looked.2, ap (λ (l : Log (Mark M)). length l) asked.journal.revisions, length-history site.opening (seen_in b))
+
     -- no entry yet: the pass has met
     pub sent-none : (low n : ℕ) (a b : Seen M) → HasAsked site a b → IsNotCalled a b → IsSent site low n n a b []
     sent-none low n a b asked met = record {
@@ -107,19 +131,25 @@ module _ {M : Type 0} where
       sendings = [];
       are = tt;
       number = omega arith;
+      loads = asked.goes_on.loads.0;
+      loaded = asked.goes_on.loads.1;
+      among = tt;
       sent = refl;
     }
 
     -- one entry
     pub sent-one : (n now : ℕ) (a b : Seen M) (e : Entry M) (text : List ℕ) → HasAsked site a b → IsNotCalled a b
-        → slice_get (seen_in b) n ≡ Some e → now ≡ length (seen_in b)
+        → slice_get (seen_in b) n ≡ Some e → now ≡ length (seen_in b) → LoadsOnce a.viewer b.viewer
         → text ≡ sent_text (n + 1) now e.session e.command → IsSent site (length (seen_in a)) n (n + 1) a b text
-    sent-one n now a b e text asked met there all is = record {
+    sent-one n now a b e text asked met there all looked is = record {
       asked = asked;
       not_called = met;
       sendings = record { entry = e; now = now } ∷ [];
       are = (there, omega (arith, slice_get_within (seen_in b) n e there, all), omega (arith, all, grown a b met), omega (arith, all), tt);
       number = refl;
+      loads = looked.0 ∷ [];
+      loaded = looked.1;
+      among = inl (all ∙ sym (loaded-number a b asked looked), tt);
       sent = is ∙ sym (append-nil (sent_text (n + 1) now e.session e.command));
     }
 
@@ -130,12 +160,12 @@ module _ {M : Type 0} where
     made-at n m (Some e) is = (e, refl, cc)
 
     pub sent-made : (n now : ℕ) (a b : Seen M) (m : Made) (text : List ℕ) → HasAsked site a b → IsNotCalled a b
-        → Some m ≡ made_after n (seen_in b) → now ≡ length (seen_in b)
+        → Some m ≡ made_after n (seen_in b) → now ≡ length (seen_in b) → LoadsOnce a.viewer b.viewer
         → text ≡ sent_text m.number now m.session m.command → IsSent site (length (seen_in a)) n m.number a b text
-    sent-made n now a b m text asked met made all is =
+    sent-made n now a b m text asked met made all looked is =
         let one = made-at n m (slice_get (seen_in b) n) made in
         let same : m.number ≡ n + 1 = ap (λ (x : Made). x.number) one.2 in
-        let sent = sent-one n now a b one.0 text asked met one.1 all (is ∙ (λ z. sent_text (one.2 z).number now (one.2 z).session (one.2 z).command)) in
+        let sent = sent-one n now a b one.0 text asked met one.1 all looked (is ∙ (λ z. sent_text (one.2 z).number now (one.2 z).session (one.2 z).command)) in
         subst (λ (k : ℕ). IsSent site (length (seen_in a)) n k a b text) (sym same) sent
 
     -- the lines of entries were written in part
@@ -169,6 +199,9 @@ module _ {M : Type 0} where
           sendings = ts ++ us;
           are = sent-append low n ts us (seen_in c) ts-are us-are;
           number = omega (arith, ab.number, bc.number, length-append ts us);
+          loads = ab.loads ++ bc.loads;
+          loaded = loads-then a.viewer.loads b.viewer.loads c.viewer.loads ab.loads bc.loads ab.loaded bc.loaded;
+          among = rw map-append (among-then (nows ts) (nows us) ab.loads bc.loads ab.among bc.among);
           sent = ap (λ (t : List ℕ). t ++ more) ab.sent
               ∙ (ap (λ (t : List ℕ). sent_lines n ts ++ t) (bc.sent ∙ ap (λ (i : ℕ). sent_lines i us) ab.number)
               ∙ sym (lines-append n ts us));
@@ -217,26 +250,24 @@ module _ {M : Type 0} where
       own-met : HasSeenItsCalls b
       own-met = omega (arith, asked.own, not-called-own a b asked.goes_on.session met, ap (λ h. h.count) met.half)
 
-      -- the number that it loaded then is that of the last entry
-      number-is : looked.0 ≡ start
-      number-is = omega (arith, looked.2, all, ap (λ (l : Log (Mark M)). length l) asked.journal.revisions, length-history site.opening (seen_in b))
-
-      looks : (c : Seen M) → GoesOn b c → (later : List ℕ) × (c.viewer.loads ≡ a.viewer.loads ++ start ∷ later)
-      looks c on =
-          let later = on.loads.0 in
-          let once : b.viewer.loads ≡ a.viewer.loads ++ start ∷ [] = looked.1 ∙ ap (λ (n : ℕ). a.viewer.loads ++ n ∷ []) number-is in
-          (later, on.loads.1 ∙ (ap (λ (l : List ℕ). l ++ later) once ∙ append_assoc a.viewer.loads (start ∷ []) later))
+      looks : (c : Seen M) (later : List ℕ) → c.viewer.loads ≡ b.viewer.loads ++ later → c.viewer.loads ≡ a.viewer.loads ++ start ∷ later
+      looks c later on =
+          let number : looked.0 ≡ start = loaded-number a b asked looked ∙ sym all in
+          let once : b.viewer.loads ≡ a.viewer.loads ++ start ∷ [] = looked.1 ∙ ap (λ (n : ℕ). a.viewer.loads ++ n ∷ []) number in
+          on ∙ (ap (λ (l : List ℕ). l ++ later) once ∙ append_assoc a.viewer.loads (start ∷ []) later)
 
       follows : (m : ℕ) (c : Seen M) (lines : List ℕ) → IsSent site (length (seen_in b)) first m b c lines
           → Follows site k start m a c (following_text first ++ lines)
+      unfolding sent-none sent-then
       follows m c lines sent =
           let whole = sent-then start first first m a b c [] lines (omega (arith, all)) (sent-none start first a b asked met) sent in
           record {
             since = omega (arith, all, grown a b met);
             within = omega (arith, all, grown b c sent.not_called);
-            looked = looks c sent.asked.goes_on;
+            looked = (sent.loads, looks c sent.loads sent.loaded);
             lines = lines;
             sends = whole;
+            among = sent.among;
             sent = refl;
           }
 

@@ -1,5 +1,6 @@
 -- A session is served line by line.
-use Rattle.std.proofs.Common.{◌≡◌, ℕ, ◌+◌, List, [], ◌∷◌, ◌++◌, length, take, refl, sym, ◌∙◌, ap, subst, arith, length-append, append_assoc, inl, inr, Option}
+use Rattle.std.proofs.Common.{◌≡◌, ℕ, ◌+◌, Bool, true, false, List, [], ◌∷◌, ◌++◌, length, take, refl, sym, ◌∙◌, ap, subst, arith}
+use Rattle.std.proofs.Common.{length-append, append_assoc, inl, inr, Option}
 use Rattle.std.specs.Prelude.{Result}
 use Rattle.std.specs.Io.KnownBytes.{Appends}
 use Rattle.std.proofs.lemmas.Bool.{lt-ltb, le-ltb, cases_lt}
@@ -17,9 +18,9 @@ use Rattle.pfl_script.specs.reader.declared.fault.ReadFault.{ReadFault}
 use Rattle.pfl_script.specs.reader.declared.fault.ReadFault.TheVariants as read
 use Rattle.pfl_script.specs.Readers.{of_read}
 use Rattle.pfl_script.proofs.ForCallers.{appends_none, appends_then, taken-none, taken-line, taken-first, taken-all, taken-drained}
-use Rattle.pfl_serve.specs.Sessions.{said, is_fault, bad_lines, IsAnswer, IsBegun, Lacks, Serves, Site, ServesWhole, ServesFirst, ServesPart}
-use Rattle.pfl_serve.specs.Sessions.{ServesUnanswered, ServesUntil}
-use Rattle.pfl_serve.specs.inner.Answers.{kept_said, Writes, Breaks}
+use Rattle.pfl_serve.specs.Sessions.{said, asks_follow, ends_in_follow, is_fault, bad_lines, IsAnswer, IsBegun, Lacks, Serves, Site}
+use Rattle.pfl_serve.specs.Sessions.{ServesWhole, ServesFirst, ServesPart, ServesUnanswered, ServesUntil}
+use Rattle.pfl_serve.specs.inner.Answers.{kept_said, HasCome, Writes, Breaks}
 
 -- what is kept of a line says to a session what the line says
 session-kept : (k : Kept) (body : List ℕ) → Keeps k body → kept_session k ≡ parsed_session body
@@ -37,6 +38,12 @@ said-kept k body h = rw (h.head, session-kept k body h) refl
 bad_lines-push : (lines : List (List ℕ)) (line : List ℕ) → bad_lines (lines ++ line ∷ []) ≡ bad_lines lines + one_if (is_fault (said line))
 bad_lines-push [] line = omega arith
 bad_lines-push (x ∷ lines) line = omega (arith, bad_lines-push lines line)
+
+-- the last line asks to follow
+ends_in_follow-push : (lines : List (List ℕ)) (line : List ℕ) → ends_in_follow (lines ++ line ∷ []) ≡ asks_follow (said line)
+ends_in_follow-push [] line = refl
+ends_in_follow-push (x ∷ []) line = refl
+ends_in_follow-push (x ∷ y ∷ lines) line = ends_in_follow-push (y ∷ lines) line
 
 module _ {M : Type 0} where
   module _ (site : Site) where
@@ -58,8 +65,8 @@ module _ {M : Type 0} where
           ap (λ (s : List ℕ). s ++ answer) h.5 ∙ append_assoc first rest answer,
         )
 
-    -- lines had their replies so far
-    pub record Served (left rest : Option (List ℕ)) (old new : Seen M) (w v : Option (List ℕ)) (count bad : ℕ) : Type 0 where
+    -- lines had their replies so far; where the last one asked to follow, the next one has come, or the end
+    pub record Served (Came : Type 0) (left rest : Option (List ℕ)) (old new : Seen M) (w v : Option (List ℕ)) (count bad : ℕ) : Type 0 where
       pub lines : List (List ℕ)
       pub taken : TakesLines left rest lines
       pub text : List ℕ
@@ -67,10 +74,12 @@ module _ {M : Type 0} where
       pub written : Appends w v text
       pub counted : count ≡ length lines
       pub faulty : bad ≡ bad_lines lines
+      pub heard : ends_in_follow lines ≡ true → Came
 
     -- no line yet
-    pub Served-none : (left rest : Option (List ℕ)) (old : Seen M) (w : Option (List ℕ)) → rest ≡ left → Served left rest old old w w 0 0
-    Served-none left rest old w e = record {
+    pub Served-none : (Came : Type 0) (left rest : Option (List ℕ)) (old : Seen M) (w : Option (List ℕ)) → rest ≡ left
+        → Served Came left rest old old w w 0 0
+    Served-none Came left rest old w e = record {
       lines = [];
       taken = rw e (taken-none left);
       text = [];
@@ -78,10 +87,11 @@ module _ {M : Type 0} where
       written = appends_none w;
       counted = refl;
       faulty = refl;
+      heard = λ last. cc;
     }
 
-    module _ (left mid rest : Option (List ℕ)) (old p q : Seen M) (w v x : Option (List ℕ)) (count bad : ℕ) (k : Kept)
-        (so_far : Served left mid old p w v count bad) (reads : ReadsLine k mid rest) where
+    module _ (Had : Type 0) (left mid rest : Option (List ℕ)) (old p q : Seen M) (w v x : Option (List ℕ)) (count bad : ℕ) (k : Kept)
+        (so_far : Served Had left mid old p w v count bad) (reads : ReadsLine k mid rest) where
       -- the answer to what is kept of the line is the answer to the line
       answered : (text : List ℕ) → IsAnswer site (kept_said k) p q text → IsAnswer site (said reads.body) p q text
       answered text a = subst (λ (s : Option (Result SessionLine LineFault)). IsAnswer site s p q text) (said-kept k reads.body reads.keeps) a
@@ -90,8 +100,9 @@ module _ {M : Type 0} where
       taken-more = taken-line left mid rest so_far.lines reads.body so_far.taken reads.takes
 
       -- one line more
-      pub Served-more : Writes (IsAnswer site (kept_said k) p q) v x → Served left rest old q w x (count + 1) (bad + one_if (is_fault (kept_said k)))
-      Served-more writes = record {
+      pub Served-more : (Came : Type 0) → Writes (IsAnswer site (kept_said k) p q) v x → (asks_follow (kept_said k) ≡ true → Came)
+          → Served Came left rest old q w x (count + 1) (bad + one_if (is_fault (kept_said k)))
+      Served-more Came writes heard = record {
         lines = so_far.lines ++ reads.body ∷ [];
         taken = taken-more;
         text = so_far.text ++ writes.0;
@@ -99,6 +110,7 @@ module _ {M : Type 0} where
         written = appends_then w v x so_far.text writes.0 so_far.written writes.2;
         counted = omega (arith, so_far.counted, length-append so_far.lines (reads.body ∷ []));
         faulty = rw (so_far.faulty, said-kept k reads.body reads.keeps, bad_lines-push so_far.lines reads.body) refl;
+        heard = λ last. heard (ap asks_follow (said-kept k reads.body reads.keeps) ∙ (sym (ends_in_follow-push so_far.lines reads.body) ∙ last));
       }
 
       -- the last line's text was written in part
@@ -138,10 +150,11 @@ module _ {M : Type 0} where
       until-answer engine.Read breaks = absurd breaks
       until-answer engine.TooManyTurns breaks = absurd breaks
 
-    module _ (left mid : Option (List ℕ)) (old new : Seen M) (w v : Option (List ℕ)) (count bad : ℕ) (so_far : Served left mid old new w v count bad) where
+    module _ (Came : Type 0) (left mid : Option (List ℕ)) (old new : Seen M) (w v : Option (List ℕ)) (count bad : ℕ)
+        (so_far : Served Came left mid old new w v count bad) where
       -- the end was reached
-      pub Served-whole : (rest : Option (List ℕ)) → IsOver mid rest → ServesWhole site left rest old new w v count bad
-      Served-whole rest over = record {
+      pub Served-whole : (Heard : Type 0) (rest : Option (List ℕ)) → IsOver mid rest → (Came → Heard) → ServesWhole site Heard left rest old new w v count bad
+      Served-whole Heard rest over end = record {
         lines = so_far.lines;
         all = taken-all left mid rest so_far.lines so_far.taken over;
         end = taken-drained left mid rest so_far.lines so_far.taken over;
@@ -150,6 +163,7 @@ module _ {M : Type 0} where
         written = so_far.written;
         counted = so_far.counted;
         faulty = so_far.faulty;
+        heard = λ last. end (so_far.heard last);
       }
 
       served-first : ServesFirst site left old new w v
@@ -165,3 +179,8 @@ module _ {M : Type 0} where
       pub until-read : (e : ReadFault) (rest : Option (List ℕ)) → ServesUntil site (of_read e) left rest old new w v
       until-read read.Read rest = served-first
       until-read read.TooManyTurns rest = served-first
+
+-- at the end of the lines, where no byte waited, the gate has heard that
+pub ended-heard : (heard : ℕ → Type 0) (waiting session : ℕ) → waiting ≡ 0 → HasCome heard waiting session → heard session
+ended-heard heard waiting session none (inl waits) = absurd (omega (arith, none, waits))
+ended-heard heard waiting session none (inr end) = end

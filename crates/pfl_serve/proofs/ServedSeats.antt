@@ -1,5 +1,5 @@
 -- Lists of seats that are served.
-use Rattle.std.proofs.Common.{◌≡◌, List, [], ◌∷◌, ◌++◌, length, map, sym, ◌∙◌, arith}
+use Rattle.std.proofs.Common.{◌≡◌, ℕ, List, [], ◌∷◌, ◌++◌, length, map, sym, ◌∙◌, arith}
 use Rattle.std.proofs.lemmas.List.{append-nil, append_assoc, map-append}
 use Rattle.pfl_base.specs.declared.output.Output as Output
 use Rattle.pfl_session.specs.declared.which.Which as Which
@@ -7,10 +7,10 @@ use Rattle.pfl_serve.specs.Seats.{IsServed, AreServed}
 use Rattle.pfl_serve.specs.declared.seat.Seat.{Seat}
 use Rattle.pfl_serve.specs.declared.seat.Served.{Served}
 
-module _ {K A I W : Type 0} (j : Which.Ghosts K) (o : Output.Ghosts W) where
+module _ {K A I W : Type 0} (j : Which.Ghosts K) (o : Output.Ghosts W) (heard : ℕ → Type 0) where
   -- one more seat is served
   pub AreServed-push : (olds : List (Seat A I W)) (ss : List (Served A I W)) (old : Seat A I W) (s : Served A I W)
-      → AreServed j o olds ss → IsServed j o old s → AreServed j o (olds ++ old ∷ []) (ss ++ s ∷ [])
+      → AreServed j o heard olds ss → IsServed j o heard old s → AreServed j o heard (olds ++ old ∷ []) (ss ++ s ∷ [])
   AreServed-push [] [] old s are is = (is, tt)
   AreServed-push [] (t ∷ ts) old s are is = absurd are
   AreServed-push (first ∷ olds) [] old s are is = absurd are

@@ -1,5 +1,5 @@
 -- Seats of sessions that are served (this project's profile).
-use Rattle.std.specs.Prelude.{◌≡◌, ◌≤◌, List, [], ◌∷◌, length, IfOk, IfErr, OnOk, ⊤}
+use Rattle.std.specs.Prelude.{◌≡◌, ◌≤◌, ℕ, List, [], ◌∷◌, length, IfOk, IfErr, OnOk, ⊤}
 use Rattle.pfl_base.specs.Counts.{Counts}
 use Rattle.pfl_base.specs.declared.output.Output as Output
 use Rattle.pfl_script.specs.Readers.{IsRunFault, counted_on}
@@ -13,12 +13,13 @@ use Rattle.pfl_serve.specs.declared.seat.Served.{Served}
 abbrev pub site_of : {K : Type 0} → Which.Ghosts K → Site
 site_of j = record { opening = j.opening; sessions = length j.tallies; limit = j.limit; setup = j.setup }
 
-module _ {K A I W : Type 0} (j : Which.Ghosts K) (o : Output.Ghosts W) where
+-- `heard` says of a session that its next line has come, or its end, as its gate hears that
+module _ {K A I W : Type 0} (j : Which.Ghosts K) (o : Output.Ghosts W) (heard : ℕ → Type 0) where
   -- the seat, once its session has ended
   pub record IsServed (old : Seat A I W) (s : Served A I W) : Type 0 where
     pub lab : IsPassOf j.publisher j.tallies s.seat.pass
     pub goes_on : GoesOn old.pass s.seat.pass
-    pub whole : IfOk s.result (λ e. ServesWhole (site_of j) old.reader.left s.seat.reader.left old.pass s.seat.pass
+    pub whole : IfOk s.result (λ e. ServesWhole (site_of j) (heard old.pass.session) old.reader.left s.seat.reader.left old.pass s.seat.pass
         (o.written old.writer) (o.written s.seat.writer) e.lines e.bad)
     pub until : IfErr s.result (λ e. ServesUntil (site_of j) e old.reader.left s.seat.reader.left old.pass s.seat.pass
         (o.written old.writer) (o.written s.seat.writer))

@@ -1,5 +1,5 @@
 -- What serving a session does, line by line (this project's profile).
-use Rattle.std.specs.Prelude.{◌≡◌, ◌≤◌, ◌<◌, ℕ, ◌+◌, Bool, true, false, is_err, List, [], ◌∷◌, ◌++◌, length, take, slice_get, slice_index}
+use Rattle.std.specs.Prelude.{◌≡◌, ◌≤◌, ◌<◌, ℕ, ◌+◌, Bool, true, false, is_err, List, [], ◌∷◌, ◌++◌, length, map, take, slice_get, slice_index}
 use Rattle.std.specs.Prelude.{if◌then◌else◌, Option, Some, None, Result, Ok, Err, ⊤, ◌⊎◌}
 use Rattle.std.specs.Io.KnownBytes.{Appends}
 use Rattle.pfl_language.specs.declared.command.Command.{Command}
@@ -37,6 +37,17 @@ abbrev pub is_fault : Option (Result SessionLine LineFault) → Bool
 is_fault None = false
 is_fault (Some r) = is_err r
 
+-- it asks to follow the journal
+abbrev pub asks_follow : Option (Result SessionLine LineFault) → Bool
+asks_follow (Some (Ok (Follow k))) = true
+asks_follow _ = false
+
+-- there are lines, and the last one asks to follow the journal
+abbrev pub ends_in_follow : List (List ℕ) → Bool
+ends_in_follow [] = false
+ends_in_follow (line ∷ []) = asks_follow (said line)
+ends_in_follow (line ∷ next ∷ lines) = ends_in_follow (next ∷ lines)
+
 -- how many lines are faulty
 abbrev pub bad_lines : List (List ℕ) → ℕ
 bad_lines [] = 0
@@ -46,6 +57,16 @@ bad_lines (line ∷ lines) = one_if (is_fault (said line)) + bad_lines lines
 pub record Sending (M : Type 0) : Type 0 where
   pub entry : Entry M
   pub now : ℕ
+
+-- how many entries there were each time
+abbrev pub nows : {M : Type 0} → List (Sending M) → List ℕ
+nows ts = map (λ t. t.now) ts
+
+-- the numbers are among the others, in their order, each at a place of its own
+abbrev pub AreAmong : List ℕ → List ℕ → Type 0
+AreAmong [] others = ⊤
+AreAmong (n ∷ ns) [] = ⊥
+AreAmong (n ∷ ns) (other ∷ others) = ((n ≡ other) × AreAmong ns others) ⊎ AreAmong (n ∷ ns) others
 
 -- the lines of entries, which count on from this number
 abbrev pub sent_lines : {M : Type 0} → ℕ → List (Sending M) → List ℕ
@@ -123,23 +144,29 @@ module _ {M : Type 0} where
     pub asked : HasAsked site old new
     pub done : ((reply : Reply) × IsCalled old new command reply × (takes_memory reply ≡ true)) ⊎ (IsNotCalled old new × (length (seen_in new) < site.limit))
 
-  -- the entries after the first n were shown, up to the one of number m, and meanwhile the pass saw calls of other sessions alone
+  -- the entries after the first n were shown, up to the one of number m, and meanwhile the pass saw calls of other sessions alone; each was
+  -- shown with a number that the pass loaded then, a load of its own, in their order
   pub record IsSent (site : Site) (low n m : ℕ) (old new : Seen M) (text : List ℕ) : Type 0 where
     pub asked : HasAsked site old new
     pub not_called : IsNotCalled old new
     pub sendings : List (Sending M)
     pub are : AreSent low n sendings (seen_in new)
     pub number : m ≡ n + length sendings
+    pub loads : List ℕ
+    pub loaded : new.viewer.loads ≡ old.viewer.loads ++ loads
+    pub among : AreAmong (nows sendings) loads
     pub sent : text ≡ sent_lines n sendings
 
   -- the session follows the journal, from the entry that it asked for on, where there is one, and else from the end: it has been shown
-  -- the entries up to number m; the pass looked once it was asked, and there were `start` of them
+  -- the entries up to number m; the pass looked once it was asked, and there were `start` of them; each entry was shown with a number that
+  -- the pass loaded later
   pub record Follows (site : Site) (k : Option ℕ) (start m : ℕ) (old new : Seen M) (text : List ℕ) : Type 0 where
     pub since : length (seen_in old) ≤ start
     pub within : start ≤ length (seen_in new)
     pub looked : (later : List ℕ) × (new.viewer.loads ≡ old.viewer.loads ++ start ∷ later)
     pub lines : List ℕ
     pub sends : IsSent site start (first_sent k start) m old new lines
+    pub among : AreAmong (nows sends.sendings) looked.0
     pub sent : text ≡ following_text (first_sent k start) ++ lines
 
   -- the answer to `follow`: all entries that there were when the pass looked first were shown at least
@@ -185,8 +212,9 @@ module _ {M : Type 0} where
       × Serves site lines mid new rest × (text ≡ first ++ rest)
 
   module _ (site : Site) where
-    -- all lines had their replies, the whole text was written, and they were counted
-    pub record ServesWhole (left rest : Option (List ℕ)) (old new : Seen M) (w v : Option (List ℕ)) (count bad : ℕ) : Type 0 where
+    -- all lines had their replies, the whole text was written, and they were counted; where the last one asks to follow the journal, the
+    -- session's end was heard
+    pub record ServesWhole (Heard : Type 0) (left rest : Option (List ℕ)) (old new : Seen M) (w v : Option (List ℕ)) (count bad : ℕ) : Type 0 where
       pub lines : List (List ℕ)
       pub all : AreLines left lines
       pub end : Drains left rest
@@ -195,6 +223,7 @@ module _ {M : Type 0} where
       pub written : Appends w v text
       pub counted : count ≡ length lines
       pub faulty : bad ≡ bad_lines lines
+      pub heard : ends_in_follow lines ≡ true → Heard
 
     -- first lines had their replies, and the whole text was written
     pub record ServesFirst (left : Option (List ℕ)) (old new : Seen M) (w v : Option (List ℕ)) : Type 0 where

@@ -74,7 +74,7 @@ impl<A: Allocator + Copy + Send + Sync, G: Gate + Sync, R: Threads + Wait + Sync
         seats: Vec<Seat<A, I, O>, A>,
     ) -> Result<Closing<A, I, O>, ServeFault>
         requires lab { AllByRecursion (λ s. IsPassOf J.publisher J.tallies s.pass) seats.items }
-        ensures service { IfOk result (λ s. IsService J.Which O.Output seats.items s.closed.timeline s.closed.journal.items s.ended.items) }
+        ensures service { IfOk result (λ s. IsService J.Which O.Output G.heard seats.items s.closed.timeline s.closed.journal.items s.ended.items) }
     {
         let passes = list_for(self.alloc, seats.len())?;
         let ended = list_for(self.alloc, seats.len())?;

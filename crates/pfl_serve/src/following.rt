@@ -1,11 +1,11 @@
 //! Sessions that follow the journal.
 
-ghost use Rattle.std.specs.Prelude.{◌≡◌, ◌+◌, ◌<◌, ◌≤◌, length, IfOk, IfErr, OnOk};
+ghost use Rattle.std.specs.Prelude.{◌≡◌, ◌+◌, ◌<◌, ◌≤◌, length, true, IfOk, IfErr, OnOk};
 ghost use Rattle.pfl_script.specs.Readers.{IsWriteFault};
 ghost use Rattle.pfl_session.specs.Passes.{GoesOn, IsPassOf, seen_in};
 ghost use Rattle.pfl_serve.specs.Seats.{site_of};
 ghost use Rattle.pfl_serve.specs.Sessions.{IsFollowed, IsFollowing, IsSent};
-ghost use Rattle.pfl_serve.specs.inner.Answers.{Breaks, IsFollowingOn, IsSentOn, Writes};
+ghost use Rattle.pfl_serve.specs.inner.Answers.{Breaks, HasCome, IsFollowingOn, IsSentOn, Writes};
 
 use crate::gate::Gate;
 use crate::seat::Seat;
@@ -82,7 +82,10 @@ impl<J: Which, A: Allocator + Copy, B: Allocator + Copy, G: Gate, R: Wait> Servi
     }
 
     /// Whether the session's next line has come, or its end. It may wait for that a short while.
-    fn hears<I: Input, O: Output>(&self, seat: &Seat<A, I, O>) -> bool {
+    fn hears<I: Input, O: Output>(&self, seat: &Seat<A, I, O>) -> bool
+        ensures heard { result ≡ true → HasCome G.heard seat.now.reader.waiting seat.now.pass.session }
+        ensures waits { 0 < seat.now.reader.waiting → result ≡ true }
+    {
         seat.reader.waits()
             || self
                 .service
@@ -101,6 +104,7 @@ impl<J: Which, A: Allocator + Copy, B: Allocator + Copy, G: Gate, R: Wait> Servi
         ensures lab { IsPassOf J.publisher J.tallies seat.new.pass }
         ensures goes_on { GoesOn seat.old.pass seat.new.pass }
         ensures reader { seat.new.reader ≡ seat.old.reader }
+        ensures heard { OnOk result (HasCome G.heard seat.new.reader.waiting seat.new.pass.session) }
         ensures all { IfOk result (λ n. length (seen_in seat.old.pass) ≤ n) }
         ensures whole { IfOk result (λ n. Writes (IsSent (site_of J.Which) (length (seen_in seat.old.pass)) sent n seat.old.pass seat.new.pass)
             (O.written seat.old.writer) (O.written seat.new.writer)) }
@@ -130,6 +134,7 @@ impl<J: Which, A: Allocator + Copy, B: Allocator + Copy, G: Gate, R: Wait> Servi
         ensures lab { IsPassOf J.publisher J.tallies seat.new.pass }
         ensures goes_on { GoesOn seat.old.pass seat.new.pass }
         ensures reader { seat.new.reader ≡ seat.old.reader }
+        ensures heard { OnOk result (HasCome G.heard seat.new.reader.waiting seat.new.pass.session) }
         ensures whole { IfOk result (λ _. Writes (IsFollowed (site_of J.Which) from seat.old.pass seat.new.pass)
             (O.written seat.old.writer) (O.written seat.new.writer)) }
         ensures breaks { IfErr result (λ e. Breaks (IsFollowingOn (site_of J.Which) from seat.old.pass seat.new.pass)

@@ -29,7 +29,7 @@ impl<'a, B: Allocator + Copy, G: Gate, R: Wait> Service<'a, B, G, R> {
         mut seat: Seat<A, I, O>,
     ) -> Served<A, I, O>
         requires lab { IsPassOf J.publisher J.tallies seat.pass }
-        ensures { IsServed J.Which O.Output seat result }
+        ensures { IsServed J.Which O.Output G.heard seat result }
     {
         let serving = Serving { service: self, lab };
         let result = serving.serve(&mut seat);

@@ -1,12 +1,12 @@
 //! One session, line by line.
 
-ghost use Rattle.std.specs.Prelude.{◌≡◌, ◌+◌, ◌-◌, ◌^◌, ◌≤◌, min, length, if◌then◌else◌, IfOk, IfErr, OnOk};
+ghost use Rattle.std.specs.Prelude.{◌≡◌, ◌+◌, ◌-◌, ◌^◌, ◌≤◌, min, true, length, if◌then◌else◌, IfOk, IfErr, OnOk};
 ghost use Rattle.pfl_base.specs.Counts.{Counts};
 ghost use Rattle.pfl_script.specs.Readers.{IsRunFault, IsWriteFault, counted_on};
 ghost use Rattle.pfl_session.specs.Passes.{GoesOn, IsPassOf};
 ghost use Rattle.pfl_serve.specs.Seats.{site_of};
-ghost use Rattle.pfl_serve.specs.Sessions.{is_fault, IsAnswer, IsBegun, IsReplied, IsViewed, Lacks, ServesUntil, ServesWhole};
-ghost use Rattle.pfl_serve.specs.inner.Answers.{kept_said, is_command, Breaks, Nothing, Unanswered, Writes};
+ghost use Rattle.pfl_serve.specs.Sessions.{asks_follow, is_fault, IsAnswer, IsBegun, IsReplied, IsViewed, Lacks, ServesUntil, ServesWhole};
+ghost use Rattle.pfl_serve.specs.inner.Answers.{kept_said, is_command, Breaks, HasCome, Nothing, Unanswered, Writes};
 
 use crate::gate::Gate;
 use crate::seat::Seat;
@@ -160,6 +160,7 @@ impl<J: Which, A: Allocator + Copy, B: Allocator + Copy, G: Gate, R: Wait> Servi
         ensures lab { IsPassOf J.publisher J.tallies seat.new.pass }
         ensures goes_on { GoesOn seat.old.pass seat.new.pass }
         ensures reader { seat.new.reader ≡ seat.old.reader }
+        ensures heard { OnOk result (asks_follow said.now ≡ true → HasCome G.heard seat.new.reader.waiting seat.new.pass.session) }
         ensures whole { IfOk result (λ _. Writes (IsAnswer (site_of J.Which) said.now seat.old.pass seat.new.pass)
             (O.written seat.old.writer) (O.written seat.new.writer)) }
         ensures breaks { IfErr result (λ e. Breaks (IsBegun (site_of J.Which) said.now seat.old.pass seat.new.pass)
@@ -185,8 +186,8 @@ impl<J: Which, A: Allocator + Copy, B: Allocator + Copy, G: Gate, R: Wait> Servi
         requires lab { IsPassOf J.publisher J.tallies seat.old.pass }
         ensures lab { IsPassOf J.publisher J.tallies seat.new.pass }
         ensures goes_on { GoesOn seat.old.pass seat.new.pass }
-        ensures whole { IfOk result (λ e. ServesWhole (site_of J.Which) seat.old.reader.left seat.new.reader.left seat.old.pass seat.new.pass
-            (O.written seat.old.writer) (O.written seat.new.writer) e.lines e.bad) }
+        ensures whole { IfOk result (λ e. ServesWhole (site_of J.Which) (G.heard seat.old.pass.session) seat.old.reader.left seat.new.reader.left
+            seat.old.pass seat.new.pass (O.written seat.old.writer) (O.written seat.new.writer) e.lines e.bad) }
         ensures until { IfErr result (λ e. ServesUntil (site_of J.Which) e seat.old.reader.left seat.new.reader.left seat.old.pass seat.new.pass
             (O.written seat.old.writer) (O.written seat.new.writer)) }
         ensures lines { IfOk result (λ e. seat.new.reader.lines ≡ counted_on seat.old.reader.lines e.lines) }

@@ -22,40 +22,41 @@ use std::thread::{Promise, PromisedHandle, Scope, Threads};
 
 /// That a thread serves this seat.
 #[derive(Drop)]
-struct ServedFrom<J: Which, A: Allocator, I: Input, O: Output> {
+struct ServedFrom<J: Which, A: Allocator, I: Input, O: Output, G: Gate> {
     seat: Snapshot<Seat<A, I, O>>,
     of: PhantomData<J>,
+    through: PhantomData<G>,
 }
 
-impl<J: Which, A: Allocator, I: Input, O: Output> Promise<Served<A, I, O>>
-    for ServedFrom<J, A, I, O> {
-    ghost kept_by = { λ p served. IsServed J.Which O.Output p.seat.value served };
+impl<J: Which, A: Allocator, I: Input, O: Output, G: Gate> Promise<Served<A, I, O>>
+    for ServedFrom<J, A, I, O, G> {
+    ghost kept_by = { λ p served. IsServed J.Which O.Output G.heard p.seat.value served };
 }
 
 /// The threads of the sessions that have begun.
 #[derive(Drop)]
-struct Started<J: Which, A: Allocator, I: Input, O: Output> {
-    handles: Vec<PromisedHandle<Served<A, I, O>, ServedFrom<J, A, I, O>>, A>,
+struct Started<J: Which, A: Allocator, I: Input, O: Output, G: Gate> {
+    handles: Vec<PromisedHandle<Served<A, I, O>, ServedFrom<J, A, I, O, G>>, A>,
     /// There was no thread for one of the sessions, and so there are fewer threads than seats.
     refused: bool,
 }
 
 /// Lists that have room for the threads of some seats, and for what these served.
 #[derive(Drop)]
-struct Lists<J: Which, A: Allocator, I: Input, O: Output> {
-    handles: Vec<PromisedHandle<Served<A, I, O>, ServedFrom<J, A, I, O>>, A>,
+struct Lists<J: Which, A: Allocator, I: Input, O: Output, G: Gate> {
+    handles: Vec<PromisedHandle<Served<A, I, O>, ServedFrom<J, A, I, O, G>>, A>,
     all: Vec<Served<A, I, O>, A>,
 }
 
 /// Joins all threads, into a list that has room for what they served.
-fn join_all<J: Which, A: Allocator, I: Input + Drop, O: Output + Drop, R: Threads>(
+fn join_all<J: Which, A: Allocator, I: Input + Drop, O: Output + Drop, G: Gate, R: Threads>(
     rt: &R,
-    handles: Vec<PromisedHandle<Served<A, I, O>, ServedFrom<J, A, I, O>>, A>,
+    handles: Vec<PromisedHandle<Served<A, I, O>, ServedFrom<J, A, I, O, G>>, A>,
     mut all: Vec<Served<A, I, O>, A>,
 ) -> Vec<Served<A, I, O>, A>
     requires none { all.items ≡ [] }
     requires room { vec_len handles ≤ vec_capacity all }
-    ensures { AreServed J.Which O.Output (seats_of handles.items) result.items }
+    ensures { AreServed J.Which O.Output G.heard (seats_of handles.items) result.items }
 {
     for handle in handles {
         all.push_reserved(handle.join(rt));
@@ -69,7 +70,7 @@ fn serve_seat<J: Which, A: Allocator + Copy, I: Input, O: Output, G: Gate, R: Wa
     mut seat: Seat<A, I, O>,
 ) -> Served<A, I, O>
     requires lab { IsPassOf J.publisher J.tallies seat.pass }
-    ensures { IsServed J.Which O.Output seat result }
+    ensures { IsServed J.Which O.Output G.heard seat result }
 {
     let result = serving.serve(&mut seat);
     serving
@@ -90,7 +91,7 @@ impl<
         &'s self,
         scope: &Scope<'s, E>,
         seat: Seat<A, I, O>,
-    ) -> Option<PromisedHandle<Served<A, I, O>, ServedFrom<J, A, I, O>>>
+    ) -> Option<PromisedHandle<Served<A, I, O>, ServedFrom<J, A, I, O, G>>>
         requires lab { IsPassOf J.publisher J.tallies seat.pass }
         ensures promise { IfSome result (λ h. h.promise.seat.value ≡ seat) }
     {
@@ -98,6 +99,7 @@ impl<
         let promise = ServedFrom {
             seat: Snapshot::of(&seat),
             of: PhantomData,
+            through: PhantomData,
         };
         match scope.spawn_with(promise, move || serve_seat(self, seat)) {
             Ok(handle) => Some(handle),
@@ -113,8 +115,8 @@ impl<
         &'s self,
         scope: &Scope<'s, E>,
         seats: Vec<Seat<A, I, O>, A>,
-        mut handles: Vec<PromisedHandle<Served<A, I, O>, ServedFrom<J, A, I, O>>, A>,
-    ) -> Started<J, A, I, O>
+        mut handles: Vec<PromisedHandle<Served<A, I, O>, ServedFrom<J, A, I, O, G>>, A>,
+    ) -> Started<J, A, I, O, G>
         requires lab { AllByRecursion (λ s. IsPassOf J.publisher J.tallies s.pass) seats.items }
         requires none { handles.items ≡ [] }
         requires room { vec_len seats ≤ vec_capacity handles }
@@ -141,12 +143,12 @@ impl<
         &'s self,
         scope: &Scope<'s, E>,
         seats: Vec<Seat<A, I, O>, A>,
-        lists: Lists<J, A, I, O>,
+        lists: Lists<J, A, I, O, G>,
     ) -> Result<Vec<Served<A, I, O>, A>, ServeFault>
         requires lab { AllByRecursion (λ s. IsPassOf J.publisher J.tallies s.pass) seats.items }
         requires none { (lists.handles.items ≡ []) × (lists.all.items ≡ []) }
         requires room { (vec_len seats ≤ vec_capacity lists.handles) × (vec_len seats ≤ vec_capacity lists.all) }
-        ensures served { IfOk result (λ all. AreServed J.Which O.Output seats.items all.items) }
+        ensures served { IfOk result (λ all. AreServed J.Which O.Output G.heard seats.items all.items) }
         ensures refused { IfErr result (λ why. why ≡ fault.NoThread) }
     {
         let Lists { handles, all } = lists;
@@ -163,12 +165,12 @@ impl<
     fn serve_in_threads<'s, I: Input + Send + Drop + 's, O: Output + Send + Drop + 's>(
         &'s self,
         seats: Vec<Seat<A, I, O>, A>,
-        lists: Lists<J, A, I, O>,
+        lists: Lists<J, A, I, O, G>,
     ) -> Result<Vec<Served<A, I, O>, A>, ServeFault>
         requires lab { AllByRecursion (λ s. IsPassOf J.publisher J.tallies s.pass) seats.items }
         requires none { (lists.handles.items ≡ []) × (lists.all.items ≡ []) }
         requires room { (vec_len seats ≤ vec_capacity lists.handles) × (vec_len seats ≤ vec_capacity lists.all) }
-        ensures served { IfOk result (λ all. AreServed J.Which O.Output seats.items all.items) }
+        ensures served { IfOk result (λ all. AreServed J.Which O.Output G.heard seats.items all.items) }
         ensures refused { IfErr result (λ why. why ≡ fault.NoThread) }
     {
         thread::scope(
@@ -178,7 +180,7 @@ impl<
                 requires lab { AllByRecursion (λ s. IsPassOf J.publisher J.tallies s.pass) seats.items }
                 requires none { (lists.handles.items ≡ []) × (lists.all.items ≡ []) }
                 requires room { (vec_len seats ≤ vec_capacity lists.handles) × (vec_len seats ≤ vec_capacity lists.all) }
-                ensures served { IfOk result (λ all. AreServed J.Which O.Output seats.items all.items) }
+                ensures served { IfOk result (λ all. AreServed J.Which O.Output G.heard seats.items all.items) }
                 ensures refused { IfErr result (λ why. why ≡ fault.NoThread) }
             { self.serve_within(scope, seats, lists) },
         )
@@ -211,7 +213,7 @@ impl<A: Allocator + Copy + Send + Sync, G: Gate + Sync, R: Threads + Wait + Sync
         seats: Vec<Seat<A, I, O>, A>,
     ) -> Result<Vec<Served<A, I, O>, A>, ServeFault>
         requires lab { AllByRecursion (λ s. IsPassOf J.publisher J.tallies s.pass) seats.items }
-        ensures served { IfOk result (λ all. AreServed J.Which O.Output seats.items all.items) }
+        ensures served { IfOk result (λ all. AreServed J.Which O.Output G.heard seats.items all.items) }
     {
         let lists = Lists {
             handles: list_for(self.alloc, seats.len())?,

@@ -40,6 +40,27 @@ pub(crate) fn say(mut stream: &TcpStream, text: &[u8]) -> io::Result<()> {
     stream.shutdown(Shutdown::Write)
 }
 
+/// Sends a text, and goes on.
+pub(crate) fn send(mut stream: &TcpStream, text: &[u8]) -> Option<()> {
+    stream.write_all(text).ok()
+}
+
+/// The stream gives this next.
+pub(crate) fn hears(mut stream: &TcpStream, text: &[u8]) -> bool {
+    for byte in text {
+        let mut next = [0];
+        if stream.read_exact(&mut next).is_err() || next != [*byte] {
+            return false;
+        }
+    }
+    true
+}
+
+/// Says nothing for 100 ms.
+pub(crate) fn pause(rt: &HostRuntime) {
+    thread::sleep(rt, Duration::from_millis(100));
+}
+
 /// All that a stream gives up to its end.
 pub(crate) fn hear(alloc: Global, mut stream: &TcpStream) -> io::Result<Vec<u8>> {
     let mut all = Vec::new(alloc);

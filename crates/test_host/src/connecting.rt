@@ -24,6 +24,10 @@ impl Gate for Noting {
 
     fn leave<R: Wait>(&self, _rt: &R, _session: u32, _nth: u64) {}
 
+    fn hears<R: Wait>(&self, _rt: &R, _session: u32) -> bool {
+        true
+    }
+
     fn end<R: Wait>(&self, _rt: &R, _session: u32) {}
 }
 

@@ -2,6 +2,8 @@
 #![tactic(auto)]
 
 #[cfg(test)]
+mod browsers;
+#[cfg(test)]
 mod client;
 #[cfg(test)]
 mod connecting;
@@ -19,3 +21,7 @@ mod meeting;
 mod modes;
 #[cfg(test)]
 mod outcome;
+#[cfg(test)]
+mod pauses;
+#[cfg(test)]
+mod setups;

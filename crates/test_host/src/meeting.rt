@@ -62,5 +62,9 @@ impl Gate for Meeting {
         }
     }
 
+    fn hears<R: Wait>(&self, _rt: &R, _session: u32) -> bool {
+        true
+    }
+
     fn end<R: Wait>(&self, _rt: &R, _session: u32) {}
 }

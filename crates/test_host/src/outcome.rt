@@ -1,7 +1,7 @@
 //! What the program gives with some words, over lines in memory.
 
 use pfl_base::Std;
-use pfl_host::{Gate, Program};
+use pfl_host::{Gate, Network, Program};
 use std::alloc::Global;
 use std::net::{Net, TcpListener, TcpStream};
 use std::sync::Wait;
@@ -33,7 +33,8 @@ pub(crate) fn outcome_of<
     let mut writer = Std::new(Vec::new(alloc));
     let mut faults = Std::new(Vec::new(alloc));
     let program = Program { rt, alloc, gate };
-    let status = program.obey(words, &mut reader, &mut writer, &mut faults);
+    let mut doors = Network::new(rt, alloc);
+    let status = program.obey(words, &mut doors, &mut reader, &mut writer, &mut faults);
     Outcome {
         status,
         written: writer.into_inner(),

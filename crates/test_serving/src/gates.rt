@@ -41,6 +41,10 @@ impl Gate for Noting {
         self.note(rt, Note::Leave(session, nth));
     }
 
+    fn hears<R: Wait>(&self, _rt: &R, _session: u32) -> bool {
+        true
+    }
+
     fn end<R: Wait>(&self, _rt: &R, _session: u32) {}
 }
 

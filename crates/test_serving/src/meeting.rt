@@ -63,6 +63,10 @@ impl Gate for Meeting {
         }
     }
 
+    fn hears<R: Wait>(&self, _rt: &R, _session: u32) -> bool {
+        true
+    }
+
     fn end<R: Wait>(&self, _rt: &R, _session: u32) {
         self.ended.fetch_add(1, Ordering::SeqCst);
     }

@@ -1,5 +1,5 @@
 -- What the parts of a setup stop at.
-use Rattle.std.specs.Prelude.{⊤, ◌≡◌, Bool, true, false, List, ◌++◌, Option, Some, Result, Ok, ℕ, Err, None}
+use Rattle.std.specs.Prelude.{◌≡◌, ◌<◌, ◌≤◌, Bool, true, false, List, ◌++◌, length, Option, Some, Result, Ok, ℕ, Err, None}
 use Rattle.pfl_rules.specs.declared.fault.RuleFault.{RuleFault}
 use Rattle.pfl_rules.specs.Rules.{rule_fault}
 use Rattle.pfl_lines.specs.declared.fault.LineFault.{LineFault}
@@ -7,7 +7,9 @@ use Rattle.pfl_lines.specs.declared.setup.SetupLine.{SetupLine}
 use Rattle.pfl_lines.specs.declared.setup.SetupLine.TheVariants as setup
 use Rattle.pfl_script.specs.declared.setup_fault.SetupFault.{SetupFault}
 use Rattle.pfl_script.specs.declared.setup_fault.SetupFault.TheVariants as fault
-use Rattle.pfl_script.specs.Setups.{Draft, set_by_said, goes_on, says_rule, first_rule_fault}
+use Rattle.pfl_script.specs.declared.setup_text.SetupText.{SetupText}
+use Rattle.pfl_script.specs.declared.setup_text.SetupText.TheVariants as setup_text
+use Rattle.pfl_script.specs.Setups.{Draft, set_by_said, goes_on, longest_text, says_rule, first_rule_fault}
 
 -- what a line was taken for: `opened` says that it is `open`
 abbrev pub Takes : Bool → Option (Result SetupLine LineFault) → Draft → Draft → Type 0
@@ -32,8 +34,12 @@ IsFinishStop (fault.Rule m why) n d = (m ≡ n) × (first_rule_fault d ≡ Some 
 IsFinishStop fault.NoMemory n d = rule_fault d.a ≡ None
 IsFinishStop _ n d = ⊥
 
--- a text, as long as there is memory for it, has this more at its end
-abbrev pub Grows : Option (List ℕ) → Option (List ℕ) → List ℕ → Type 0
-Grows old None more = ⊤
-Grows None (Some text) more = ⊥
-Grows (Some before) (Some text) more = text ≡ before ++ more
+-- a text with this more at its end, unless it is too long already, or there is no memory for it
+abbrev pub Grows : {M : Type 0} → SetupText M → SetupText M → List ℕ → Type 0
+Grows old setup_text.NoMemory more = Unit {0}
+Grows (setup_text.Kept before) (setup_text.Kept bytes) more = (length before.items ≤ longest_text) × (bytes.items ≡ before.items ++ more)
+Grows (setup_text.Kept before) setup_text.TooLong more = longest_text < length before.items
+Grows setup_text.TooLong (setup_text.Kept bytes) more = ⊥
+Grows setup_text.TooLong setup_text.TooLong more = Unit {0}
+Grows setup_text.NoMemory (setup_text.Kept bytes) more = ⊥
+Grows setup_text.NoMemory setup_text.TooLong more = ⊥

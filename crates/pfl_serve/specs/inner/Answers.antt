@@ -1,5 +1,5 @@
 -- The answer to one line, and how it fails.
-use Rattle.std.specs.Prelude.{◌≡◌, ℕ, Bool, true, false, List, [], length, take, if◌then◌else◌, Option, Some, None, Result, Ok, ◌⊎◌}
+use Rattle.std.specs.Prelude.{◌≡◌, ◌<◌, ℕ, Bool, true, false, List, [], length, take, if◌then◌else◌, Option, Some, None, Result, Ok, ◌⊎◌}
 use Rattle.std.specs.Io.KnownBytes.{Appends}
 use Rattle.pfl_script.specs.lines.declared.fault.LineFault.{LineFault}
 use Rattle.pfl_script.specs.lines.declared.session.SessionLine.{SessionLine}
@@ -20,6 +20,10 @@ kept_said k = if has_word k.head then Some (kept_session k) else None
 abbrev pub is_command : Option (Result SessionLine LineFault) → Bool
 is_command (Some (Ok (Ask command))) = true
 is_command _ = false
+
+-- the session's next line has come, or its end: bytes that were read wait, or the gate has heard
+abbrev pub HasCome : (ℕ → Type 0) → ℕ → ℕ → Type 0
+HasCome heard waiting session = (0 < waiting) ⊎ heard session
 
 -- a text of this kind was written
 abbrev pub Writes : (List ℕ → Type 0) → Option (List ℕ) → Option (List ℕ) → Type 0

@@ -1,4 +1,4 @@
-use Rattle.std.proofs.Common.{arith, refl, ℕ, ◌≡◌, ◌+◌, Bool, Vec, subst, ◌∙◌}
+use Rattle.std.proofs.Common.{arith, refl, ℕ, ◌≡◌, ◌+◌, Bool, subst, ◌∙◌}
 use Rattle.std.proofs.lemmas.Result.{err_from_is_err_and}
 use Rattle.pfl_script.specs.inner.Setups.{Takes}
 use Rattle.pfl_script.specs.Setups.{kept_words}
@@ -98,8 +98,7 @@ returns-then-branch-2-clause-text g c =
     let reads = gave-line _ _ _ _ _ c.in_ok-advance.ensures.line c.if-branch.true c.line-line.ensures in
     let takes = subst (λ (b : Bool). Takes b (kept_words c.line-line.result) c.loop-text.draft c.take_line.new.self) c.if-branch-2.true
     c.in_ok-take_line.ensures.taken in
-    let text = Text-open (λ (v : Vec ℕ g.row.A.Denot). v.items) _ _ _ _ _ c.line-line.result _ c.text.ensures c.loop-text.invariant.text
-    reads c.with_line-text.ensures takes.0 in
+    let text = Text-open _ _ _ _ _ c.line-line.result _ c.text.ensures c.loop-text.invariant.text reads c.with_line-text.ensures takes.0 in
     on-ok c.finish.result (λ s is. rw is text) c.finish.ensures.text
 
 -- the rules have a fault
@@ -154,9 +153,7 @@ loop-text-preserved g c =
     record {
       counted = λ fresh. let was = c.loop-text.invariant.counted fresh in omega (arith, lines, was, less, c.loop-text.invariant.few);
       going = Going-more _ _ _ _ _ _ c.line-line.result c.loop-text.invariant.going reads takes;
-      text =
-          Text-more (λ (v : Vec ℕ g.row.A.Denot). v.items) _ _ _ _ _ c.line-line.result _ c.text.ensures c.loop-text.invariant.text reads
-          c.with_line-text.ensures;
+      text = Text-more _ _ _ _ _ c.line-line.result _ c.text.ensures c.loop-text.invariant.text reads c.with_line-text.ensures;
       lines = omega (arith, lines, c.loop-text.invariant.lines);
       few = omega (arith, less, c.loop-text.invariant.few);
       reads = Counts-more c.args.reader.now c.loop-text.reader c.advance.new.self c.loop-text.invariant.reads c.advance.ensures.turns;

@@ -8,6 +8,6 @@ use Rattle.pfl_serve.proofs.threads.join_all.Given as goal
 abbrev pub invariant-loop-handle : goal.invariant-loop-handle
 invariant-loop-handle g l = record {
   split : l.yielded ++ into_iter_items l.handle-iterator ≡ l.fn.handles.items;
-  served : AreServed g.J.Which g.O.Output (seats_of l.yielded) l.all.items;
+  served : AreServed g.J.Which g.O.Output g.G.Gate.heard (seats_of l.yielded) l.all.items;
   room : vec_len l.all + into_iter_len l.handle-iterator ≤ vec_capacity l.all;
 }

@@ -5,7 +5,7 @@ use Rattle.pfl_host.proofs.server.Server.serve_whole.Goals as goal
 pub returns-in-Ok-clause-serves : goal.returns-in-Ok-clause-serves
 returns-in-Ok-clause-serves g c =
     IfOk-weaker c.serve_pair.result _ _
-    (λ first whole. record { number = _; base = _; sets_up = c.in-Ok.ensures.sets_up; whole = whole }) c.serve_pair.ensures.serves
+    (λ outcome whole. record { number = _; base = _; sets_up = c.in-Ok.ensures.sets_up; whole = whole }) c.serve_pair.ensures.serves
 
 pub returns-in-Ok-clause-stop : goal.returns-in-Ok-clause-stop
 returns-in-Ok-clause-stop g c =

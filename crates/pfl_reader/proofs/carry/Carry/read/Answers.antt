@@ -1,7 +1,9 @@
-use Rattle.std.proofs.Common.{arith, refl, ℕ, Some, Option, subst, ap, ◌∙◌, inl, inr, IfSome, ◌<◌}
+use Rattle.std.proofs.Common.{arith, refl, ℕ, Some, Option, subst, ap, sym, ◌≡◌, ◌∙◌, inl, inr, IfSome, ◌<◌}
+use Rattle.std.specs.Prelude.{MatchOption, ⊤}
 use Rattle.pfl_reader.specs.inner.Scans.{TakesByte}
 use Rattle.pfl_reader.specs.inner.Feeds.{idle}
 use Rattle.pfl_reader.specs.Readers.{room}
+use Rattle.pfl_reader.proofs.Keeping.{added-some}
 use Rattle.pfl_reader.proofs.Taking.{Reads-added, Reads-end, Reads-last, Reads-none, Reads-start}
 use Rattle.pfl_reader.proofs.Turns.{CountsTurns-none, CountsTurns-then}
 use Rattle.pfl_reader.proofs.carry.Carry.read.Goals as goal
@@ -12,6 +14,7 @@ loop-byte-init g c = record {
   reads = rw c.clear.ensures (Reads-start _);
   within = omega arith;
   less = inl c.clear.ensures;
+  awaited = λ _. refl;
   turns = CountsTurns-none _ _ refl refl;
   few = λ few. few;
   stays = refl;
@@ -38,6 +41,7 @@ loop-byte-preserved g c =
       reads = rw c.add.ensures (Reads-added _ _ _ _ _ c.loop-byte.invariant.reads taken c.if-byte-eq-LINE_FEED.false);
       within = omega (arith, less);
       less = inr (omega (arith, less));
+      awaited = λ none. absurd (added-some c.loop-byte.self c.in-Some.byte (sym c.add.ensures ∙ none));
       turns = CountsTurns-then _ _ _ c.loop-byte.invariant.turns c.take_byte.ensures.turns;
       few = λ few. c.take_byte.ensures.few (c.loop-byte.invariant.few few);
       stays = c.in_ok-byte.ensures.stays ∙ c.loop-byte.invariant.stays;
@@ -48,6 +52,14 @@ pub returns-then-is_empty-clause-line : goal.returns-then-is_empty-clause-line
 returns-then-is_empty-clause-line g c =
     let over = subst (TakesByte c.loop-byte.feed.left c.take_byte.new.self.left) c.in_default.is c.in_ok-byte.ensures.byte in
     Reads-none _ _ _ _ c.loop-byte.invariant.reads over (c.is_empty.ensures.empty c.if-is_empty.true)
+
+-- ... and then no byte waited at first
+pub returns-then-is_empty-clause-awaited : goal.returns-then-is_empty-clause-awaited
+returns-then-is_empty-clause-awaited g c =
+    let same = c.loop-byte.invariant.awaited (c.is_empty.ensures.empty c.if-is_empty.true) in
+    let none : c.loop-byte.feed.waiting ≡ 0 =
+    subst (λ (o : Option ℕ). MatchOption o (c.loop-byte.feed.waiting ≡ 0) (λ _. ⊤)) c.in_default.is c.in_ok-byte.ensures.awaited in
+    λ _. sym same ∙ none
 
 pub returns-then-is_empty-clause-turns : goal.returns-then-is_empty-clause-turns
 returns-then-is_empty-clause-turns g c = CountsTurns-then _ _ _ c.loop-byte.invariant.turns c.take_byte.ensures.turns

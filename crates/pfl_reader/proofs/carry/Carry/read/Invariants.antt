@@ -10,6 +10,7 @@ invariant-loop-byte g l = record {
   reads : Reads l.self l.fn.feed.left l.feed.left;
   within : room (idle l.feed) ≤ room (idle l.fn.feed);
   less : (l.self ≡ nothing) ⊎ (room (idle l.feed) < room (idle l.fn.feed));
+  awaited : l.self ≡ nothing → l.feed.waiting ≡ l.fn.feed.waiting;
   turns : CountsTurns (idle l.fn.feed) (idle l.feed);
   few : l.fn.feed.turns ≤ 16777216 → l.feed.turns ≤ 16777216;
   stays : l.feed.failed ≡ l.fn.feed.failed;

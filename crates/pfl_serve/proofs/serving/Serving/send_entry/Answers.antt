@@ -19,7 +19,7 @@ returns-in_err-write_text-clause-breaks g c =
     let sent = sent-made (site_of g.J.Which) c.args.sent c.entry_after-made.result.entries c.args.pass.now c.entry_after-made.new.pass
     c.in-Some.made c.as_slice.result.now
     (record { goes_on = e.goes_on; journal = e.journal; own = e.counted }) (record { others = e.others; half = e.half }) (sym c.in-Some.is
-    ∙ e.made) e.entries (c.as_slice.ensures.value ∙ c.in-Ok.ensures) in
+    ∙ e.made) e.entries e.loaded (c.as_slice.ensures.value ∙ c.in-Ok.ensures) in
     rw (p.1, p.2) (breaks-sent
     (site_of g.J.Which) c.args.sent _ _ _ _ c.in_err-write_text.field-0.0 _ _ c.in_err-write_text.ensures.part.0 sent
     c.in_err-write_text.ensures.fault c.in_err-write_text.ensures.part.2)
@@ -31,5 +31,5 @@ returns-clause-whole g c =
     let sent = sent-made (site_of g.J.Which) c.args.sent c.entry_after-made.result.entries c.args.pass.now c.entry_after-made.new.pass
     c.in-Some.made c.as_slice.result.now
     (record { goes_on = e.goes_on; journal = e.journal; own = e.counted }) (record { others = e.others; half = e.half }) (sym c.in-Some.is
-    ∙ e.made) e.entries (c.as_slice.ensures.value ∙ c.in-Ok.ensures) in
+    ∙ e.made) e.entries e.loaded (c.as_slice.ensures.value ∙ c.in-Ok.ensures) in
     (c.as_slice.result.now, sent, c.in_ok-write_text.ensures.whole)

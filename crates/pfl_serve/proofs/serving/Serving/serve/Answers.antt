@@ -1,16 +1,16 @@
-use Rattle.std.proofs.Common.{arith, ◌∙◌, refl}
+use Rattle.std.proofs.Common.{◌≡◌, arith, ◌∙◌, refl}
 use Rattle.std.proofs.lemmas.Result.{err_from_is_err_and}
 use Rattle.pfl_script.proofs.ForCallers.reader.{Counts-begun, Counts-more, counted-line, counted-none, gave-line, gave-none}
 use Rattle.pfl_script.proofs.ForCallers.{one_if-le}
 use Rattle.pfl_session.proofs.ForCallers.{goes-on}
 use Rattle.pfl_serve.proofs.Passed.{goes-none}
-use Rattle.pfl_serve.proofs.ServedLines.{Served-none, Served-more, Served-whole, until-read, until-answer}
+use Rattle.pfl_serve.proofs.ServedLines.{ended-heard, Served-none, Served-more, Served-whole, until-read, until-answer}
 use Rattle.pfl_serve.proofs.serving.Serving.serve.Goals as goal
 
 -- no line yet
 pub loop-said-init : goal.loop-said-init
 loop-said-init g c = record {
-  served = Served-none _ _ _ _ _ c.begin.ensures.left;
+  served = Served-none _ _ _ _ _ _ c.begin.ensures.left;
   lab = c.requires.lab;
   goes_on = goes-none _;
   few = omega (arith, c.begin.ensures.room);
@@ -26,7 +26,7 @@ loop-said-init g c = record {
 pub returns-in_err-advance-clause-until : goal.returns-in_err-advance-clause-until
 returns-in_err-advance-clause-until g c =
     let p = err_from_is_err_and c.from_residual.result c.from_residual.ensures.1 in
-    rw (p.1, p.2) (until-read _ _ _ _ _ _ _ _ _ c.loop-said.invariant.served _ _)
+    rw (p.1, p.2) (until-read _ _ _ _ _ _ _ _ _ _ c.loop-said.invariant.served _ _)
 
 pub returns-in_err-advance-clause-reads : goal.returns-in_err-advance-clause-reads
 returns-in_err-advance-clause-reads g c =
@@ -44,7 +44,7 @@ returns-in_err-answer-clause-until g c =
     let reads = gave-line _ _ _ _ _ c.in_ok-advance.ensures.line c.if-branch.true c.line.ensures in
     let p = err_from_is_err_and c.from_residual-in_err-answer.result c.from_residual-in_err-answer.ensures.1 in
     let breaks = rw c.said_by-said.ensures at c.in_err-answer.ensures.breaks in
-    rw (p.1, p.2, c.answer.ensures.reader) (until-answer _ _ _ _ _ _ _ _ _ _ _ _ _ c.loop-said.invariant.served reads _ breaks)
+    rw (p.1, p.2, c.answer.ensures.reader) (until-answer _ _ _ _ _ _ _ _ _ _ _ _ _ _ c.loop-said.invariant.served reads _ breaks)
 
 pub returns-in_err-answer-clause-reads : goal.returns-in_err-answer-clause-reads
 returns-in_err-answer-clause-reads g c =
@@ -61,7 +61,11 @@ loop-said-preserved g c =
     let less = c.in_ok-advance.ensures.room c.if-branch.true in
     let lines = counted-line _ _ _ c.in_ok-advance.ensures.lines c.if-branch.true in
     let whole = rw c.said_by-said.ensures at c.in_ok-answer.ensures.whole in
-    let served = Served-more _ _ _ _ _ _ _ _ _ _ _ _ _ c.loop-said.invariant.served reads whole in
+    let asks = rw c.said_by-said.ensures at c.in_ok-answer.ensures.heard in
+    let session : c.answer.new.seat.pass.session ≡ c.args.seat.now.pass.session =
+    c.answer.ensures.goes_on.session ∙ c.loop-said.invariant.goes_on.session in
+    let heard = rw (session, c.answer.ensures.reader) at asks in
+    let served = Served-more _ _ _ _ _ _ _ _ _ _ _ _ _ _ c.loop-said.invariant.served reads _ whole heard in
     record {
       served = rw (c.answer.ensures.reader, c.more-ended.ensures.lines, c.more-ended.ensures.bad, c.is_fault.ensures, c.said_by-said.ensures) served;
       lab = c.answer.ensures.lab;
@@ -80,7 +84,8 @@ loop-said-preserved g c =
 pub returns-clause-whole : goal.returns-clause-whole
 returns-clause-whole g c =
     let over = gave-none _ _ _ _ c.in_ok-advance.ensures.line c.if-branch.false in
-    Served-whole _ _ _ _ _ _ _ _ _ c.loop-said.invariant.served _ over
+    let end = ended-heard g.G.Gate.heard c.loop-said.seat.reader.waiting c.args.seat.now.pass.session (c.in_ok-advance.ensures.awaited c.if-branch.false) in
+    Served-whole _ _ _ _ _ _ _ _ _ _ c.loop-said.invariant.served _ _ over end
 
 pub returns-clause-lines : goal.returns-clause-lines
 returns-clause-lines g c =

@@ -4,6 +4,7 @@ use Rattle.pfl_script.specs.reader.Readers.{room}
 use Rattle.pfl_script.specs.Readers.{counted_on}
 use Rattle.pfl_session.specs.Passes.{GoesOn, IsPassOf}
 use Rattle.pfl_serve.specs.Seats.{site_of}
+use Rattle.pfl_serve.specs.inner.Answers.{HasCome}
 use Rattle.pfl_serve.proofs.ServedLines.{Served}
 use Rattle.pfl_serve.proofs.serving.Serving.serve.Given as goal
 
@@ -11,7 +12,8 @@ abbrev pub invariant-loop-said : goal.invariant-loop-said
 invariant-loop-said g l =
     let j = g.J.Which in
     record {
-      served : Served (site_of j) l.fn.seat.reader.left l.seat.reader.left l.fn.seat.pass l.seat.pass
+      served : Served (site_of j) (HasCome g.G.Gate.heard l.seat.reader.waiting l.fn.seat.pass.session)
+          l.fn.seat.reader.left l.seat.reader.left l.fn.seat.pass l.seat.pass
           (g.O.Output.written l.fn.seat.writer) (g.O.Output.written l.seat.writer) l.ended.lines l.ended.bad;
       lab : IsPassOf j.publisher j.tallies l.seat.pass;
       goes_on : GoesOn l.fn.seat.pass l.seat.pass;

@@ -1,0 +1,5 @@
+pub mod Requests
+pub mod Screens
+pub mod Visits
+pub mod Networks
+pub use Rattle.pfl_base.specs as base

@@ -1,0 +1,14 @@
+//! What the connections of sessions come through, the port of this machine among it, and a reader that gives nothing of what a browser
+//! sends.
+#![tactic(auto)]
+
+mod doors;
+mod network;
+mod request;
+mod screened;
+
+pub use doors::{DoorFault, Doors, Sides, Visit};
+pub use network::Network;
+pub use pfl_base::{Input, Output};
+pub use request::judged_so_far;
+pub use screened::Screened;

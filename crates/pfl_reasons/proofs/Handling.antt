@@ -1,0 +1,231 @@
+-- The fate of a packet follows from its reason.
+use Rattle.std.specs.Prelude.{◌≡◌, ◌≤◌, ◌⊎◌, ℕ, Bool, true, false, not, ◌&&◌, ◌||◌, nat_le, Option, Some, None, IsSomeAnd, is_some, unwrap_or, refl}
+use Rattle.std.specs.Option.{option_map_or}
+use Rattle.std.proofs.Common.{cond, ap, sym, subst, inl, inr}
+use Rattle.std.proofs.lemmas.Bool.{leb-true}
+use Rattle.pfl_base.specs.declared.direction.Dir.{Dir}
+use Rattle.pfl_base.specs.declared.packet.Packet.{Packet}
+use Rattle.pfl_base.specs.Keys.{is_key, key}
+use Rattle.pfl_base.specs.Packets.{is_request, is_tcp}
+use Rattle.pfl_base.proofs.ForCallers.{names_exact, names_total}
+use Rattle.pfl_edits.specs.Maps as maps
+use Rattle.pfl_edits.proofs.ForCallers.{get-set_at_same}
+use Rattle.pfl_rules.specs.declared.rule.Rule.{Rule}
+use Rattle.pfl_rules.specs.Matching.{is_pass}
+use Rattle.pfl_rules.specs.Rules.{deciding, rule_at, verdict_by}
+use Rattle.pfl_track.specs.declared.peer.Peer.{Peer}
+use Rattle.pfl_track.specs.declared.state.State.{State}
+use Rattle.pfl_track.specs.declared.tracked.Tracked.{Tracked}
+use Rattle.pfl_track.specs.declared.tracked.Tracked.TheVariants.{Moved, OutOfWindow, Reused}
+use Rattle.pfl_track.specs.Edges.{TestsAgree, is_met, window_test}
+use Rattle.pfl_track.specs.Tracking.{is_closed, moved, receiver, sender, tracked, tracked_other}
+use Rattle.pfl_track.specs.Windows.{begun, is_inside, receiver_after, sender_after}
+use Rattle.pfl_language.specs.declared.fate.Fate.TheVariants as fate
+use Rattle.pfl_language.specs.declared.fate.Reason.TheVariants as reason
+use Rattle.pfl_world.proofs.ForCallers.track.{Stays, tracked-stays}
+use Rattle.pfl_world.specs.desk.Changes.{deleted, mark, put_state}
+use Rattle.pfl_world.specs.desk.Nodes.{Node}
+use Rattle.pfl_world.specs.node.Packets.{followed, handled, handled_by}
+use Rattle.pfl_world.specs.node.Starting.{Handled, announced, by_rule, drop, hold, is_at_max, is_deferred, judged, new_state, next_name, pass}
+use Rattle.pfl_world.specs.node.Starting.{started, with_new, with_room}
+use Rattle.pfl_world.specs.table.Tables.{by_stack, by_wire, count_of_rule, found}
+use Rattle.pfl_world.specs.table.Translating.{is_taken, new_keys}
+use Rattle.pfl_world.specs.queue.declared.Kind.TheVariants.{Insert}
+use Rattle.pfl_reasons.specs.declared.packet_reason.Judged.TheVariants as made
+use Rattle.pfl_reasons.specs.Deciding.{Decides}
+use Rattle.pfl_reasons.specs.Packets.{HandledSo, HasState, IsPassedBy, IsReuse, JudgedSo, TestedSo, by_found, by_keys, by_tracked, judged_reason, packet_reason}
+use Rattle.pfl_reasons.specs.Packets.{rule_reason, start_reason, tested}
+use Rattle.pfl_reasons.proofs.Deciding.{decides, none-decides}
+use Rattle.pfl_reasons.proofs.Stated.{owner, some_and}
+
+-- ---- a packet that no state takes
+
+-- a rule has its limit of states, or more
+at-max : (most : Option ℕ) (states : ℕ) → option_map_or (λ m. nat_le m states) most false ≡ true
+    → (most ≡ Some (unwrap_or most 0)) × (unwrap_or most 0 ≤ states)
+at-max None states is = absurd (cc)
+at-max (Some m) states is = (refl, leb-true m states is)
+
+module _ (n : Node) (dir : Dir) (p : Packet) where
+  -- a new state is there then, with its rule
+  Announced : State → Handled → Type 0
+  Announced s h = ((h.fate ≡ fate.Pass (Some s.name)) ⊎ (h.fate ≡ fate.Held s.name)) × IsSomeAnd (maps.get h.node.states s.name) (λ t. t.rule ≡ s.rule)
+
+  announced-so : (m : Node) (s : State) → maps.get m.states s.name ≡ Some s → Announced s (announced m s dir p)
+  unfolding Announced
+  announced-so m s at = (by s.no_sync (is_deferred m dir), there s.no_sync (is_deferred m dir))
+    where
+      marked : Node
+      marked = mark m s.name Insert
+
+      waiting : State
+      waiting = record s { ack_wanted = true }
+
+      kept : IsSomeAnd (maps.get m.states s.name) (λ (t : State). t.rule ≡ s.rule)
+      kept = some_and (λ (t : State). t.rule ≡ s.rule) (maps.get m.states s.name) s at refl
+
+      put : (k : Node) → IsSomeAnd (maps.get (put_state k waiting).states s.name) (λ (t : State). t.rule ≡ s.rule)
+      put k = some_and (λ (t : State). t.rule ≡ s.rule) (maps.get (put_state k waiting).states s.name) waiting
+          (get-set_at_same names_total names_exact k.states s.name (Some waiting)) refl
+
+      given : Bool → Bool → Handled
+      given untold deferred = cond untold (pass m (Some s.name)) (cond deferred (hold (with_room marked) s p) (pass marked (Some s.name)))
+
+      by : (untold deferred : Bool) → ((given untold deferred).fate ≡ fate.Pass (Some s.name)) ⊎ ((given untold deferred).fate ≡ fate.Held s.name)
+      by true deferred = inl refl
+      by false true = inr refl
+      by false false = inl refl
+
+      there : (untold deferred : Bool) → IsSomeAnd (maps.get (given untold deferred).node.states s.name) (λ (t : State). t.rule ≡ s.rule)
+      there true deferred = kept
+      there false true = put (with_room marked)
+      there false false = kept
+
+  -- the rule that decides passes it
+  module _ (number : ℕ) (r : Rule) (decided : Decides n.rules.list p dir number r) (passed : is_pass r.action ≡ true) where
+    by_it : (P : Rule → Type 0) → P r → IsPassedBy n dir p number P
+    by_it P holds = (r, decided, passed, holds)
+
+    keyed-so : (wire stack : Option State) → by_wire n.states (new_keys n.states r (key p dir)).wire ≡ wire
+        → by_stack n.states (new_keys n.states r (key p dir)).stack ≡ stack → (new : Handled)
+        → ((new.fate ≡ fate.Pass (Some (next_name n))) ⊎ (new.fate ≡ fate.Held (next_name n)))
+        × IsSomeAnd (maps.get new.node.states (next_name n)) (λ t. t.rule ≡ Some number)
+        → JudgedSo n dir p (by_keys number wire stack (made.Makes number (next_name n))) (cond (is_some wire || is_some stack) (drop n reason.Key) new)
+    keyed-so (Some s) stack on at new so = (
+      refl,
+      by_it (λ r. HasState n s.name (λ t. is_key t.wire (new_keys n.states r (key p dir)).wire ≡ true))
+          (owner n (λ (t : State). is_key t.wire (new_keys n.states r (key p dir)).wire) s on),
+    )
+    keyed-so None (Some s) on at new so = (
+      refl,
+      by_it (λ r. HasState n s.name (λ t. is_key t.stack (new_keys n.states r (key p dir)).stack ≡ true))
+          (owner n (λ (t : State). is_key t.stack (new_keys n.states r (key p dir)).stack) s at),
+    )
+    keyed-so None None on at new so = (so.0, so.1, by_it (λ r. next_name n ≡ next_name n) refl)
+
+    started-so : JudgedSo n dir p (start_reason n dir p number r) (started n dir p number r)
+    unfolding started Announced
+    started-so = by (is_at_max n number r) (nat_le n.limits.states (maps.len n.states)) refl refl
+      where
+        s : State
+        s = new_state n dir p number r
+
+        by : (most full : Bool) → is_at_max n number r ≡ most → nat_le n.limits.states (maps.len n.states) ≡ full
+            → JudgedSo n dir p (cond most (made.AtMax number (unwrap_or r.max 0) (count_of_rule n.states number))
+            (cond full (made.Full number n.limits.states (maps.len n.states))
+            (by_keys number (by_wire n.states (new_keys n.states r (key p dir)).wire)
+            (by_stack n.states (new_keys n.states r (key p dir)).stack) (made.Makes number (next_name n)))))
+            (cond most (drop n reason.Max)
+            (cond full (drop n reason.Full)
+            (cond (is_taken n.states (new_keys n.states r (key p dir))) (drop n reason.Key) (announced (with_new n s) s dir p))))
+        by true full most room =
+            let so = at-max r.max (count_of_rule n.states number) most in (
+              refl,
+              by_it (λ q. (q.max ≡ Some (unwrap_or r.max 0)) × (count_of_rule n.states number ≡ count_of_rule n.states number)
+                  × (unwrap_or r.max 0 ≤ count_of_rule n.states number)) (so.0, refl, so.1),
+            )
+        by false true most room = (
+          refl,
+          by_it (λ q. (n.limits.states ≡ n.limits.states) × (maps.len n.states ≡ maps.len n.states) × (n.limits.states ≤ maps.len n.states))
+              (refl, refl, leb-true n.limits.states (maps.len n.states) room),
+        )
+        by false false most room = keyed-so (by_wire n.states (new_keys n.states r (key p dir)).wire)
+            (by_stack n.states (new_keys n.states r (key p dir)).stack) refl refl (announced (with_new n s) s dir p)
+            (announced-so (with_new n s) s (get-set_at_same names_total names_exact n.states s.name (Some s)))
+
+  -- the rules are asked
+  by_rule-so : (number : ℕ) (r : Rule) → Decides n.rules.list p dir number r → is_pass r.action ≡ true
+      → JudgedSo n dir p (option_map_or (start_reason n dir p number) (rule_at n.rules.list (Some number)) made.Unmatched) (by_rule n dir p (Some number))
+  by_rule-so number r decided passed =
+      subst (λ (o : Option Rule). JudgedSo n dir p (option_map_or (start_reason n dir p number) o made.Unmatched)
+      (option_map_or (started n dir p number) o (pass n None))) (sym decided.there) (started-so number r decided passed)
+
+  judged-so : JudgedSo n dir p (judged_reason n dir p) (judged n dir p)
+  unfolding judged judged_reason
+  judged-so = by (deciding n.rules.list p dir) refl
+    where
+      by : (o : Option (ℕ × Rule)) → deciding n.rules.list p dir ≡ o
+          → JudgedSo n dir p (option_map_or (rule_reason n dir p (verdict_by o)) (verdict_by o).rule made.Unmatched)
+          (cond (verdict_by o).pass (by_rule n dir p (verdict_by o).rule) (drop n reason.Block))
+      by None is = (refl, none-decides n.rules.list p dir is)
+      by (Some e) is = elim (is_pass e.1.action) as
+          (λ b. is_pass e.1.action ≡ b → JudgedSo n dir p (cond b (option_map_or (start_reason n dir p e.0) (rule_at n.rules.list (Some e.0)) made.Unmatched)
+          (made.Blocked e.0)) (cond b (by_rule n dir p (Some e.0)) (drop n reason.Block))) [
+            | true ↦ λ passed. by_rule-so e.0 e.1 (decides n.rules.list p dir e is) passed
+            | false ↦ λ blocked. (refl, (e.1, decides n.rules.list p dir e is, blocked))
+          ] refl
+
+-- ---- a packet of a state
+
+-- what tracking makes of a packet that misses no edge, or one
+SaysOfWindow : Bool → Tracked → Type 0
+SaysOfWindow met (Moved t) = met ≡ true
+SaysOfWindow met OutOfWindow = met ≡ false
+SaysOfWindow met Reused = Unit {0}
+
+abbrev misses_none : State → Dir → Packet → Bool
+misses_none s dir p = option_map_or is_met (tested s dir p) true
+
+tracked-says : TestsAgree → (s : State) (p : Packet) (dir : Dir) (now : ℕ) → SaysOfWindow (misses_none s dir p) (tracked s p dir now)
+unfolding SaysOfWindow
+tracked-says agree s p dir now = by (is_tcp p.proto) (is_request p && is_closed s)
+  where
+    from : Peer
+    from = begun (sender s dir) (receiver s dir) p
+
+    to : Peer
+    to = receiver s dir
+
+    in_window : (inside : Bool) (t : State) → is_met (window_test s dir p) ≡ inside
+        → SaysOfWindow (is_met (window_test s dir p)) (cond (not inside) OutOfWindow (Moved t))
+    in_window true t e = e
+    in_window false t e = e
+
+    by : (tcp again : Bool)
+        → SaysOfWindow (option_map_or is_met (cond tcp (Some (window_test s dir p)) None) true)
+        (cond tcp (cond again Reused
+        (cond (not (is_inside from to p)) OutOfWindow (Moved (moved s dir (sender_after from p) (receiver_after from to p) now))))
+        (Moved (tracked_other s dir now)))
+    by true true = tt
+    by true false = in_window (is_inside from to p) _ (agree from to p)
+    by false again = refl
+
+-- a new connection over a closed one
+tracked-reuse : (s : State) (p : Packet) (dir : Dir) (now : ℕ) → tracked s p dir now ≡ Reused → IsReuse s p
+tracked-reuse s p dir now =
+    by (is_tcp p.proto) (is_request p) (is_closed s) (is_inside (begun (sender s dir) (receiver s dir) p) (receiver s dir) p) _ _
+  where
+    by : (tcp asks closed inside : Bool) (t u : State)
+        → cond tcp (cond (asks && closed) Reused (cond (not inside) OutOfWindow (Moved t))) (Moved u) ≡ Reused
+        → (tcp ≡ true) × (asks ≡ true) × (closed ≡ true)
+    by true true true inside t u is = (refl, refl, refl)
+    by true true false true t u is = absurd (cc)
+    by true true false false t u is = absurd (cc)
+    by true false closed true t u is = absurd (cc)
+    by true false closed false t u is = absurd (cc)
+    by false asks closed inside t u is = absurd (cc)
+
+module _ (n : Node) (dir : Dir) (p : Packet) (s : State) (at : found n.states (key p dir) dir ≡ Some s) where
+  found-so : IsSomeAnd (found n.states (key p dir) dir) (λ t. (t.name ≡ s.name) × (tested s dir p ≡ tested t dir p))
+  found-so = some_and (λ (t : State). (t.name ≡ s.name) × (tested s dir p ≡ tested t dir p)) (found n.states (key p dir) dir) s at (refl, refl)
+
+  followed-so : (x : Tracked) → tracked s p dir n.clock ≡ x → Stays s x → SaysOfWindow (misses_none s dir p) x
+      → HandledSo n dir p (by_tracked n dir p s x) (followed n dir p s x)
+  unfolding SaysOfWindow
+  followed-so (Moved t) is stays met = (
+    found-so,
+    subst (λ b. TestedSo n s.name b (followed n dir p s (Moved t))) (sym met) (ap (λ name. fate.Pass (Some name)) stays.name),
+  )
+  followed-so OutOfWindow is stays met = (found-so, subst (λ b. TestedSo n s.name b (drop n reason.Window)) (sym met) refl)
+  followed-so Reused is stays met =
+      let made = judged_reason (deleted n s) dir p in
+      some_and (λ (t : State). (t.name ≡ s.name) × IsReuse t p × JudgedSo (deleted n t) dir p made (judged (deleted n s) dir p))
+      (found n.states (key p dir) dir) s at (refl, tracked-reuse s p dir n.clock is, judged-so (deleted n s) dir p)
+
+pub handled-so : TestsAgree → (n : Node) (dir : Dir) (p : Packet) → HandledSo n dir p (packet_reason n dir p) (handled n dir p)
+unfolding handled packet_reason
+handled-so agree n dir p = by (found n.states (key p dir) dir) refl
+  where
+    by : (o : Option State) → found n.states (key p dir) dir ≡ o → HandledSo n dir p (by_found n dir p o) (handled_by n dir p o)
+    by None at = (at, judged-so n dir p)
+    by (Some s) at = followed-so n dir p s at (tracked s p dir n.clock) refl (tracked-stays s p dir n.clock) (tracked-says agree s p dir n.clock)
