@@ -19,6 +19,7 @@ from ..language.lines import LONGEST_LINE
 from ..language.records import BY_WORD, KINDS, QUEUES
 from ..language.searches import ANY, DEEPEST, MOST_CHOICES, MOST_PHASES, OF_PACKET, OF_PAIR, SCOPES, SEARCH, THEN
 from ..language.setups import CLASSES, LIMITS, MOST_RULES, RULE_FORM, STATES
+from ..programs import FOLLOW, SETUP_WORD, VIEW
 from ..reasons import commands, events, refusals
 from . import TOP
 
@@ -171,6 +172,12 @@ class Complete(unittest.TestCase):
             data = Bytes(bytes([0] * 14 + [1] + [0] * kind.size)[: kind.size])
             words = [kind.word, *_READERS.get(kind, Bytes.name)(data).split()]
             self.assertEqual((data.data.strip(b"\0"), Record.read(words).kind), (b"", kind))
+
+    def test_words_of_sessions(self) -> None:
+        """A server takes a first line such as `show /` for a session's and not for a browser's, whichever word of sessions it begins with."""
+        with open(f"{TOP}/crates/pfl_doors/src/request.rt", encoding="utf-8") as it:
+            body = it.read().partition("\nfn is_command(")[2].partition("\n}\n")[0]
+        self.assertEqual(sorted(re.findall(r'is_word\(word, "([^"]*)"\)', body)), sorted([*COMMANDS, SETUP_WORD, FOLLOW, VIEW]))
 
 
 if __name__ == "__main__":
