@@ -17,6 +17,8 @@ INSTALLED_WORDS = (
     *((f"./lab {word}", f"pfl_shell {word}") for word in ("shell", "verify", "annotate", "chart", "page", "whatif", "compare", "import")),
     ("[docs/FORMATS.md](../docs/FORMATS.md)", "pfl_lab(1)"),
     ("[page](../docs/PAGE.md)", "page"),
+    ("[docs/KERNEL.md](../docs/KERNEL.md)", "`help kernel` of pfl_shell"),
+    ("docs/KERNEL.md", "`help kernel` of pfl_shell"),
 )
 
 

@@ -8,6 +8,7 @@ pub mod Sequence
 pub mod Classes
 pub mod Lists
 pub mod Nodes
+pub mod Kernels
 pub mod Refusals
 pub mod Texts
 pub mod Words

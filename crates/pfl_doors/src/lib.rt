@@ -1,5 +1,5 @@
-//! What the connections of sessions come through, the port of this machine among it, and a reader that gives nothing of what a browser
-//! sends.
+//! Doors, through which the connections of sessions come: a trait, the doors of the network, and a reader that gives nothing of what a
+//! browser sends.
 #![tactic(auto)]
 
 mod doors;

@@ -1,6 +1,9 @@
--- The limits of a node and of the link (this project's profile): their words, their ranges, and their values where nothing is said.
+-- The limits of a node and of the link (this project's profile): their words, their ranges, and their values where nothing is said;
+-- and which rules are the kernel's.
 use Rattle.std.specs.Prelude.{◌≤◌, ℕ, ◌*◌, ◌/◌, false, not, ◌==◌, nat_lt, List, [], ◌∷◌, find, bytes_eq, codes, Option, Some, None, unwrap_or, if◌then◌else◌}
 use Rattle.std.specs.List.{AllByRecursion, list_any}
+use Rattle.pfl_base.specs.declared.kernel.Kernel.{Kernel}
+use Rattle.pfl_base.specs.Kernels.{profile, rules_of_either}
 use Rattle.pfl_base.specs.Numbers.{greatest}
 use Rattle.pfl_rules.specs.declared.adaptive.Adaptive.{Adaptive}
 use Rattle.pfl_language.specs.declared.limits.Limit.{Limit}
@@ -63,6 +66,7 @@ default_limits = record {
   bulk_ms = 10000;
   astart = None;
   aend = None;
+  kernel = profile;
 }
 
 -- the limits with this value of one
@@ -79,6 +83,10 @@ with_limit l Batch n = record l { batch = n }
 with_limit l BulkMs n = record l { bulk_ms = n }
 with_limit l AdaptiveStart n = record l { astart = Some n }
 with_limit l AdaptiveEnd n = record l { aend = Some n }
+
+-- the limits with these rules of the kernel besides
+abbrev pub with_kernel : Limits → Kernel → Limits
+with_kernel l kernel = record l { kernel = rules_of_either l.kernel kernel }
 
 -- the numbers of states between which timeouts shrink: where they are not set, three and six fifths of the limit `states` (pf.conf(5),
 -- `adaptive.start` and `adaptive.end`; how they are truncated, and that one alone may be set, is this project's profile)

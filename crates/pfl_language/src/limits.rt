@@ -4,7 +4,7 @@ ghost use Rattle.std.specs.Prelude.{◌≡◌, ◌≤◌, nat_lt, IfSome};
 ghost use Rattle.std.specs.List.{list_any};
 ghost use Rattle.pfl_language.specs.Limits as meant;
 
-use pfl_base::GREATEST_NUMBER;
+use pfl_base::{GREATEST_NUMBER, Kernel};
 use pfl_rules::Adaptive;
 
 /// A limit, by name.
@@ -121,7 +121,7 @@ pub enum LimitFault {
     TooLarge,
 }
 
-/// The limits of a node and of the link. Times are in milliseconds.
+/// The limits of a node and of the link, and which rules are the kernel's. Times are in milliseconds.
 #[derive(Clone, Copy, Debug, PartialEq, Eq)]
 pub struct Limits {
     /// How many states a node holds.
@@ -148,6 +148,8 @@ pub struct Limits {
     pub astart: Option<u32>,
     /// From how many states on they are 0 (pf.conf(5), `adaptive.end`). `None`: six fifths of `states`.
     pub aend: Option<u32>,
+    /// Which rules of packets and of the peer's records are the kernel's, at both nodes.
+    pub kernel: Kernel,
 }
 
 impl Default for Limits {
@@ -167,6 +169,7 @@ impl Default for Limits {
             bulk_ms: 10000,
             astart: None,
             aend: None,
+            kernel: Kernel::profile(),
         }
     }
 }
@@ -192,6 +195,16 @@ impl Limits {
             Limit::AdaptiveEnd => limits.aend = Some(n),
         }
         limits
+    }
+
+    /// The limits with these rules of the kernel besides.
+    pub fn with_kernel(self, kernel: Kernel) -> Limits
+        ensures { result ≡ meant.with_kernel self kernel }
+    {
+        Limits {
+            kernel: self.kernel.union(kernel),
+            ..self
+        }
     }
 
     /// Why these limits are none, if there is a reason: any that is too small comes before any that is too large.

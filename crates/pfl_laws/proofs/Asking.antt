@@ -1,7 +1,8 @@
--- A turn and a retry of a bulk update change what is to be sent and who waits: neither states, nor held packets, nor names.
+-- A turn and a retry of a bulk update change what is to be sent and who waits: neither states, nor held packets, nor names, nor limits.
 use Rattle.std.specs.Prelude.{◌≡◌, ℕ, Bool, true, false, List, [], ◌∷◌, refl}
 use Rattle.std.proofs.Common.{cond, ap, sym, subst, arith}
 use Rattle.pfl_base.specs.declared.state_name.StateName.{StateName}
+use Rattle.pfl_language.specs.declared.limits.Limits.{Limits}
 use Rattle.pfl_world.specs.table.Tables.{States, AreStates}
 use Rattle.pfl_world.specs.queue.declared.Kind.TheVariants.{Update}
 use Rattle.pfl_world.specs.bulk.Bulk.{no_name, asks_again, is_last_turn}
@@ -19,10 +20,10 @@ use Rattle.pfl_laws.proofs.Holding.{same-holds}
 
 -- what the laws speak of
 abbrev pub Basis : Type 0
-Basis = States × (Deferrals × (ℕ × ℕ))
+Basis = States × (Deferrals × (ℕ × (ℕ × Limits)))
 
 abbrev pub basis : Node → Basis
-basis n = (n.states, (n.held, (n.creator, n.next_id)))
+basis n = (n.states, (n.held, (n.creator, (n.next_id, n.limits))))
 
 queued-basis : (names : List StateName) (n : Node) → basis (queued n names) ≡ basis n
 queued-basis [] n = refl
@@ -48,10 +49,11 @@ retried-basis n = by (asks_again n.client)
 
 pub basis-keeps : (q : StateName) (n m : Node) → basis m ≡ basis n → Keeps Alike q n m
 basis-keeps q n m e =
-    let next : m.next_id ≡ n.next_id = ap (λ (b : Basis). b.1.1.1) e in
+    let next : m.next_id ≡ n.next_id = ap (λ (b : Basis). b.1.1.1.0) e in
     record {
       creator = ap (λ (b : Basis). b.1.1.0) e;
       next = omega arith;
+      limits = ap (λ (b : Basis). b.1.1.1.1) e;
       comes = comes-same Alike n.states m.states q Alike-itself (ap (λ (b : Basis). b.0) e);
     }
 

@@ -7,12 +7,14 @@ use Rattle.std.proofs.Common.{◌∙◌, T, cond, ap, sym, subst, arith, inl, in
 use Rattle.std.proofs.lemmas.Bool.Decides.{nat_tests}
 use Rattle.std.proofs.lemmas.List.Elements.{All-head, All-tail}
 use Rattle.pfl_base.specs.Lists.{folds}
+use Rattle.pfl_base.specs.declared.kernel.Kernel.{Kernel}
 use Rattle.pfl_base.specs.declared.state_name.StateName.{StateName}
 use Rattle.pfl_base.proofs.ForCallers.{names_total, names_exact}
 use Rattle.pfl_base.specs.Names.{is_name}
 use Rattle.pfl_base.specs.Packets.{is_tcp}
 use Rattle.pfl_edits.specs.Maps as maps
 use Rattle.pfl_edits.proofs.ForCallers.{key_cases}
+use Rattle.pfl_language.specs.declared.limits.Limits.{Limits}
 use Rattle.pfl_world.specs.track.declared.state.State.{State}
 use Rattle.pfl_world.specs.table.Tables.{AreStates}
 use Rattle.pfl_world.specs.wire.declared.fault.BadFrame.{BadFrame}
@@ -35,24 +37,25 @@ use Rattle.pfl_world.specs.receive.Receiving.{taken, insert_taken, can_import, m
 use Rattle.pfl_world.specs.receive.Receiving.{is_partly_announced, ack_taken, delete_taken, is_known, cleared_names, of_state, of_update}
 use Rattle.pfl_world.proofs.ForCallers.node.{taken-apart}
 use Rattle.pfl_world.specs.receive.Delivering.{same_rules}
-use Rattle.pfl_laws.specs.Laws.{HasRisen, HasState, IsTied, Holds, LetsOut, OneLetsOut, RecordsLetGoOnlySo}
+use Rattle.pfl_laws.specs.Laws.{HasState, IsTied, Holds, LetsOut, OneLetsOut, RecordsLetGoOnlySo}
 use Rattle.pfl_world.specs.Delivering.{frame_points}
 use Rattle.pfl_laws.proofs.Following.{inner}
 use Rattle.pfl_laws.proofs.Holding.{other-holds, released-held}
 use Rattle.pfl_laws.proofs.Reading.{AreRecords, frame-is}
-use Rattle.pfl_laws.proofs.Records.{levels-record}
+use Rattle.pfl_laws.proofs.Merged.{RisesBy}
+use Rattle.pfl_laws.proofs.Records.{risen-itself, risen-then, levels-by}
 use Rattle.pfl_laws.proofs.Removing.{forgotten-removes, removed-holds}
 use Rattle.pfl_laws.proofs.Tied.{tied-same, changed-puts, Puts, lost-held, forgotten-held, without}
 use Rattle.pfl_laws.proofs.Waiting.{AreGiven, tied-record}
 use Rattle.pfl_laws.proofs.Each.{StandsRightly, taken-rightly, taken-given}
 
--- ---- what a record leaves: the boot and the next id
+-- ---- what a record leaves: the boot, the next id and the limits
 
 abbrev pub Ids : Type 0
-Ids = ℕ × ℕ
+Ids = ℕ × ℕ × Limits
 
 abbrev pub ids : Node → Ids
-ids n = (n.creator, n.next_id)
+ids n = (n.creator, n.next_id, n.limits)
 
 ids-either : (i : Ids) (b : Bool) (x y : Node) → ids x ≡ i → ids y ≡ i → ids (cond b x y) ≡ i
 ids-either i true x y k l = k
@@ -92,7 +95,7 @@ merged-ids n x =
     ids-either (ids n) (x.stale_src || x.stale_dst) (push_if true (changed (count_stale n) calm)) (put_state n calm) (changed-ids (count_stale n) calm) refl
 
 merge-ids : (n : Node) (s : State) (r : Received) → ids (merge_taken n s r) ≡ ids n
-merge-ids n s r = merged-ids (lost n s.name) (merged s r (timeout_at n s.rule r.class) n.clock) ∙ lost-ids n s.name
+merge-ids n s r = merged-ids (lost n s.name) (merged n.limits.kernel s r (timeout_at n s.rule r.class) n.clock) ∙ lost-ids n s.name
 
 insert-ids : (n : Node) (b : Bool) (r : StateRecord) (ack : Bool) → ids (insert_taken n b r ack) ≡ ids n
 insert-ids n b r ack = ids-either (ids n) (not (can_import n r)) _ _ refl (ids-either (ids n) ack _ _ refl refl)
@@ -142,7 +145,7 @@ out n k m name h held reason holds = elim (key_cases names_total names_exact h.n
 merge-stays : (n : Node) (m : Message) (s : State) (r : Received) (h : Held) → (h.name ≡ s.name → LetsOut m h.name) → Holds n h
     → Stays n m h (merge_taken n s r)
 merge-stays n m s r h reason holds =
-    let x = merged s r (timeout_at n s.rule r.class) n.clock in
+    let x = merged n.limits.kernel s r (timeout_at n s.rule r.class) n.clock in
     let l = lost n s.name in
     let calm : State = record x.state { ack_wanted = false } in
     let puts : Puts (count_stale l) calm (changed (count_stale l) calm) = changed-puts (count_stale l) calm in
@@ -249,27 +252,22 @@ module _ (b : Bool) where
   all-rightly q (m ∷ ms) n are fit each = all-rightly q ms (taken n b m) (taken-apart n b m are) fit.1 (taken-rightly q n b m are.filed fit.0 each)
 
   -- a state that stands after each of them has risen
-  all-rise : (q : StateName) (ms : List Message) (n : Node) → AreStates n.states → All (HasState q) (folds (λ k m. taken k b m) n ms)
-      → (s t : State) → maps.get n.states q ≡ Some s → maps.get (fold (λ k m. taken k b m) n ms).states q ≡ Some t → HasRisen s t
-  all-rise q [] n are stand s t before later = let same : s ≡ t = inner s t (sym before ∙ later)
-      in subst (HasRisen s) same (record { src = omega arith; dst = omega arith })
-  all-rise q (m ∷ ms) n are stand s t before later =
+  all-rise : (x : Kernel) (q : StateName) (ms : List Message) (n : Node) → n.limits.kernel ≡ x → AreStates n.states
+      → All (HasState q) (folds (λ k m. taken k b m) n ms)
+      → (s t : State) → maps.get n.states q ≡ Some s → maps.get (fold (λ k m. taken k b m) n ms).states q ≡ Some t → RisesBy x s t
+  all-rise x q [] n kernel are stand s t before later = let same : s ≡ t = inner s t (sym before ∙ later)
+      in subst (RisesBy x s) same (risen-itself x s)
+  all-rise x q (m ∷ ms) n kernel are stand s t before later =
       let k = taken n b m in
       let points = folds (λ k m. taken k b m) k ms in
+      let next : k.limits.kernel ≡ x = ap (λ (i : Ids). i.2.kernel) (taken-ids n b m) ∙ kernel in
       by (maps.get k.states q) refl (All-head (HasState q) k points stand)
-      (λ u e. all-rise q ms k (taken-apart n b m are) (All-tail (HasState q) k points stand) u t e later)
+      (λ u e. all-rise x q ms k next (taken-apart n b m are) (All-tail (HasState q) k points stand) u t e later)
     where
       by : (o : Option State) → maps.get (taken n b m).states q ≡ o → is_some o ≡ true
-          → ((u : State) → maps.get (taken n b m).states q ≡ Some u → HasRisen u t) → HasRisen s t
+          → ((u : State) → maps.get (taken n b m).states q ≡ Some u → RisesBy x u t) → RisesBy x s t
       by None e some rest = absurd (subst T (sym some) tt)
-      by (Some u) e some rest =
-          let first = levels-record n b m are q s u before e in
-          let next = rest u e in
-          let src_first = first.src in
-          let src_next = next.src in
-          let dst_first = first.dst in
-          let dst_next = next.dst in
-          record { src = omega arith; dst = omega arith }
+      by (Some u) e some rest = risen-then x s u t (levels-by n x b m kernel are q s u before e) (rest u e)
 
 -- ---- a frame
 
@@ -305,8 +303,9 @@ received-rightly q n bytes (Ok f) e are each = all-rightly (same_rules n f) q (r
 received-rightly q n bytes (Err why) e are each = each
 
 -- a state that stands at each point of the frame has risen
-pub received-rises : (q : StateName) (n : Node) (r : Result Frame BadFrame) → AreStates n.states → All (HasState q) (frame_points n r)
-    → (s t : State) → maps.get n.states q ≡ Some s → maps.get (received n r).states q ≡ Some t → HasRisen s t
-received-rises q n (Ok f) are stand s t before later = all-rise (same_rules n f) q (records_of f) n are stand s t before later
-received-rises q n (Err why) are stand s t before later =
-    let same : s ≡ t = inner s t (sym before ∙ later) in subst (HasRisen s) same (record { src = omega arith; dst = omega arith })
+pub received-rises : (x : Kernel) (q : StateName) (n : Node) (r : Result Frame BadFrame) → n.limits.kernel ≡ x → AreStates n.states
+    → All (HasState q) (frame_points n r)
+    → (s t : State) → maps.get n.states q ≡ Some s → maps.get (received n r).states q ≡ Some t → RisesBy x s t
+received-rises x q n (Ok f) kernel are stand s t before later = all-rise (same_rules n f) x q (records_of f) n kernel are stand s t before later
+received-rises x q n (Err why) kernel are stand s t before later =
+    let same : s ≡ t = inner s t (sym before ∙ later) in subst (RisesBy x s) same (risen-itself x s)

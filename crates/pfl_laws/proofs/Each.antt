@@ -4,6 +4,7 @@ use Rattle.std.specs.Prelude.{◌≡◌, ◌<◌, ℕ, Bool, true, false, not, �
 use Rattle.std.specs.List.{fold}
 use Rattle.std.specs.Option.{option_map_or}
 use Rattle.std.proofs.Common.{◌∙◌, T, cond, sym, subst, inl, inr}
+use Rattle.pfl_base.specs.declared.kernel.Kernel.{Kernel}
 use Rattle.pfl_base.specs.declared.state_name.StateName.{StateName}
 use Rattle.pfl_base.proofs.ForCallers.{names_total, names_exact}
 use Rattle.pfl_base.specs.Names.{is_name}
@@ -19,7 +20,7 @@ use Rattle.pfl_world.specs.wire.declared.message.Message.TheVariants as message
 use Rattle.pfl_world.specs.wire.declared.message.StateRecord.{StateRecord}
 use Rattle.pfl_world.specs.merge.declared.received.Received.{Received}
 use Rattle.pfl_world.specs.merge.declared.merged.Merged.{Merged}
-use Rattle.pfl_world.specs.merge.Merging.{merged, refreshed, stale_src, stale_dst}
+use Rattle.pfl_world.specs.merge.Merging.{merged, refreshed, keeps_dst, stale_src, stale_dst}
 use Rattle.pfl_world.specs.queue.declared.Kind.TheVariants.{InsertAck, Update}
 use Rattle.pfl_world.specs.queue.Queues.{kind_of}
 use Rattle.pfl_world.specs.bulk.Bulk.{no_name}
@@ -31,7 +32,8 @@ use Rattle.pfl_world.specs.receive.Receiving.{of_update}
 use Rattle.pfl_world.proofs.ForCallers.receive.{may-import}
 use Rattle.pfl_laws.proofs.Following.{Alike, Filed, inner, waiting-is}
 use Rattle.pfl_laws.proofs.Keeping.{Keeps, released-keeps}
-use Rattle.pfl_laws.proofs.Records.{lost-states, forgotten-states, merged-name}
+use Rattle.pfl_laws.proofs.Merged.{merged-name}
+use Rattle.pfl_laws.proofs.Records.{lost-states, forgotten-states}
 use Rattle.pfl_laws.proofs.Removing.{forgotten-removes, all-keep}
 use Rattle.pfl_laws.proofs.Tied.{Puts, changed-puts}
 use Rattle.pfl_laws.proofs.Waiting.{AreGiven}
@@ -98,9 +100,10 @@ module _ (P : State → Type 0) (still : (s : State) (ack : Bool) (updates : ℕ
       each-either (x.stale_src || x.stale_dst) (push_if true (changed (count_stale n) calm)) (put_state n calm)
       (each-changed (count_stale n) calm each calm_is) (each-put n.states calm each calm_is)
 
-  each-merge : (n : Node) (s : State) (r : Received) → ((seconds now : ℕ) → P (merged s r seconds now).state) → Each n.states → Each (merge_taken n s r).states
+  each-merge : (n : Node) (s : State) (r : Received) → ((seconds now : ℕ) → P (merged n.limits.kernel s r seconds now).state) → Each n.states
+      → Each (merge_taken n s r).states
   each-merge n s r is each =
-      each-merged (lost n s.name) (merged s r (timeout_at n s.rule r.class) n.clock) (subst Each (sym (lost-states n s.name)) each)
+      each-merged (lost n s.name) (merged n.limits.kernel s r (timeout_at n s.rule r.class) n.clock) (subst Each (sym (lost-states n s.name)) each)
       (is (timeout_at n s.rule r.class) n.clock)
 
   -- a state that is taken over
@@ -126,8 +129,8 @@ module _ (P : State → Type 0) (still : (s : State) (ack : Bool) (updates : ℕ
   abbrev pub Brings : Node → Bool → Message → Type 0
   Brings n b (message.Insert r) = can_import n r ≡ true → P (imported n b r)
   Brings n b (message.Update r) = (can_import n r ≡ true → P (imported n b r))
-      × ((s : State) (seconds now : ℕ) → P s → P (merged s (of_state r) seconds now).state)
-  Brings n b (message.UpdateShort u) = (s : State) (seconds now : ℕ) → P s → P (merged s (of_update u) seconds now).state
+      × ((s : State) (seconds now : ℕ) → P s → P (merged n.limits.kernel s (of_state r) seconds now).state)
+  Brings n b (message.UpdateShort u) = (s : State) (seconds now : ℕ) → P s → P (merged n.limits.kernel s (of_update u) seconds now).state
   Brings n b _ = Unit {0}
 
   pub each-record : (n : Node) (b : Bool) (m : Message) → Filed n.states → Brings n b m → Each n.states → Each (taken n b m).states
@@ -156,17 +159,18 @@ one_of : (b : Bool) (x y : Peer) → IsPeer x → IsPeer y → IsPeer (cond b x 
 one_of true x y k l = k
 one_of false x y k l = l
 
-merged-is : (s : State) (r : Received) (seconds now : ℕ) → IsPeer r.src → IsPeer r.dst → IsState s → IsState (merged s r seconds now).state
-merged-is s r seconds now src dst is = by (not (stale_src s r && stale_dst s r))
+merged-is : (k : Kernel) (s : State) (r : Received) (seconds now : ℕ) → IsPeer r.src → IsPeer r.dst → IsState s
+    → IsState (merged k s r seconds now).state
+merged-is k s r seconds now src dst is = by (not (stale_src s r && stale_dst s r))
   where
     src_is : IsPeer (cond (stale_src s r) s.src r.src)
     src_is = one_of (stale_src s r) s.src r.src is.src src
 
-    dst_is : IsPeer (cond (stale_dst s r) s.dst r.dst)
-    dst_is = one_of (stale_dst s r) s.dst r.dst is.dst dst
+    dst_is : IsPeer (cond (keeps_dst k s r) s.dst r.dst)
+    dst_is = one_of (keeps_dst k s r) s.dst r.dst is.dst dst
 
     with_ends : State
-    with_ends = record s { src = cond (stale_src s r) s.src r.src; dst = cond (stale_dst s r) s.dst r.dst; peer_change = Some now }
+    with_ends = record s { src = cond (stale_src s r) s.src r.src; dst = cond (keeps_dst k s r) s.dst r.dst; peer_change = Some now }
 
     is_with : IsState with_ends
     is_with = record {
@@ -215,10 +219,12 @@ record-brings q n b (message.Insert r) is = λ can same. imported-is n b r is
 record-brings q n b (message.InsertAck name) is = tt
 record-brings q n b (message.Update r) is = (
   λ can same. imported-is n b r is,
-  λ s seconds now one same. merged-is s (of_state r) seconds now is.src is.dst (one (sym (merged-name s (of_state r) seconds now) ∙ same)),
+  λ s seconds now one same.
+      merged-is n.limits.kernel s (of_state r) seconds now is.src is.dst (one (sym (merged-name n.limits.kernel s (of_state r) seconds now) ∙ same)),
 )
 record-brings q n b (message.UpdateShort u) is =
-    λ s seconds now one same. merged-is s (of_update u) seconds now is.0 is.1 (one (sym (merged-name s (of_update u) seconds now) ∙ same))
+    λ s seconds now one same.
+    merged-is n.limits.kernel s (of_update u) seconds now is.0 is.1 (one (sym (merged-name n.limits.kernel s (of_update u) seconds now) ∙ same))
 record-brings q n b (message.UpdateRequest name) is = tt
 record-brings q n b (message.Delete r) is = tt
 record-brings q n b (message.DeleteShort name) is = tt
@@ -246,10 +252,11 @@ low-brings n b (message.Insert r) = λ can. (may-import n r (can_import n r) ref
 low-brings n b (message.InsertAck name) = tt
 low-brings n b (message.Update r) = (
   λ can. (may-import n r (can_import n r) refl can).given,
-  λ s seconds now low. subst (λ (name : StateName). name.creator ≡ n.creator → name.id < n.next_id) (sym (merged-name s (of_state r) seconds now)) low,
+  λ s seconds now low.
+      subst (λ (name : StateName). name.creator ≡ n.creator → name.id < n.next_id) (sym (merged-name n.limits.kernel s (of_state r) seconds now)) low,
 )
 low-brings n b (message.UpdateShort u) = λ s seconds now low.
-    subst (λ (name : StateName). name.creator ≡ n.creator → name.id < n.next_id) (sym (merged-name s (of_update u) seconds now)) low
+    subst (λ (name : StateName). name.creator ≡ n.creator → name.id < n.next_id) (sym (merged-name n.limits.kernel s (of_update u) seconds now)) low
 low-brings n b (message.UpdateRequest name) = tt
 low-brings n b (message.Delete r) = tt
 low-brings n b (message.DeleteShort name) = tt

@@ -68,7 +68,7 @@ pub flushed-keeps : (q : StateName) (n : Node) → AreStates n.states → Keeps 
 unfolding flushed
 flushed-keeps q n are =
     alike-then q n (sending n) (fold update_count_cleared (sending n) (next_frame n.queue n.limits.mtu))
-    (record { creator = refl; next = (keeps-itself Alike q n Alike-itself).next; comes = (keeps-itself Alike q n Alike-itself).comes })
+    (record { creator = refl; next = (keeps-itself Alike q n Alike-itself).next; limits = refl; comes = (keeps-itself Alike q n Alike-itself).comes })
     (entries-keep q (next_frame n.queue n.limits.mtu) (sending n) are)
 
 pub flushed-apart : (n : Node) → AreStates n.states → AreStates (flushed n).states

@@ -2,6 +2,7 @@
 use Rattle.std.specs.Prelude.{◌≡◌, ℕ, Bool, Some, None, refl}
 use Rattle.std.proofs.Common.{◌∙◌, ap, sym, subst, arith, inl, inr}
 use Rattle.pfl_base.specs.declared.direction.Dir.{Dir}
+use Rattle.pfl_base.specs.declared.kernel.Kernel.{Kernel}
 use Rattle.pfl_base.specs.declared.packet.Packet.{Packet}
 use Rattle.pfl_base.specs.declared.state_name.StateName.{StateName}
 use Rattle.pfl_base.proofs.ForCallers.{names_total, names_exact}
@@ -12,8 +13,8 @@ use Rattle.pfl_world.specs.track.declared.state.State.{State}
 use Rattle.pfl_world.specs.track.declared.tracked.Tracked.TheVariants.{Moved}
 use Rattle.pfl_world.specs.track.Laws.{RisesInRange}
 use Rattle.pfl_world.specs.track.States.{IsState}
-use Rattle.pfl_world.specs.track.Tracking.{tracked}
-use Rattle.pfl_world.proofs.ForCallers.track.{tracked-is, tracked-rises}
+use Rattle.pfl_world.specs.track.Rules.{tracked_by}
+use Rattle.pfl_world.proofs.ForCallers.track.{lowers-none, stays-state}
 use Rattle.pfl_world.specs.table.Tables.{States}
 
 -- ---- states
@@ -68,12 +69,12 @@ alike-follows-then C s t u e f =
       is = λ holds is. on.is holds (waiting-is s t.ack_wanted t.updates is);
     }
 
--- a state that a packet moved follows too
-pub moved-follows : (s : State) (p : Packet) (dir : Dir) (now : ℕ) (t : State) (ack : Bool) (updates : ℕ) → tracked s p dir now ≡ Moved t
+-- a state that a packet moved follows too, whichever rules are the kernel's
+pub moved-follows : (k : Kernel) (s : State) (p : Packet) (dir : Dir) (now : ℕ) (t : State) (ack : Bool) (updates : ℕ) → tracked_by k s p dir now ≡ Moved t
     → Follows (IsPacket p) s (record t { ack_wanted = ack; updates = updates })
-moved-follows s p dir now t ack updates e = record {
-  rises = λ is. waiting-rises s t ack updates (tracked-rises s p dir now t is e);
-  is = λ packet is. waiting-is t ack updates (tracked-is s p dir now t is packet e);
+moved-follows k s p dir now t ack updates e = record {
+  rises = λ is. waiting-rises s t ack updates (lowers-none k s p dir now t is e);
+  is = λ packet is. waiting-is t ack updates (stays-state k s p dir now t is packet e);
 }
 
 -- ---- what stands under a name

@@ -14,8 +14,7 @@ use Rattle.pfl_world.specs.rules.Rules.{verdict, rule_at}
 use Rattle.pfl_world.specs.track.declared.state.State.{State}
 use Rattle.pfl_world.specs.track.declared.tracked.Tracked.{Tracked}
 use Rattle.pfl_world.specs.track.declared.tracked.Tracked.TheVariants.{Moved, OutOfWindow, Reused}
-use Rattle.pfl_world.specs.track.Tracking.{tracked}
-use Rattle.pfl_world.proofs.ForCallers.track.{Stays, tracked-stays}
+use Rattle.pfl_world.proofs.ForCallers.track.{Stays, tracked_by-stays}
 use Rattle.pfl_world.specs.table.Tables.{States, AreStates, found}
 use Rattle.pfl_world.specs.table.Translating.{is_taken, new_keys}
 use Rattle.pfl_world.proofs.ForCallers.table.{found-stands}
@@ -24,7 +23,7 @@ use Rattle.pfl_world.specs.defer.Deferring.{pushed_out}
 use Rattle.pfl_world.specs.desk.Nodes.{Node, IsGiven}
 use Rattle.pfl_world.specs.desk.Changes.{mark, freed, changed, deleted}
 use Rattle.pfl_world.specs.node.Starting.{Handled, started, judged, by_rule, announced, hold, with_room, with_new, new_state, next_name, is_at_max, is_deferred}
-use Rattle.pfl_world.specs.node.Packets.{handled, handled_by, followed, accepted}
+use Rattle.pfl_world.specs.node.Packets.{handled, handled_by, followed, accepted, tracked_at}
 use Rattle.pfl_laws.proofs.Following.{Alike, Alike-itself, Follows, alike-follows, alike-follows-then, moved-follows, comes-removed, Filed, filed-put}
 use Rattle.pfl_laws.proofs.Keeping.{Keeps, keeps-then, alike-then, keeps-as, keeps-itself, keeps-given, on_some, put_other-keeps, freed-states}
 use Rattle.pfl_laws.proofs.Keeping.{freed-keeps, released-keeps, changed-keeps, deleted-states, deleted-keeps}
@@ -51,7 +50,7 @@ not_next n q given same =
     omega arith
 
 new-keeps : (q : StateName) (n : Node) (s : State) → q ≢ s.name → Keeps Alike q n (with_new n s)
-new-keeps q n s other = record { creator = refl; next = omega arith; comes = (put_other-keeps q n s other).comes }
+new-keeps q n s other = record { creator = refl; next = omega arith; limits = refl; comes = (put_other-keeps q n s other).comes }
 
 room-keeps : (q : StateName) (n : Node) → Filed n.states → Keeps Alike q n (with_room n)
 room-keeps q n filed = on_some Alike q n (pushed_out n.held) _ n (λ h at. released-keeps q n h.name filed) (keeps-itself Alike q n Alike-itself)
@@ -59,7 +58,7 @@ room-keeps q n filed = on_some Alike q n (pushed_out n.held) _ n (λ h at. relea
 hold-keeps : (q : StateName) (n : Node) (s : State) (p : Packet) → q ≢ s.name → Keeps Alike q n (hold n s p).node
 hold-keeps q n s p other =
     let put = put_other-keeps q n (record s { ack_wanted = true }) other in
-    record { creator = refl; next = omega arith; comes = put.comes }
+    record { creator = refl; next = omega arith; limits = refl; comes = put.comes }
 
 -- the state is not that of the name
 pub announced-keeps : (q : StateName) (n : Node) (s : State) (dir : Dir) (p : Packet) → Filed n.states → q ≢ s.name → Keeps Alike q n (announced n s dir p).node
@@ -109,7 +108,7 @@ follows-itself C s = alike-follows C s s refl
 
 -- the state s moved to t
 pub accepted-keeps : (q : StateName) (n : Node) (dir : Dir) (p : Packet) (s t : State) → maps.get n.states s.name ≡ Some s
-    → t.name ≡ s.name → tracked s p dir n.clock ≡ Moved t → Keeps (Follows (IsPacket p)) q n (accepted n t).node
+    → t.name ≡ s.name → tracked_at n s p dir ≡ Moved t → Keeps (Follows (IsPacket p)) q n (accepted n t).node
 accepted-keeps q n dir p s t at named e =
     keeps-then Alike (Follows (IsPacket p)) (Follows (IsPacket p)) q n (freed n t.name)
     (changed (freed n t.name) (record t { ack_wanted = false })) (alike-follows-then (IsPacket p))
@@ -117,11 +116,11 @@ accepted-keeps q n dir p s t at named e =
     (changed-keeps (Follows (IsPacket p)) q (freed n t.name) (record t { ack_wanted = false }) (follows-itself (IsPacket p)) (λ same updates. record {
       state = s;
       at = ap (maps.get (freed n t.name).states) (same ∙ named) ∙ (ap (λ (m : States). maps.get m s.name) (freed-states n t.name) ∙ at);
-      so = moved-follows s p dir n.clock t false updates e;
+      so = moved-follows n.limits.kernel s p dir n.clock t false updates e;
     }))
 
 followed-keeps : (q : StateName) (n : Node) (dir : Dir) (p : Packet) (s : State) (x : Tracked) → Filed n.states → IsGiven n q
-    → maps.get n.states s.name ≡ Some s → Stays s x → tracked s p dir n.clock ≡ x → Keeps (Follows (IsPacket p)) q n (followed n dir p s x).node
+    → maps.get n.states s.name ≡ Some s → Stays s x → tracked_at n s p dir ≡ x → Keeps (Follows (IsPacket p)) q n (followed n dir p s x).node
 followed-keeps q n dir p s (Moved t) filed given at stays e = accepted-keeps q n dir p s t at stays.name e
 followed-keeps q n dir p s OutOfWindow filed given at stays e = keeps-itself (Follows (IsPacket p)) q n (follows-itself (IsPacket p))
 followed-keeps q n dir p s Reused filed given at stays e =
@@ -138,5 +137,5 @@ handled-keeps q n dir p are given = by (found n.states (key p dir) dir) refl
   where
     by : (o : Option State) → found n.states (key p dir) dir ≡ o → Keeps (Follows (IsPacket p)) q n (handled_by n dir p o).node
     by None e = keeps-as Alike (Follows (IsPacket p)) q n (judged n dir p).node (alike-follows (IsPacket p)) (judged-keeps q n dir p are.filed given)
-    by (Some s) e = followed-keeps q n dir p s (tracked s p dir n.clock) are.filed given (found-stands n.states (key p dir) dir s are e)
-        (tracked-stays s p dir n.clock) refl
+    by (Some s) e = followed-keeps q n dir p s (tracked_at n s p dir) are.filed given (found-stands n.states (key p dir) dir s are e)
+        (tracked_by-stays n.limits.kernel s p dir n.clock) refl

@@ -5,6 +5,7 @@ use Rattle.std.proofs.Common.{◌∙◌, ap, cond, sym, arith}
 use Rattle.pfl_base.specs.declared.state_name.StateName.{StateName}
 use Rattle.pfl_base.specs.Packets.{is_tcp}
 use Rattle.pfl_edits.specs.Maps as maps
+use Rattle.pfl_language.specs.declared.limits.Limits.{Limits}
 use Rattle.pfl_world.specs.track.declared.state.State.{State}
 use Rattle.pfl_world.specs.table.Tables.{States}
 use Rattle.pfl_world.specs.queue.Queues.{kind_of}
@@ -13,14 +14,16 @@ use Rattle.pfl_world.specs.desk.Changes.{put_state, is_held, is_unannounced, fre
 use Rattle.pfl_world.proofs.ForCallers.desk.{Rest, deleted-rest}
 use Rattle.pfl_laws.proofs.Following.{Alike, Alike-itself, Alike-then, From, Comes, comes-then, comes-same, comes-put, comes-removed, Filed}
 
--- the creator stays, ids go on, and what stands under the name comes from what stood there
-pub record Kept (R : State → State → Type 0) (q : StateName) (old_creator old_next : ℕ) (m : States) (new_creator new_next : ℕ) (k : States) : Type 0 where
+-- the creator and the limits stay, ids go on, and what stands under the name comes from what stood there
+pub record Kept (R : State → State → Type 0) (q : StateName) (old_creator old_next : ℕ) (old_limits : Limits) (m : States)
+    (new_creator new_next : ℕ) (new_limits : Limits) (k : States) : Type 0 where
   pub creator : new_creator ≡ old_creator
   pub next : old_next ≤ new_next
+  pub limits : new_limits ≡ old_limits
   pub comes : Comes R m k q
 
 abbrev pub Keeps : (State → State → Type 0) → StateName → Node → Node → Type 0
-Keeps R q n m = Kept R q n.creator n.next_id n.states m.creator m.next_id m.states
+Keeps R q n m = Kept R q n.creator n.next_id n.limits n.states m.creator m.next_id m.limits m.states
 
 pub keeps-then : (R S T : State → State → Type 0) (q : StateName) (n m l : Node) → ((s t u : State) → R s t → S t u → T s u)
     → Keeps R q n m → Keeps S q m l → Keeps T q n l
@@ -30,6 +33,7 @@ keeps-then R S T q n m l on first next =
     record {
       creator = next.creator ∙ first.creator;
       next = omega arith;
+      limits = next.limits ∙ first.limits;
       comes = comes-then R S T n.states m.states l.states q on first.comes next.comes;
     }
 
@@ -42,11 +46,12 @@ pub keeps-as : (R S : State → State → Type 0) (q : StateName) (n m : Node) �
 keeps-as R S q n m as_well k = record {
   creator = k.creator;
   next = k.next;
+  limits = k.limits;
   comes = λ t at. let from = k.comes t at in record { state = from.state; at = from.at; so = as_well from.state t from.so };
 }
 
 pub keeps-itself : (R : State → State → Type 0) (q : StateName) (n : Node) → ((s : State) → R s s) → Keeps R q n n
-keeps-itself R q n itself = record { creator = refl; next = omega arith; comes = comes-same R n.states n.states q itself refl }
+keeps-itself R q n itself = record { creator = refl; next = omega arith; limits = refl; comes = comes-same R n.states n.states q itself refl }
 
 -- a name that was given stays given
 pub keeps-given : (R : State → State → Type 0) (q : StateName) (n m : Node) → Keeps R q n m → IsGiven n q → IsGiven m q
@@ -71,7 +76,7 @@ on_some R q n (Some x) f d k l = k x refl
 -- a state is put
 pub put-keeps : (R : State → State → Type 0) (q : StateName) (n : Node) (u : State) → ((s : State) → R s s)
     → (q ≡ u.name → From R n.states q u) → Keeps R q n (put_state n u)
-put-keeps R q n u itself here = record { creator = refl; next = omega arith; comes = comes-put R n.states u q itself here }
+put-keeps R q n u itself here = record { creator = refl; next = omega arith; limits = refl; comes = comes-put R n.states u q itself here }
 
 -- under another name
 pub put_other-keeps : (q : StateName) (n : Node) (u : State) → q ≢ u.name → Keeps Alike q n (put_state n u)
@@ -128,5 +133,6 @@ deleted-keeps q n s =
     record {
       creator = creator;
       next = omega arith;
+      limits = ap (λ (r : Rest). r.0) (deleted-rest n s);
       comes = λ t at. comes-removed n.states s.name q t (ap (λ (m : States). maps.get m q) (sym (deleted-states n s)) ∙ at);
     }

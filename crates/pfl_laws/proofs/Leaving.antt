@@ -17,7 +17,6 @@ use Rattle.pfl_world.specs.rules.Rules.{verdict, rule_at}
 use Rattle.pfl_world.specs.track.declared.state.State.{State}
 use Rattle.pfl_world.specs.track.declared.tracked.Tracked.{Tracked}
 use Rattle.pfl_world.specs.track.declared.tracked.Tracked.TheVariants.{Moved, OutOfWindow, Reused}
-use Rattle.pfl_world.specs.track.Tracking.{tracked}
 use Rattle.pfl_world.specs.table.Tables.{found}
 use Rattle.pfl_world.specs.table.Translating.{is_taken, new_keys}
 use Rattle.pfl_world.proofs.ForCallers.table.{found-stands}
@@ -44,7 +43,7 @@ use Rattle.pfl_world.specs.node.Events.{restarted}
 use Rattle.pfl_world.specs.node.Turning as turning
 use Rattle.pfl_world.specs.node.Retrying.{retried_client}
 use Rattle.pfl_world.specs.node.Flushing.{flushed, update_count_cleared}
-use Rattle.pfl_world.specs.node.Packets.{handled, handled_by, followed, accepted, before_rules, on_the_way}
+use Rattle.pfl_world.specs.node.Packets.{handled, handled_by, followed, accepted, before_rules, on_the_way, tracked_at}
 use Rattle.pfl_world.specs.node.Starting.{Handled, pass, hold, started, judged, by_rule, announced, with_room, with_new, new_state, is_at_max, is_deferred}
 use Rattle.pfl_world.specs.Worlds.{World, node_at, with_node}
 use Rattle.pfl_laws.specs.Laws.{FrameLetsOut, HeldPacketsLeaveOnlySo, Holds, LetsGo, NodeLetsGo, LetsOldestGo, OneLetsOut, asked_at}
@@ -164,7 +163,7 @@ handled-gone n dir p h is holds = by (found n.states (key p dir) dir) refl
     by None e = stays-gone n n dir p h (judged n dir p) (judged-stays n h dir p holds)
     by (Some s) e =
         let stands = found-stands n.states (key p dir) dir s is.parts.states e in
-        followed-gone n dir p h s (tracked s p dir n.clock) is.parts.states.filed (is.parts.each s.name s stands).given holds
+        followed-gone n dir p h s (tracked_at n s p dir) is.parts.states.filed (is.parts.each s.name s stands).given holds
 
 -- ---- the other events
 

@@ -2,6 +2,7 @@ pub mod Following
 pub mod Keeping
 pub mod Handling
 pub mod Flushing
+pub mod Merged
 pub mod Records
 pub mod Tied
 pub mod Holding
@@ -23,3 +24,5 @@ pub mod Naming
 pub mod InFlight
 pub mod Sound
 pub mod Leaving
+pub mod Rest
+mod WorkedRest

@@ -1,23 +1,23 @@
--- A record of the peer's lowers no level: a merge takes an end only where it is not behind the held one.
-use Rattle.std.specs.Prelude.{◌≡◌, ◌≤◌, ℕ, Bool, true, false, not, ◌&&◌, ◌||◌, List, [], ◌∷◌, Option, Some, None, is_some, refl}
+-- A record of the peer's lowers no level, but that of a destination that `merge` takes: a merge takes an end only where it is not behind the
+-- held one, and else a record leaves states, takes them out, or brings one under a name that had none.
+use Rattle.std.specs.Prelude.{◌≡◌, ◌⊎◌, ℕ, Bool, true, false, not, ◌&&◌, ◌||◌, List, [], ◌∷◌, Option, Some, None, is_some, refl}
 use Rattle.std.specs.List.{fold}
 use Rattle.std.specs.Option.{option_map_or}
 use Rattle.std.proofs.Common.{◌∙◌, T, cond, ap, sym, subst, arith, inl, inr}
-use Rattle.std.proofs.lemmas.Bool.Decides.{nat_tests}
+use Rattle.pfl_base.specs.declared.kernel.Kernel.{Kernel}
 use Rattle.pfl_base.specs.declared.state_name.StateName.{StateName}
 use Rattle.pfl_base.proofs.ForCallers.{names_total, names_exact}
 use Rattle.pfl_base.specs.Names.{is_name}
-use Rattle.pfl_base.specs.Packets.{is_tcp}
 use Rattle.pfl_edits.specs.Maps as maps
 use Rattle.pfl_edits.proofs.ForCallers.{get-set_at_cases}
-use Rattle.pfl_world.specs.track.declared.peer.Peer.{Peer}
 use Rattle.pfl_world.specs.track.declared.state.State.{State}
-use Rattle.pfl_world.specs.table.Tables.{States}
+use Rattle.pfl_world.specs.table.Tables.{States, AreStates}
+use Rattle.pfl_world.specs.wire.declared.message.Message.{Message}
 use Rattle.pfl_world.specs.wire.declared.message.StateRecord.{StateRecord}
 use Rattle.pfl_world.specs.wire.declared.message.Message.TheVariants as message
 use Rattle.pfl_world.specs.merge.declared.received.Received.{Received}
 use Rattle.pfl_world.specs.merge.declared.merged.Merged.{Merged}
-use Rattle.pfl_world.specs.merge.Merging.{merged, stale_src, stale_dst, stale_source, stale_destination, is_ahead}
+use Rattle.pfl_world.specs.merge.Merging.{merged}
 use Rattle.pfl_world.specs.queue.declared.Kind.TheVariants.{InsertAck, Update}
 use Rattle.pfl_world.specs.queue.Queues.{kind_of}
 use Rattle.pfl_world.specs.bulk.Bulk.{no_name}
@@ -27,53 +27,12 @@ use Rattle.pfl_world.specs.desk.Changes.{count_stale, ask}
 use Rattle.pfl_world.specs.receive.Receiving.{taken, insert_taken, can_import, imported, merge_taken, merged_into, bulk_taken, state_answered}
 use Rattle.pfl_world.specs.receive.Receiving.{is_partly_announced, request_taken, ack_taken, delete_taken, status_taken, is_known, cleared_names}
 use Rattle.pfl_world.specs.receive.Receiving.{of_state, of_update}
-use Rattle.pfl_laws.specs.Laws.{HasRisen, LevelsRise, RecordsLowerNoLevel}
+use Rattle.pfl_laws.specs.Laws.{HasRisen, Updates, TakenWhole, RecordsLowerNoLevel, RecordsLowerNoSource, RecordsLowerOnlySo}
 use Rattle.pfl_laws.proofs.Following.{Alike, Alike-then, From, Comes, comes-then, comes-removed, inner, Filed}
 use Rattle.pfl_laws.proofs.Keeping.{Keeps, keeps-as, put-keeps, changed-keeps, released-keeps}
-
--- ---- what has risen
-
-risen-itself : (s : State) → HasRisen s s
-risen-itself s = record { src = omega arith; dst = omega arith }
-
--- how it waits, and what it has counted, is no matter
-alike-risen : (s t : State) → Alike s t → HasRisen s t
-alike-risen s t e = subst (HasRisen s) (sym e) (record { src = omega arith; dst = omega arith })
-
--- where what stands comes from what stood, and has risen
-from-risen : (q : StateName) (n m : Node) → Keeps HasRisen q n m → (s t : State) → maps.get n.states q ≡ Some s → maps.get m.states q ≡ Some t → HasRisen s t
-from-risen q n m keeps s t before later =
-    let from = keeps.comes t later in
-    subst (λ (u : State). HasRisen u t) (inner from.state s (sym from.at ∙ before)) from.so
-
--- and so where it is alike
-alike-up : (n m : Node) → ((q : StateName) → Keeps Alike q n m) → LevelsRise n m
-alike-up n m keeps q = from-risen q n m (keeps-as Alike HasRisen q n m alike-risen (keeps q))
-
-same-up : (n m : Node) → m.states ≡ n.states → LevelsRise n m
-same-up n m e q s t before later =
-    subst (HasRisen s) (inner s t (sym before ∙ (ap (λ (l : States). maps.get l q) (sym e) ∙ later))) (risen-itself s)
-
--- ---- choices
-
-either : (n : Node) (b : Bool) (x y : Node) → LevelsRise n x → LevelsRise n y → LevelsRise n (cond b x y)
-either n true x y k l = k
-either n false x y k l = l
-
-either_by : (n : Node) (b : Bool) (x y : Node) → (b ≡ true → LevelsRise n x) → (b ≡ false → LevelsRise n y) → LevelsRise n (cond b x y)
-either_by n true x y k l = k refl
-either_by n false x y k l = l refl
-
-on_some : {X : Type 0} (n : Node) (o : Option X) (f : X → Node) (d : Node) → ((x : X) → o ≡ Some x → LevelsRise n (f x))
-    → (o ≡ None → LevelsRise n d) → LevelsRise n (option_map_or f o d)
-on_some n None f d k l = l refl
-on_some n (Some x) f d k l = k x refl
+use Rattle.pfl_laws.proofs.Merged.{RisesBy, Then, merged-name, merged-rises, merged-so, or_false}
 
 -- ---- a state that is taken over
-
-or_false : (a b : Bool) → (a || b) ≡ false → (a ≡ false) × (b ≡ false)
-or_false true b e = absurd (subst T e tt)
-or_false false b e = (refl, e)
 
 not_not : (b : Bool) → not (not b) ≡ false → b ≡ false
 not_not true e = absurd (subst T e tt)
@@ -83,64 +42,7 @@ not_not false e = refl
 pub can_import-unknown : (n : Node) (r : StateRecord) → not (can_import n r) ≡ false → is_known n r.name ≡ false
 can_import-unknown n r e = (or_false _ _ (or_false _ _ (or_false _ _ (or_false _ _ (not_not _ e)).0).0).0).0
 
--- a state is put where none stood
-put-up : (n m : Node) (u : State) → m.states ≡ maps.insert n.states u.name u → is_known n u.name ≡ false → LevelsRise n m
-put-up n m u e unknown q s t before later =
-    elim (get-set_at_cases names_total names_exact n.states u.name (Some u) q t (ap (λ (l : States). maps.get l q) (sym e) ∙ later)) [
-      | inl own ↦ absurd (subst T (sym (ap (λ (o : Option State). is_some o) (ap (maps.get n.states) (sym own.0) ∙ before)) ∙ unknown) tt)
-      | inr other ↦ subst (HasRisen s) (inner s t (sym before ∙ other.1)) (risen-itself s)
-    ]
-
-insert-up : (n : Node) (b : Bool) (r : StateRecord) (ack : Bool) → LevelsRise n (insert_taken n b r ack)
-insert-up n b r ack = either_by n (not (can_import n r)) _ _ (λ e. same-up n (count_bad n) refl) (λ e.
-    let unknown = can_import-unknown n r e in
-    let new = put_state n (imported n b r) in
-    let told = push_if true (mark new r.name InsertAck) in
-    either n ack told new (put-up n told (imported n b r) refl unknown) (put-up n new (imported n b r) refl unknown))
-
--- ---- merging
-
-level_of : (stale : Bool) (held received : Peer) → (stale ≡ false → held.level ≤ received.level) → held.level ≤ (cond stale held received).level
-level_of true held received up = omega arith
-level_of false held received up = up refl
-
-not_ahead : (held received : Peer) → is_ahead held received ≡ false → held.level ≤ received.level
-not_ahead held received e = grind (arith, nat_tests)
-
--- by the protocol
-src_up : (s : State) (r : Received) → stale_src s r ≡ false → s.src.level ≤ r.src.level
-src_up s r = by (is_tcp s.wire.proto)
-  where
-    by : (b : Bool) → cond b (stale_source s.src r.src) (is_ahead s.src r.src) ≡ false → s.src.level ≤ r.src.level
-    by true e = not_ahead s.src r.src (or_false _ _ e).0
-    by false e = not_ahead s.src r.src e
-
-dst_up : (s : State) (r : Received) → stale_dst s r ≡ false → s.dst.level ≤ r.dst.level
-dst_up s r = by (is_tcp s.wire.proto)
-  where
-    by : (b : Bool) → cond b (stale_destination s.dst r.dst) (is_ahead s.dst r.dst) ≡ false → s.dst.level ≤ r.dst.level
-    by true e = not_ahead s.dst r.dst (or_false _ _ e).0
-    by false e = not_ahead s.dst r.dst e
-
-choose : (s : State) (b : Bool) (x y : State) → HasRisen s x → HasRisen s y → HasRisen s (cond b x y)
-choose s true x y k l = k
-choose s false x y k l = l
-
-merged-risen : (s : State) (r : Received) (seconds now updates : ℕ)
-    → HasRisen s (record (merged s r seconds now).state { ack_wanted = false; updates = updates })
-merged-risen s r seconds now updates =
-    let up : HasRisen s (merged s r seconds now).state =
-    choose s (not (stale_src s r && stale_dst s r)) _ _
-    (record { src = level_of (stale_src s r) s.src r.src (src_up s r); dst = level_of (stale_dst s r) s.dst r.dst (dst_up s r) })
-    (record { src = level_of (stale_src s r) s.src r.src (src_up s r); dst = level_of (stale_dst s r) s.dst r.dst (dst_up s r) }) in
-    record { src = up.src; dst = up.dst }
-
-named : (s : State) (b : Bool) (x y : State) → x.name ≡ s.name → y.name ≡ s.name → (cond b x y).name ≡ s.name
-named s true x y k l = k
-named s false x y k l = l
-
-pub merged-name : (s : State) (r : Received) (seconds now : ℕ) → (merged s r seconds now).state.name ≡ s.name
-merged-name s r seconds now = named s (not (stale_src s r && stale_dst s r)) _ _ refl refl
+-- ---- deletions
 
 pub lost-states : (n : Node) (name : StateName) → (lost n name).states ≡ n.states
 lost-states n name = by (is_held n name)
@@ -148,33 +50,6 @@ lost-states n name = by (is_held n name)
     by : (b : Bool) → (cond b (count_lost (without_held n name)) n).states ≡ n.states
     by true = refl
     by false = refl
-
--- n with the merged state, in the place of s
-merged-keeps : (q : StateName) (n : Node) (s : State) (x : Merged) → maps.get n.states s.name ≡ Some s → x.state.name ≡ s.name
-    → ((updates : ℕ) → HasRisen s (record x.state { ack_wanted = false; updates = updates })) → Keeps HasRisen q n (merged_into n x)
-merged-keeps q n s x at named up = by (x.stale_src || x.stale_dst)
-  where
-    calm : State
-    calm = record x.state { ack_wanted = false }
-
-    here : q ≡ calm.name → (updates : ℕ) → From HasRisen n.states q (record calm { updates = updates })
-    here same updates = record { state = s; at = ap (maps.get n.states) (same ∙ named) ∙ at; so = up updates }
-
-    by : (b : Bool) → Keeps HasRisen q n (cond b (push_if true (changed (count_stale n) calm)) (put_state n calm))
-    by true = let k = changed-keeps HasRisen q (count_stale n) calm risen-itself here in record { creator = k.creator; next = k.next; comes = k.comes }
-    by false = put-keeps HasRisen q n calm risen-itself (λ same. here same calm.updates)
-
-merge-up : (n : Node) (s : State) (r : Received) → maps.get n.states s.name ≡ Some s → LevelsRise n (merge_taken n s r)
-merge-up n s r at q a t before later =
-    let seconds = timeout_at n s.rule r.class in
-    let m = lost n s.name in
-    let same = lost-states n s.name in
-    from-risen q m (merge_taken n s r)
-    (merged-keeps q m s (merged s r seconds n.clock) (ap (λ (l : States). maps.get l s.name) same ∙ at) (merged-name s r seconds n.clock)
-    (merged-risen s r seconds n.clock))
-    a t (ap (λ (l : States). maps.get l q) same ∙ before) later
-
--- ---- deletions
 
 pub forgotten-states : (n : Node) (name : StateName) → (forgotten n name).states ≡ maps.remove n.states name
 unfolding forgotten
@@ -189,44 +64,178 @@ all-comes q (name ∷ names) n =
     comes-then Alike Alike Alike n.states (forgotten n name).states (fold forgotten (forgotten n name) names).states q Alike-then
     (forgotten-comes q n name) (all-comes q names (forgotten n name))
 
-comes-up : (n m : Node) → ((q : StateName) → Comes Alike n.states m.states q) → LevelsRise n m
-comes-up n m comes q s t before later =
-    let from = comes q t later in
-    subst (λ (u : State). HasRisen u t) (inner from.state s (sym from.at ∙ before)) (alike-risen from.state t from.so)
-
--- ---- a record
-
 own : (n : Node) (name : StateName) (s : State) → Filed n.states → maps.get n.states name ≡ Some s → maps.get n.states s.name ≡ Some s
 own n name s filed at = subst (λ q. maps.get n.states q ≡ Some s) (sym (filed name s at)) at
 
-request-up : (n : Node) (name : StateName) → LevelsRise n (request_taken n name)
-request-up n name =
-    either n (is_name no_name name) (bulk_taken n) (option_map_or (state_answered n) (maps.get n.states name) (count_bad n)) (same-up n (bulk_taken n) refl)
-    (on_some n (maps.get n.states name) (state_answered n) (count_bad n) (λ s at.
-    let told = push_if true (mark n s.name Update) in
-    either n (not s.no_sync && is_partly_announced (kind_of n.queue s.name)) told n (same-up n told refl) (same-up n n refl))
-    (λ e. same-up n (count_bad n) refl))
+-- ---- any relation of a state to what follows it under its name, to which it is no matter how it waits and what it has counted
 
-delete-up : (n : Node) (name : StateName) → LevelsRise n (delete_taken n name)
-delete-up n name = either n (is_known n name) (forgotten n name) (count_bad n)
-    (comes-up n (forgotten n name) (λ q. forgotten-comes q n name)) (same-up n (count_bad n) refl)
+module _ (R : State → State → Type 0) (alike : (s t : State) → Alike s t → R s t) where
+  -- whatever name has a state before and after
+  abbrev Goes : Node → Node → Type 0
+  Goes old new = (name : StateName) (s t : State) → maps.get old.states name ≡ Some s → maps.get new.states name ≡ Some t → R s t
+
+  itself : (s : State) → R s s
+  itself s = alike s s refl
+
+  -- where what stands comes from what stood
+  goes-from : (q : StateName) (n m : Node) → Keeps R q n m → (s t : State) → maps.get n.states q ≡ Some s → maps.get m.states q ≡ Some t → R s t
+  goes-from q n m keeps s t before later =
+      let from = keeps.comes t later in
+      subst (λ (u : State). R u t) (inner from.state s (sym from.at ∙ before)) from.so
+
+  -- and so where it is alike
+  goes-alike : (n m : Node) → ((q : StateName) → Keeps Alike q n m) → Goes n m
+  goes-alike n m keeps q = goes-from q n m (keeps-as Alike R q n m alike (keeps q))
+
+  goes-same : (n m : Node) → m.states ≡ n.states → Goes n m
+  goes-same n m e q s t before later = subst (R s) (inner s t (sym before ∙ (ap (λ (l : States). maps.get l q) (sym e) ∙ later))) (itself s)
+
+  goes-out : (n m : Node) → ((q : StateName) → Comes Alike n.states m.states q) → Goes n m
+  goes-out n m comes q s t before later =
+      let from = comes q t later in
+      subst (λ (u : State). R u t) (inner from.state s (sym from.at ∙ before)) (alike from.state t from.so)
+
+  either : (n : Node) (b : Bool) (x y : Node) → Goes n x → Goes n y → Goes n (cond b x y)
+  either n true x y k l = k
+  either n false x y k l = l
+
+  either_by : (n : Node) (b : Bool) (x y : Node) → (b ≡ true → Goes n x) → (b ≡ false → Goes n y) → Goes n (cond b x y)
+  either_by n true x y k l = k refl
+  either_by n false x y k l = l refl
+
+  on_some : {X : Type 0} (n : Node) (o : Option X) (f : X → Node) (d : Node) → ((x : X) → o ≡ Some x → Goes n (f x))
+      → (o ≡ None → Goes n d) → Goes n (option_map_or f o d)
+  on_some n None f d k l = l refl
+  on_some n (Some x) f d k l = k x refl
+
+  -- a state is put where none stood
+  put-goes : (n m : Node) (u : State) → m.states ≡ maps.insert n.states u.name u → is_known n u.name ≡ false → Goes n m
+  put-goes n m u e unknown q s t before later =
+      elim (get-set_at_cases names_total names_exact n.states u.name (Some u) q t (ap (λ (l : States). maps.get l q) (sym e) ∙ later)) [
+        | inl own ↦ absurd (subst T (sym (ap (λ (o : Option State). is_some o) (ap (maps.get n.states) (sym own.0) ∙ before)) ∙ unknown) tt)
+        | inr other ↦ subst (R s) (inner s t (sym before ∙ other.1)) (itself s)
+      ]
+
+  insert-goes : (n : Node) (b : Bool) (r : StateRecord) (ack : Bool) → Goes n (insert_taken n b r ack)
+  insert-goes n b r ack = either_by n (not (can_import n r)) _ _ (λ e. goes-same n (count_bad n) refl) (λ e.
+      let unknown = can_import-unknown n r e in
+      let new = put_state n (imported n b r) in
+      let told = push_if true (mark new r.name InsertAck) in
+      either n ack told new (put-goes n told (imported n b r) refl unknown) (put-goes n new (imported n b r) refl unknown))
+
+  -- n with the merged state, in the place of s
+  merged-keeps : (q : StateName) (n : Node) (s : State) (x : Merged) → maps.get n.states s.name ≡ Some s → x.state.name ≡ s.name
+      → ((updates : ℕ) → R s (Then x.state updates)) → Keeps R q n (merged_into n x)
+  merged-keeps q n s x at named so = by (x.stale_src || x.stale_dst)
+    where
+      calm : State
+      calm = record x.state { ack_wanted = false }
+
+      here : q ≡ calm.name → (updates : ℕ) → From R n.states q (record calm { updates = updates })
+      here same updates = record { state = s; at = ap (maps.get n.states) (same ∙ named) ∙ at; so = so updates }
+
+      by : (b : Bool) → Keeps R q n (cond b (push_if true (changed (count_stale n) calm)) (put_state n calm))
+      by true = let k = changed-keeps R q (count_stale n) calm itself here
+          in record { creator = k.creator; next = k.next; limits = k.limits; comes = k.comes }
+      by false = put-keeps R q n calm itself (λ same. here same calm.updates)
+
+  merge-goes : (n : Node) (s : State) (r : Received) → maps.get n.states s.name ≡ Some s
+      → ((seconds now updates : ℕ) → R s (Then (merged n.limits.kernel s r seconds now).state updates)) → Goes n (merge_taken n s r)
+  merge-goes n s r at so q a t before later =
+      let seconds = timeout_at n s.rule r.class in
+      let m = lost n s.name in
+      let same = lost-states n s.name in
+      goes-from q m (merge_taken n s r)
+      (merged-keeps q m s (merged n.limits.kernel s r seconds n.clock) (ap (λ (l : States). maps.get l s.name) same ∙ at)
+      (merged-name n.limits.kernel s r seconds n.clock) (so seconds n.clock))
+      a t (ap (λ (l : States). maps.get l q) same ∙ before) later
+
+  request-goes : (n : Node) (name : StateName) → Goes n (request_taken n name)
+  request-goes n name =
+      either n (is_name no_name name) (bulk_taken n) (option_map_or (state_answered n) (maps.get n.states name) (count_bad n))
+      (goes-same n (bulk_taken n) refl)
+      (on_some n (maps.get n.states name) (state_answered n) (count_bad n) (λ s at.
+      let told = push_if true (mark n s.name Update) in
+      either n (not s.no_sync && is_partly_announced (kind_of n.queue s.name)) told n (goes-same n told refl) (goes-same n n refl))
+      (λ e. goes-same n (count_bad n) refl))
+
+  delete-goes : (n : Node) (name : StateName) → Goes n (delete_taken n name)
+  delete-goes n name = either n (is_known n name) (forgotten n name) (count_bad n)
+      (goes-out n (forgotten n name) (λ q. forgotten-comes q n name)) (goes-same n (count_bad n) refl)
+
+  -- a record, if it is so of what is merged
+  record-goes : (n : Node) (b : Bool) (m : Message) → AreStates n.states
+      → ((s : State) (r : Received) → Updates m s.name r → (seconds now updates : ℕ) → R s (Then (merged n.limits.kernel s r seconds now).state updates))
+      → Goes n (taken n b m)
+  unfolding taken
+  record-goes n b (message.Clear creator bound) are so =
+      goes-out n (fold forgotten n (cleared_names n creator bound)) (λ q. all-comes q (cleared_names n creator bound) n)
+  record-goes n b (message.Insert r) are so = insert-goes n b r r.ack_wanted
+  record-goes n b (message.InsertAck name) are so =
+      on_some n (maps.get n.states name) (ack_taken n) n
+      (λ s at. either n s.ack_wanted (released n s.name) n (goes-alike n (released n s.name) (λ q. released-keeps q n s.name are.filed))
+      (goes-same n n refl)) (λ e. goes-same n n refl)
+  record-goes n b (message.Update r) are so =
+      on_some n (maps.get n.states r.name) (λ s. merge_taken n s (of_state r)) (insert_taken n b r false)
+      (λ s at. merge-goes n s (of_state r) (own n r.name s are.filed at) (so s (of_state r) (sym (are.filed r.name s at), refl))) (λ e. insert-goes n b r false)
+  record-goes n b (message.UpdateShort u) are so =
+      on_some n (maps.get n.states u.name) (λ s. merge_taken n s (of_update u)) (ask n u.name)
+      (λ s at. merge-goes n s (of_update u) (own n u.name s are.filed at) (so s (of_update u) (sym (are.filed u.name s at), refl)))
+      (λ e. goes-same n (ask n u.name) refl)
+  record-goes n b (message.UpdateRequest name) are so = request-goes n name
+  record-goes n b (message.Delete r) are so = delete-goes n r.name
+  record-goes n b (message.DeleteShort name) are so = delete-goes n name
+  record-goes n b (message.Bulk creator status) are so = goes-same n (status_taken n status) refl
+
+-- ---- what has risen
+
+pub risen-itself : (k : Kernel) (s : State) → RisesBy k s s
+risen-itself k s = record { src = omega arith; dst = λ off. omega arith }
+
+pub risen-then : (k : Kernel) (s t u : State) → RisesBy k s t → RisesBy k t u → RisesBy k s u
+risen-then k s t u first next =
+    let source = first.src in
+    let later = next.src in
+    record {
+      src = omega arith;
+      dst = λ off. let destination = first.dst off in let last = next.dst off in omega arith;
+    }
+
+pub risen-all : (k : Kernel) (s t : State) → k.merge ≡ false → RisesBy k s t → HasRisen s t
+risen-all k s t off rises = record { src = rises.src; dst = rises.dst off }
+
+alike-rises : (k : Kernel) (s t : State) → Alike s t → RisesBy k s t
+alike-rises k s t e = subst (RisesBy k s) (sym e) (record { src = omega arith; dst = λ off. omega arith })
+
+alike-risen : (s t : State) → Alike s t → HasRisen s t
+alike-risen s t e = subst (HasRisen s) (sym e) (record { src = omega arith; dst = omega arith })
+
+-- ---- the laws
+
+-- by the rules of the node
+pub levels-by : (n : Node) (k : Kernel) (b : Bool) (m : Message) → n.limits.kernel ≡ k → AreStates n.states
+    → (name : StateName) (s t : State) → maps.get n.states name ≡ Some s → maps.get (taken n b m).states name ≡ Some t → RisesBy k s t
+levels-by n k b m kernel are =
+    record-goes (RisesBy k) (alike-rises k) n b m are
+    (λ s r says seconds now updates. subst (λ (x : Kernel). RisesBy x s (Then (merged n.limits.kernel s r seconds now).state updates)) kernel
+    (merged-rises n.limits.kernel s r seconds now updates))
 
 pub levels-record : RecordsLowerNoLevel
-unfolding taken
-levels-record n b (message.Clear creator bound) are =
-    comes-up n (fold forgotten n (cleared_names n creator bound)) (λ q. all-comes q (cleared_names n creator bound) n)
-levels-record n b (message.Insert r) are = insert-up n b r r.ack_wanted
-levels-record n b (message.InsertAck name) are =
-    on_some n (maps.get n.states name) (ack_taken n) n
-    (λ s at. either n s.ack_wanted (released n s.name) n (alike-up n (released n s.name) (λ q. released-keeps q n s.name are.filed))
-    (same-up n n refl)) (λ e. same-up n n refl)
-levels-record n b (message.Update r) are =
-    on_some n (maps.get n.states r.name) (λ s. merge_taken n s (of_state r)) (insert_taken n b r false)
-    (λ s at. merge-up n s (of_state r) (own n r.name s are.filed at)) (λ e. insert-up n b r false)
-levels-record n b (message.UpdateShort u) are =
-    on_some n (maps.get n.states u.name) (λ s. merge_taken n s (of_update u)) (ask n u.name)
-    (λ s at. merge-up n s (of_update u) (own n u.name s are.filed at)) (λ e. same-up n (ask n u.name) refl)
-levels-record n b (message.UpdateRequest name) are = request-up n name
-levels-record n b (message.Delete r) are = delete-up n r.name
-levels-record n b (message.DeleteShort name) are = delete-up n name
-levels-record n b (message.Bulk creator status) are = same-up n (status_taken n status) refl
+levels-record n b m off are name s t before later = risen-all n.limits.kernel s t off (levels-by n n.limits.kernel b m refl are name s t before later)
+
+pub sources-record : RecordsLowerNoSource
+sources-record n b m are name s t before later = (levels-by n n.limits.kernel b m refl are name s t before later).src
+
+-- it has risen, or both ends of what the record says of it were taken
+abbrev So : Kernel → Message → State → State → Type 0
+So k m s t = HasRisen s t ⊎ ((said : Received) × (Updates m s.name said × TakenWhole k said s t))
+
+pub only-so-record : RecordsLowerOnlySo
+only-so-record n b m are = record-goes (So n.limits.kernel m) (λ s t e. inl (alike-risen s t e)) n b m are
+    (λ s r says seconds now updates. by s r says _ (merged-so n.limits.kernel s r seconds now updates))
+  where
+    by : (s : State) (r : Received) → Updates m s.name r → (t : State) → HasRisen s t ⊎ TakenWhole n.limits.kernel r s t → So n.limits.kernel m s t
+    by s r says t so = elim so [
+      | inl risen ↦ inl risen
+      | inr whole ↦ inr (r, (says, whole))
+    ]

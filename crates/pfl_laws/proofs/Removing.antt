@@ -24,6 +24,7 @@ use Rattle.pfl_laws.proofs.Holding.{other-holds}
 pub record Removes (n : Node) (name : StateName) (m : Node) : Type 0 where
   pub creator : m.creator ≡ n.creator
   pub next : m.next_id ≡ n.next_id
+  pub limits : m.limits ≡ n.limits
   pub states : m.states ≡ maps.remove n.states name
   pub held : m.held ≡ without n.held name
 
@@ -31,6 +32,7 @@ pub deleted-removes : (n : Node) (s : State) → Removes n s.name (deleted n s)
 deleted-removes n s = record {
   creator = ap (λ (r : Rest). r.1.1.1.1.0) (deleted-rest n s);
   next = ap (λ (r : Rest). r.1.1.1.1.1) (deleted-rest n s);
+  limits = ap (λ (r : Rest). r.0) (deleted-rest n s);
   states = deleted-states n s;
   held = deleted-held n s ∙ lost-held n s.name;
 }
@@ -40,6 +42,7 @@ unfolding forgotten
 forgotten-removes n name = record {
   creator = creator_by (is_held n name);
   next = next_by (is_held n name);
+  limits = limits_by (is_held n name);
   states = forgotten-states n name;
   held = forgotten-held n name ∙ lost-held n name;
 }
@@ -52,6 +55,10 @@ forgotten-removes n name = record {
     next_by true = refl
     next_by false = refl
 
+    limits_by : (b : Bool) → (cond b (count_lost (without_held n name)) n).limits ≡ n.limits
+    limits_by true = refl
+    limits_by false = refl
+
 -- ---- one
 
 removed-keeps : (q : StateName) (n m : Node) (name : StateName) → Removes n name m → Keeps Alike q n m
@@ -60,6 +67,7 @@ removed-keeps q n m name out =
     record {
       creator = out.creator;
       next = omega arith;
+      limits = out.limits;
       comes = λ t at. comes-removed n.states name q t (ap (λ (l : States). maps.get l q) (sym out.states) ∙ at);
     }
 

@@ -1,8 +1,9 @@
 -- What events keep of what stands under one name of a node, one after the other; and so levels never fall while it stands.
 use Rattle.std.specs.Prelude.{◌≡◌, ◌<◌, ℕ, true, List, [], ◌∷◌, All, Option, Some, None, is_some, IsSomeAnd, Result, fold, map, option_and_then, refl}
 use Rattle.std.specs.Option.{option_map_or}
-use Rattle.std.proofs.Common.{◌∙◌, T, ap, sym, subst, arith}
+use Rattle.std.proofs.Common.{◌∙◌, T, ap, sym, subst}
 use Rattle.std.proofs.lemmas.List.Elements.{All-nil, All-cons, All-head, All-tail}
+use Rattle.pfl_base.specs.declared.kernel.Kernel.{Kernel}
 use Rattle.pfl_base.specs.declared.node_id.NodeId.{NodeId}
 use Rattle.pfl_base.specs.declared.node_id.NodeId.TheVariants.{A, B}
 use Rattle.pfl_base.specs.declared.state_name.StateName.{StateName}
@@ -16,18 +17,21 @@ use Rattle.pfl_world.specs.wire.Reading.{reading}
 use Rattle.pfl_language.specs.declared.event.Event.{Event}
 use Rattle.pfl_language.specs.declared.event.Event.TheVariants as event
 use Rattle.pfl_language.specs.declared.event.FrameEvent.TheVariants as frame
+use Rattle.pfl_language.specs.declared.limits.Limits.{Limits}
 use Rattle.pfl_world.specs.link.Links.{InFlight}
 use Rattle.pfl_world.specs.desk.Nodes.{Node, IsNode, IsGiven}
 use Rattle.pfl_world.specs.node.Events.{restarted}
 use Rattle.pfl_world.specs.Events.{step, points_at}
 use Rattle.pfl_world.specs.Runs.{run, world_after}
 use Rattle.pfl_world.specs.Worlds.{World, IsWorld, node_at, with_node}
-use Rattle.pfl_laws.specs.Laws.{IsEvent, HasRisen, HasState, StandsThrough, StandsAlong, LevelsNeverFall, LevelsNeverFallAlong, StatesStayApart}
-use Rattle.pfl_laws.specs.Laws.{StatesStayApartAlong}
+use Rattle.pfl_laws.specs.Laws.{IsEvent, HasState, StandsThrough, StandsAlong, LevelsNeverFall, LevelsNeverFallAlong, SourcesNeverFall, SourcesNeverFallAlong}
+use Rattle.pfl_laws.specs.Laws.{StatesStayApart, StatesStayApartAlong}
 use Rattle.pfl_world.specs.Delivering.{frame_points, arrival_points}
 use Rattle.pfl_laws.proofs.Following.{Follows, inner}
 use Rattle.pfl_laws.proofs.Keeping.{Keeps, keeps-given}
 use Rattle.pfl_laws.proofs.Each.{StandsRightly}
+use Rattle.pfl_laws.proofs.Merged.{RisesBy}
+use Rattle.pfl_laws.proofs.Records.{risen-itself, risen-then, risen-all}
 use Rattle.pfl_laws.proofs.Delivering.{Ids, received, received-apart, received-ids, received-rightly, received-rises}
 use Rattle.pfl_laws.proofs.Restarting.{restarted-none, restarted-has_none}
 use Rattle.pfl_laws.proofs.Stepping.{turned, arrived, IsLocal, turned-keeps, turned-apart, stepped-node, stepped-apart}
@@ -44,48 +48,56 @@ given_at n name s is at = subst (IsGiven n) (is.parts.states.filed name s at) (i
 
 -- ---- what stands under a name
 
--- each state stands under its own name, that under q is one, and q was given
-pub record Stood (q : StateName) (n : Node) : Type 0 where
+-- each state stands under its own name, that under q is one, and q was given; and these rules are the kernel's
+pub record Stood (k : Kernel) (q : StateName) (n : Node) : Type 0 where
+  pub kernel : n.limits.kernel ≡ k
   pub states : AreStates n.states
   pub rightly : StandsRightly q n
   pub given : IsGiven n q
 
-begins : (q : StateName) (n : Node) (s : State) → IsNode n → maps.get n.states q ≡ Some s → Stood q n
-begins q n s is at = record { states = is.parts.states; rightly = λ k t there same. (is.parts.each k t there).is; given = given_at n q s is at }
+begins : (q : StateName) (n : Node) (s : State) → IsNode n → maps.get n.states q ≡ Some s → Stood n.limits.kernel q n
+begins q n s is at = record {
+  kernel = refl;
+  states = is.parts.states;
+  rightly = λ k t there same. (is.parts.each k t there).is;
+  given = given_at n q s is at;
+}
 
-itself : (s t : State) → s ≡ t → HasRisen s t
-itself s t e = subst (HasRisen s) e (record { src = omega arith; dst = omega arith })
+itself : (k : Kernel) (s t : State) → s ≡ t → RisesBy k s t
+itself k s t e = subst (RisesBy k s) e (risen-itself k s)
 
-same_state : (n : Node) (q : StateName) (s t : State) → maps.get n.states q ≡ Some s → maps.get n.states q ≡ Some t → HasRisen s t
-same_state n q s t before later = itself s t (inner s t (sym before ∙ later))
+same_state : (k : Kernel) (n : Node) (q : StateName) (s t : State) → maps.get n.states q ≡ Some s → maps.get n.states q ≡ Some t → RisesBy k s t
+same_state k n q s t before later = itself k s t (inner s t (sym before ∙ later))
 
 -- ---- what a node does for itself
 
-kept-rises : (C : Type 0) (q : StateName) (n m : Node) → Keeps (Follows C) q n m → Stood q n → (s t : State) → maps.get n.states q ≡ Some s
-    → maps.get m.states q ≡ Some t → HasRisen s t
-kept-rises C q n m keeps stood s t before later =
+kept-rises : (C : Type 0) (k : Kernel) (q : StateName) (n m : Node) → Keeps (Follows C) q n m → Stood k q n → (s t : State) → maps.get n.states q ≡ Some s
+    → maps.get m.states q ≡ Some t → RisesBy k s t
+kept-rises C k q n m keeps stood s t before later =
     let from = keeps.comes t later in
     let same : from.state ≡ s = inner from.state s (sym from.at ∙ before) in
     let rises = from.so.rises (stood.rightly q from.state from.at (stood.states.filed q from.state from.at)) in
-    subst (λ (u : State). HasRisen u t) same (record { src = rises.src; dst = rises.dst })
+    subst (λ (u : State). RisesBy k u t) same (record { src = rises.src; dst = λ off. rises.dst })
 
-kept-stood : (C : Type 0) (q : StateName) (n m : Node) → C → Keeps (Follows C) q n m → AreStates m.states → Stood q n → Stood q m
-kept-stood C q n m fits keeps are stood = record {
+kept-stood : (C : Type 0) (k : Kernel) (q : StateName) (n m : Node) → C → Keeps (Follows C) q n m → AreStates m.states → Stood k q n → Stood k q m
+kept-stood C k q n m fits keeps are stood = record {
+  kernel = ap (λ (l : Limits). l.kernel) keeps.limits ∙ stood.kernel;
   states = are;
-  rightly = λ k t at same.
-      let here : maps.get m.states q ≡ Some t = subst (λ (p : StateName). maps.get m.states p ≡ Some t) (sym (are.filed k t at) ∙ same) at in
+  rightly = λ p t at same.
+      let here : maps.get m.states q ≡ Some t = subst (λ (a : StateName). maps.get m.states a ≡ Some t) (sym (are.filed p t at) ∙ same) at in
       let from = keeps.comes t here in
       from.so.is fits (stood.rightly q from.state from.at (stood.states.filed q from.state from.at));
   given = keeps-given (Follows C) q n m keeps stood.given;
 }
 
-local-rises : (w : World) (e : Event) (at : NodeId) (q : StateName) → IsLocal e → Stood q (node_at w at)
-    → (s t : State) → maps.get (node_at w at).states q ≡ Some s → maps.get (turned w e at).states q ≡ Some t → HasRisen s t
-local-rises w e at q local stood = kept-rises (IsEvent e) q (node_at w at) (turned w e at) (turned-keeps q w e at local stood.states stood.given) stood
+local-rises : (k : Kernel) (w : World) (e : Event) (at : NodeId) (q : StateName) → IsLocal e → Stood k q (node_at w at)
+    → (s t : State) → maps.get (node_at w at).states q ≡ Some s → maps.get (turned w e at).states q ≡ Some t → RisesBy k s t
+local-rises k w e at q local stood = kept-rises (IsEvent e) k q (node_at w at) (turned w e at) (turned-keeps q w e at local stood.states stood.given) stood
 
-local-stood : (w : World) (e : Event) (at : NodeId) (q : StateName) → IsLocal e → IsEvent e → Stood q (node_at w at) → Stood q (turned w e at)
-local-stood w e at q local fits stood =
-    kept-stood (IsEvent e) q (node_at w at) (turned w e at) fits (turned-keeps q w e at local stood.states stood.given) (turned-apart w e at stood.states) stood
+local-stood : (k : Kernel) (w : World) (e : Event) (at : NodeId) (q : StateName) → IsLocal e → IsEvent e → Stood k q (node_at w at) → Stood k q (turned w e at)
+local-stood k w e at q local fits stood =
+    kept-stood (IsEvent e) k q (node_at w at) (turned w e at) fits (turned-keeps q w e at local stood.states stood.given)
+    (turned-apart w e at stood.states) stood
 
 -- ---- a delivery
 
@@ -95,95 +107,111 @@ unmapped q (n ∷ ns) all = All-cons (HasState q) n ns (All-head (HasState q) n 
     (unmapped q ns (All-tail (HasState q) n (map (λ n. n) ns) all))
 
 -- at the receiver the points are the node after each record
-arrival-rises : (w : World) (to at : NodeId) (q : StateName) (r : Result Frame BadFrame) → AreStates (node_at w at).states
+arrival-rises : (k : Kernel) (w : World) (to at : NodeId) (q : StateName) (r : Result Frame BadFrame) → Stood k q (node_at w at)
     → All (HasState q) (map (λ n. node_at (with_node w to n) at) (frame_points (node_at w to) r))
     → (s t : State) → maps.get (node_at w at).states q ≡ Some s
-    → maps.get (node_at (with_node w to (received (node_at w to) r)) at).states q ≡ Some t → HasRisen s t
-arrival-rises w A A q r are stand s t before later = received-rises q w.a r are (unmapped q (frame_points w.a r) stand) s t before later
-arrival-rises w A B q r are stand s t before later = same_state w.b q s t before later
-arrival-rises w B A q r are stand s t before later = same_state w.a q s t before later
-arrival-rises w B B q r are stand s t before later = received-rises q w.b r are (unmapped q (frame_points w.b r) stand) s t before later
+    → maps.get (node_at (with_node w to (received (node_at w to) r)) at).states q ≡ Some t → RisesBy k s t
+arrival-rises k w A A q r stood stand s t before later =
+    received-rises k q w.a r stood.kernel stood.states (unmapped q (frame_points w.a r) stand) s t before later
+arrival-rises k w A B q r stood stand s t before later = same_state k w.b q s t before later
+arrival-rises k w B A q r stood stand s t before later = same_state k w.a q s t before later
+arrival-rises k w B B q r stood stand s t before later =
+    received-rises k q w.b r stood.kernel stood.states (unmapped q (frame_points w.b r) stand) s t before later
 
-arrived-rises : (w : World) (o : Option InFlight) (at : NodeId) (q : StateName) → AreStates (node_at w at).states
+arrived-rises : (k : Kernel) (w : World) (o : Option InFlight) (at : NodeId) (q : StateName) → Stood k q (node_at w at)
     → All (HasState q) (option_map_or (arrival_points w at) o [])
-    → (s t : State) → maps.get (node_at w at).states q ≡ Some s → maps.get (arrived w at o).states q ≡ Some t → HasRisen s t
-arrived-rises w None at q are stand s t before later = same_state (node_at w at) q s t before later
-arrived-rises w (Some f) at q are stand s t before later = arrival-rises w f.to at q (reading f.bytes) are stand s t before later
+    → (s t : State) → maps.get (node_at w at).states q ≡ Some s → maps.get (arrived w at o).states q ≡ Some t → RisesBy k s t
+arrived-rises k w None at q stood stand s t before later = same_state k (node_at w at) q s t before later
+arrived-rises k w (Some f) at q stood stand s t before later = arrival-rises k w f.to at q (reading f.bytes) stood stand s t before later
 
-received-stood : (q : StateName) (n : Node) (f : InFlight) → Stood q n → Stood q (received n (reading f.bytes))
-received-stood q n f stood =
+received-stood : (k : Kernel) (q : StateName) (n : Node) (f : InFlight) → Stood k q n → Stood k q (received n (reading f.bytes))
+received-stood k q n f stood =
     let same = received-ids n (reading f.bytes) in
     record {
+      kernel = ap (λ (i : Ids). i.2.kernel) same ∙ stood.kernel;
       states = received-apart n (reading f.bytes) stood.states;
       rightly = received-rightly q n f.bytes (reading f.bytes) refl stood.states stood.rightly;
       given = subst (λ (i : Ids). q.creator ≡ i.0 → q.id < i.1) (sym same) stood.given;
     }
 
-put-stood : (q : StateName) (w : World) (id : NodeId) (m : Node) (at : NodeId) → (Stood q (node_at w id) → Stood q m)
-    → Stood q (node_at w at) → Stood q (node_at (with_node w id m) at)
-put-stood q w A m A on stood = on stood
-put-stood q w A m B on stood = stood
-put-stood q w B m A on stood = stood
-put-stood q w B m B on stood = on stood
+put-stood : (k : Kernel) (q : StateName) (w : World) (id : NodeId) (m : Node) (at : NodeId) → (Stood k q (node_at w id) → Stood k q m)
+    → Stood k q (node_at w at) → Stood k q (node_at (with_node w id m) at)
+put-stood k q w A m A on stood = on stood
+put-stood k q w A m B on stood = stood
+put-stood k q w B m A on stood = stood
+put-stood k q w B m B on stood = on stood
 
-arrived-stood : (q : StateName) (w : World) (o : Option InFlight) (at : NodeId) → Stood q (node_at w at) → Stood q (arrived w at o)
-arrived-stood q w None at stood = stood
-arrived-stood q w (Some f) at stood = put-stood q w f.to (received (node_at w f.to) (reading f.bytes)) at (received-stood q (node_at w f.to) f) stood
+arrived-stood : (k : Kernel) (q : StateName) (w : World) (o : Option InFlight) (at : NodeId) → Stood k q (node_at w at) → Stood k q (arrived w at o)
+arrived-stood k q w None at stood = stood
+arrived-stood k q w (Some f) at stood = put-stood k q w f.to (received (node_at w f.to) (reading f.bytes)) at (received-stood k q (node_at w f.to) f) stood
 
 -- ---- a restart
 
-anew-rises : (w : World) (id at : NodeId) (boot : ℕ) (q : StateName)
+anew-rises : (k : Kernel) (w : World) (id at : NodeId) (boot : ℕ) (q : StateName)
     → (s t : State) → maps.get (node_at w at).states q ≡ Some s
-    → maps.get (node_at (with_node w id (restarted (node_at w id) boot)) at).states q ≡ Some t → HasRisen s t
-anew-rises w A A boot q s t before later = absurd (some_is_none t (sym later ∙ restarted-none w.a boot q))
-anew-rises w A B boot q s t before later = same_state w.b q s t before later
-anew-rises w B A boot q s t before later = same_state w.a q s t before later
-anew-rises w B B boot q s t before later = absurd (some_is_none t (sym later ∙ restarted-none w.b boot q))
+    → maps.get (node_at (with_node w id (restarted (node_at w id) boot)) at).states q ≡ Some t → RisesBy k s t
+anew-rises k w A A boot q s t before later = absurd (some_is_none t (sym later ∙ restarted-none w.a boot q))
+anew-rises k w A B boot q s t before later = same_state k w.b q s t before later
+anew-rises k w B A boot q s t before later = same_state k w.a q s t before later
+anew-rises k w B B boot q s t before later = absurd (some_is_none t (sym later ∙ restarted-none w.b boot q))
 
 -- the name stands at the other node alone
-anew-stood : (w : World) (id at : NodeId) (boot : ℕ) (q : StateName) → HasState q (node_at (with_node w id (restarted (node_at w id) boot)) at)
-    → Stood q (node_at w at) → Stood q (node_at (with_node w id (restarted (node_at w id) boot)) at)
-anew-stood w A A boot q has stood = absurd (restarted-has_none w.a boot q has)
-anew-stood w A B boot q has stood = stood
-anew-stood w B A boot q has stood = stood
-anew-stood w B B boot q has stood = absurd (restarted-has_none w.b boot q has)
+anew-stood : (k : Kernel) (w : World) (id at : NodeId) (boot : ℕ) (q : StateName)
+    → HasState q (node_at (with_node w id (restarted (node_at w id) boot)) at)
+    → Stood k q (node_at w at) → Stood k q (node_at (with_node w id (restarted (node_at w id) boot)) at)
+anew-stood k w A A boot q has stood = absurd (restarted-has_none w.a boot q has)
+anew-stood k w A B boot q has stood = stood
+anew-stood k w B A boot q has stood = stood
+anew-stood k w B B boot q has stood = absurd (restarted-has_none w.b boot q has)
 
 -- ---- any event
 
-turned-rises : (w : World) (e : Event) (at : NodeId) (q : StateName) → Stood q (node_at w at) → StandsThrough w e at q
-    → (s t : State) → maps.get (node_at w at).states q ≡ Some s → maps.get (turned w e at).states q ≡ Some t → HasRisen s t
-turned-rises w (event.At id e) at q stood stands = local-rises w (event.At id e) at q tt stood
-turned-rises w (event.Flush id) at q stood stands = local-rises w (event.Flush id) at q tt stood
-turned-rises w (event.Of ticket frame.Deliver) at q stood stands = arrived-rises w (maps.get w.link.frames ticket) at q stood.states stands
-turned-rises w (event.Of ticket frame.Lose) at q stood stands = local-rises w (event.Of ticket frame.Lose) at q tt stood
-turned-rises w (event.Of ticket frame.Repeat) at q stood stands = local-rises w (event.Of ticket frame.Repeat) at q tt stood
-turned-rises w (event.Of ticket (frame.Cut len)) at q stood stands = local-rises w (event.Of ticket (frame.Cut len)) at q tt stood
-turned-rises w (event.Restart id) at q stood stands = anew-rises w id at w.next_boot q
+turned-rises : (k : Kernel) (w : World) (e : Event) (at : NodeId) (q : StateName) → Stood k q (node_at w at) → StandsThrough w e at q
+    → (s t : State) → maps.get (node_at w at).states q ≡ Some s → maps.get (turned w e at).states q ≡ Some t → RisesBy k s t
+turned-rises k w (event.At id e) at q stood stands = local-rises k w (event.At id e) at q tt stood
+turned-rises k w (event.Flush id) at q stood stands = local-rises k w (event.Flush id) at q tt stood
+turned-rises k w (event.Of ticket frame.Deliver) at q stood stands = arrived-rises k w (maps.get w.link.frames ticket) at q stood stands
+turned-rises k w (event.Of ticket frame.Lose) at q stood stands = local-rises k w (event.Of ticket frame.Lose) at q tt stood
+turned-rises k w (event.Of ticket frame.Repeat) at q stood stands = local-rises k w (event.Of ticket frame.Repeat) at q tt stood
+turned-rises k w (event.Of ticket (frame.Cut len)) at q stood stands = local-rises k w (event.Of ticket (frame.Cut len)) at q tt stood
+turned-rises k w (event.Restart id) at q stood stands = anew-rises k w id at w.next_boot q
 
-turned-stood : (w : World) (e : Event) (at : NodeId) (q : StateName) → IsEvent e → HasState q (turned w e at) → Stood q (node_at w at) → Stood q (turned w e at)
-turned-stood w (event.At id e) at q fits has = local-stood w (event.At id e) at q tt fits
-turned-stood w (event.Flush id) at q fits has = local-stood w (event.Flush id) at q tt fits
-turned-stood w (event.Of ticket frame.Deliver) at q fits has = arrived-stood q w (maps.get w.link.frames ticket) at
-turned-stood w (event.Of ticket frame.Lose) at q fits has = local-stood w (event.Of ticket frame.Lose) at q tt fits
-turned-stood w (event.Of ticket frame.Repeat) at q fits has = local-stood w (event.Of ticket frame.Repeat) at q tt fits
-turned-stood w (event.Of ticket (frame.Cut len)) at q fits has = local-stood w (event.Of ticket (frame.Cut len)) at q tt fits
-turned-stood w (event.Restart id) at q fits has = anew-stood w id at w.next_boot q has
+turned-stood : (k : Kernel) (w : World) (e : Event) (at : NodeId) (q : StateName) → IsEvent e → HasState q (turned w e at) → Stood k q (node_at w at)
+    → Stood k q (turned w e at)
+turned-stood k w (event.At id e) at q fits has = local-stood k w (event.At id e) at q tt fits
+turned-stood k w (event.Flush id) at q fits has = local-stood k w (event.Flush id) at q tt fits
+turned-stood k w (event.Of ticket frame.Deliver) at q fits has = arrived-stood k q w (maps.get w.link.frames ticket) at
+turned-stood k w (event.Of ticket frame.Lose) at q fits has = local-stood k w (event.Of ticket frame.Lose) at q tt fits
+turned-stood k w (event.Of ticket frame.Repeat) at q fits has = local-stood k w (event.Of ticket frame.Repeat) at q tt fits
+turned-stood k w (event.Of ticket (frame.Cut len)) at q fits has = local-stood k w (event.Of ticket (frame.Cut len)) at q tt fits
+turned-stood k w (event.Restart id) at q fits has = anew-stood k w id at w.next_boot q has
 
-stepped-rises : (w : World) (e : Event) (v : World) (at : NodeId) (q : StateName) → world_after (step w e) ≡ Some v
-    → Stood q (node_at w at) → StandsThrough w e at q
-    → (s t : State) → maps.get (node_at w at).states q ≡ Some s → maps.get (node_at v at).states q ≡ Some t → HasRisen s t
-stepped-rises w e v at q accepted stood stands s t before later =
-    turned-rises w e at q stood stands s t before (ap (λ (n : Node). maps.get n.states q) (stepped-node w e v at accepted) ∙ later)
+stepped-rises : (k : Kernel) (w : World) (e : Event) (v : World) (at : NodeId) (q : StateName) → world_after (step w e) ≡ Some v
+    → Stood k q (node_at w at) → StandsThrough w e at q
+    → (s t : State) → maps.get (node_at w at).states q ≡ Some s → maps.get (node_at v at).states q ≡ Some t → RisesBy k s t
+stepped-rises k w e v at q accepted stood stands s t before later =
+    turned-rises k w e at q stood stands s t before (ap (λ (n : Node). maps.get n.states q) (stepped-node w e v at accepted) ∙ later)
 
-stepped-stood : (w : World) (e : Event) (v : World) (at : NodeId) (q : StateName) → world_after (step w e) ≡ Some v → IsEvent e
-    → HasState q (node_at v at) → Stood q (node_at w at) → Stood q (node_at v at)
-stepped-stood w e v at q accepted fits has stood =
+stepped-stood : (k : Kernel) (w : World) (e : Event) (v : World) (at : NodeId) (q : StateName) → world_after (step w e) ≡ Some v → IsEvent e
+    → HasState q (node_at v at) → Stood k q (node_at w at) → Stood k q (node_at v at)
+stepped-stood k w e v at q accepted fits has stood =
     let same = stepped-node w e v at accepted in
-    subst (Stood q) same (turned-stood w e at q fits (subst (HasState q) (sym same) has) stood)
+    subst (Stood k q) same (turned-stood k w e at q fits (subst (HasState q) (sym same) has) stood)
+
+-- by whichever rules are the kernel's
+step-rises : (w : World) (e : Event) (v : World) → IsWorld w → world_after (step w e) ≡ Some v
+    → (id : NodeId) (name : StateName) (s t : State) → StandsThrough w e id name
+    → maps.get (node_at w id).states name ≡ Some s → maps.get (node_at v id).states name ≡ Some t → RisesBy (node_at w id).limits.kernel s t
+step-rises w e v is accepted id name s t stands before later =
+    let n = node_at w id in
+    stepped-rises n.limits.kernel w e v id name accepted (begins name n s (node-is w id is) before) stands s t before later
 
 pub levels-step : LevelsNeverFall
-levels-step w e v is accepted id name s t stands before later =
-    stepped-rises w e v id name accepted (begins name (node_at w id) s (node-is w id is) before) stands s t before later
+levels-step w e v is accepted id name s t off stands before later =
+    risen-all (node_at w id).limits.kernel s t off (step-rises w e v is accepted id name s t stands before later)
+
+pub sources-step : SourcesNeverFall
+sources-step w e v is accepted id name s t stands before later = (step-rises w e v is accepted id name s t stands before later).src
 
 -- ---- runs
 
@@ -232,33 +260,36 @@ stands-in w (event.Of ticket frame.Repeat) id q all = tt
 stands-in w (event.Of ticket (frame.Cut len)) id q all = tt
 stands-in w (event.Restart node) id q all = tt
 
-risen-then : (s t u : State) → HasRisen s t → HasRisen t u → HasRisen s u
-risen-then s t u first next =
-    let a = first.src in
-    let b = first.dst in
-    let c = next.src in
-    let d = next.dst in
-    record { src = omega arith; dst = omega arith }
-
-along-rises : (es : List Event) (w v : World) (id : NodeId) (q : StateName) → All IsEvent es → run w es ≡ Some v → Stood q (node_at w id)
+along-rises : (k : Kernel) (es : List Event) (w v : World) (id : NodeId) (q : StateName) → All IsEvent es → run w es ≡ Some v → Stood k q (node_at w id)
     → StandsAlong w es id q
-    → (s t : State) → maps.get (node_at w id).states q ≡ Some s → maps.get (node_at v id).states q ≡ Some t → HasRisen s t
-along-rises [] w v id q fit ran stood stands s t before later =
-    same_state (node_at w id) q s t before (ap (λ (u : World). maps.get (node_at u id).states q) (at-end w v ran) ∙ later)
-along-rises (e ∷ es) w v id q fit ran stood stands s t before later = on-run (HasRisen s t) w v e es ran (λ u accepted rest.
+    → (s t : State) → maps.get (node_at w id).states q ≡ Some s → maps.get (node_at v id).states q ≡ Some t → RisesBy k s t
+along-rises k [] w v id q fit ran stood stands s t before later =
+    same_state k (node_at w id) q s t before (ap (λ (u : World). maps.get (node_at u id).states q) (at-end w v ran) ∙ later)
+along-rises k (e ∷ es) w v id q fit ran stood stands s t before later = on-run (RisesBy k s t) w v e es ran (λ u accepted rest.
     let on : StandsAlong u es id q = subst (λ (o : Option World). IsSomeAnd o (λ x. StandsAlong x es id q)) accepted stands.2 in
     let has = first-stands u es id q on in
-    let next_stood = stepped-stood w e u id q accepted (All-head IsEvent e es fit) has stood in
-    by u accepted (maps.get (node_at u id).states q) refl has (λ m at. along-rises es u v id q (All-tail IsEvent e es fit) rest next_stood on m t at later))
+    let next_stood = stepped-stood k w e u id q accepted (All-head IsEvent e es fit) has stood in
+    by u accepted (maps.get (node_at u id).states q) refl has (λ m at. along-rises k es u v id q (All-tail IsEvent e es fit) rest next_stood on m t at later))
   where
     by : (u : World) → world_after (step w e) ≡ Some u → (o : Option State) → maps.get (node_at u id).states q ≡ o → is_some o ≡ true
-        → ((m : State) → maps.get (node_at u id).states q ≡ Some m → HasRisen m t) → HasRisen s t
+        → ((m : State) → maps.get (node_at u id).states q ≡ Some m → RisesBy k m t) → RisesBy k s t
     by u accepted None at some on = absurd (subst T (sym some) tt)
-    by u accepted (Some m) at some on = risen-then s m t (stepped-rises w e u id q accepted stood (stands-in w e id q stands.1) s m before at) (on m at)
+    by u accepted (Some m) at some on = risen-then k s m t (stepped-rises k w e u id q accepted stood (stands-in w e id q stands.1) s m before at) (on m at)
+
+-- by whichever rules are the kernel's
+run-rises : (w : World) (es : List Event) (v : World) → IsWorld w → All IsEvent es → run w es ≡ Some v
+    → (id : NodeId) (name : StateName) (s t : State) → StandsAlong w es id name
+    → maps.get (node_at w id).states name ≡ Some s → maps.get (node_at v id).states name ≡ Some t → RisesBy (node_at w id).limits.kernel s t
+run-rises w es v is fit ran id name s t stands before later =
+    let n = node_at w id in
+    along-rises n.limits.kernel es w v id name fit ran (begins name n s (node-is w id is) before) stands s t before later
 
 pub levels-along : LevelsNeverFallAlong
-levels-along w es v is fit ran id name s t stands before later =
-    along-rises es w v id name fit ran (begins name (node_at w id) s (node-is w id is) before) stands s t before later
+levels-along w es v is fit ran id name s t off stands before later =
+    risen-all (node_at w id).limits.kernel s t off (run-rises w es v is fit ran id name s t stands before later)
+
+pub sources-along : SourcesNeverFallAlong
+sources-along w es v is fit ran id name s t stands before later = (run-rises w es v is fit ran id name s t stands before later).src
 
 -- ---- keys
 

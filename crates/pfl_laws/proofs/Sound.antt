@@ -16,8 +16,7 @@ use Rattle.pfl_edits.proofs.ForCallers.{get-empty, some_is_none}
 use Rattle.pfl_world.specs.track.declared.state.State.{State}
 use Rattle.pfl_world.specs.track.declared.tracked.Tracked.{Tracked}
 use Rattle.pfl_world.specs.track.declared.tracked.Tracked.TheVariants.{Moved, OutOfWindow, Reused}
-use Rattle.pfl_world.specs.track.Tracking.{tracked}
-use Rattle.pfl_world.proofs.ForCallers.track.{Stays, tracked-stays}
+use Rattle.pfl_world.proofs.ForCallers.track.{Stays, tracked_by-stays}
 use Rattle.pfl_world.specs.table.Tables.{AreStates, found}
 use Rattle.pfl_world.proofs.ForCallers.table.{found-stands}
 use Rattle.pfl_world.specs.wire.declared.fault.BadFrame.{BadFrame}
@@ -44,7 +43,7 @@ use Rattle.pfl_world.specs.node.Events.{restarted}
 use Rattle.pfl_world.specs.node.Turning as turning
 use Rattle.pfl_world.specs.node.Retrying.{retried_client}
 use Rattle.pfl_world.specs.node.Flushing.{flushed, update_count_cleared}
-use Rattle.pfl_world.specs.node.Packets.{handled, handled_by, followed, accepted}
+use Rattle.pfl_world.specs.node.Packets.{handled, handled_by, followed, accepted, tracked_at}
 use Rattle.pfl_world.proofs.ForCallers.node.{handled-apart}
 use Rattle.pfl_world.specs.Events.{step}
 use Rattle.pfl_world.specs.Runs.{run, world_after}
@@ -74,7 +73,7 @@ pub record Sound (n : Node) : Type 0 where
   pub tied : IsTied n
 
 followed-sound : (n : Node) (dir : Dir) (p : Packet) (s : State) (x : Tracked) → Sound n → maps.get n.states s.name ≡ Some s → Stays s x
-    → tracked s p dir n.clock ≡ x
+    → tracked_at n s p dir ≡ x
     → AreGiven (followed n dir p s x).node × IsTied (followed n dir p s x).node
 followed-sound n dir p s (Moved t) is at stays e =
     (given-keeps (Follows (IsPacket p)) n (accepted n t).node (λ q. accepted-keeps q n dir p s t at stays.name e) is.given, accepted-tied n t is.tied)
@@ -93,8 +92,8 @@ handled-sound n dir p is =
   where
     by : (o : Option State) → found n.states (key p dir) dir ≡ o → AreGiven (handled_by n dir p o).node × IsTied (handled_by n dir p o).node
     by None e = (judged-given n dir p is.states.filed is.given, judged-tied n dir p is.states.filed is.given is.tied)
-    by (Some s) e = followed-sound n dir p s (tracked s p dir n.clock) is (found-stands n.states (key p dir) dir s is.states e)
-        (tracked-stays s p dir n.clock) refl
+    by (Some s) e = followed-sound n dir p s (tracked_at n s p dir) is (found-stands n.states (key p dir) dir s is.states e)
+        (tracked_by-stays n.limits.kernel s p dir n.clock) refl
 
 -- an entry that was sent clears a count of updates
 entry-tied : (n : Node) (e : Entry) → Filed n.states → IsTied n → IsTied (update_count_cleared n e)

@@ -39,7 +39,8 @@ use Rattle.pfl_laws.proofs.Following.{Alike, Filed, filed-put}
 use Rattle.pfl_laws.proofs.Keeping.{Keeps, keeps-given, freed-states}
 use Rattle.pfl_laws.proofs.Handling.{announced-keeps}
 use Rattle.pfl_laws.proofs.Removing.{forgotten-removes, all-tied}
-use Rattle.pfl_laws.proofs.Records.{can_import-unknown, merged-name, lost-states}
+use Rattle.pfl_laws.proofs.Merged.{merged-name}
+use Rattle.pfl_laws.proofs.Records.{can_import-unknown, lost-states}
 use Rattle.pfl_laws.proofs.Tied.{waits, tied-same, tied-out, tied-put, tied-hold, tied-either, tied-by_test, tied-some, tied-released, freed-held}
 use Rattle.pfl_laws.proofs.Tied.{lost-held, changed-puts, tied-forgotten, Puts}
 
@@ -79,8 +80,8 @@ merged-tied n x tied =
 merge-tied : (n : Node) (s : State) (r : Received) → IsTied n → IsTied (merge_taken n s r)
 merge-tied n s r tied =
     let seconds = timeout_at n s.rule r.class in
-    let x = merged s r seconds n.clock in
-    subst (λ (name : StateName). IsTied (merged_into (lost n name) x)) (merged-name s r seconds n.clock) (merged-tied n x tied)
+    let x = merged n.limits.kernel s r seconds n.clock in
+    subst (λ (name : StateName). IsTied (merged_into (lost n name) x)) (merged-name n.limits.kernel s r seconds n.clock) (merged-tied n x tied)
 
 request-tied : (n : Node) (name : StateName) → IsTied n → IsTied (request_taken n name)
 request-tied n name tied =

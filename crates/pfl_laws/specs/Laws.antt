@@ -1,8 +1,9 @@
 -- What events never do to the states of the pair, in their own words (pf.c, if_pfsync.c; names are this project's profile).
-use Rattle.std.specs.Prelude.{◌≡◌, ◌≢◌, ◌≤◌, ◌<◌, ◌+◌, ◌⊎◌, ℕ, Bool, false, List, [], ◌∷◌, ◌++◌, All, IsSome, IsSomeAnd, IsOkAnd, Some, None}
+use Rattle.std.specs.Prelude.{◌≡◌, ◌≢◌, ◌≤◌, ◌<◌, ◌+◌, ◌⊎◌, ℕ, Bool, true, false, List, [], ◌∷◌, ◌++◌, All, IsSome, IsSomeAnd, IsOkAnd, Some, None}
 use Rattle.std.specs.List.{fold}
 use Rattle.std.specs.Option.{option_map_or}
 use Rattle.pfl_base.specs.declared.direction.Dir.{Dir}
+use Rattle.pfl_base.specs.declared.kernel.Kernel.{Kernel}
 use Rattle.pfl_base.specs.declared.node_id.NodeId.{NodeId}
 use Rattle.pfl_base.specs.declared.packet.Packet.{Packet}
 use Rattle.pfl_base.specs.declared.state_name.StateName.{StateName}
@@ -12,6 +13,8 @@ use Rattle.pfl_edits.specs.Maps as maps
 use Rattle.pfl_world.specs.rules.Rules.{Rules}
 use Rattle.pfl_world.specs.table.Tables.{AreStates, found}
 use Rattle.pfl_world.specs.track.declared.state.State.{State}
+use Rattle.pfl_world.specs.merge.declared.received.Received.{Received}
+use Rattle.pfl_world.specs.merge.Merging.{stale_src}
 use Rattle.pfl_world.specs.wire.declared.message.Message.{Message}
 use Rattle.pfl_world.specs.wire.declared.message.Message.TheVariants as message
 use Rattle.pfl_world.specs.wire.Frames.{records_of}
@@ -30,7 +33,7 @@ use Rattle.pfl_world.specs.defer.Deferring.{Deferrals, held_of, pushed_out}
 use Rattle.pfl_world.specs.desk.Nodes.{Node}
 use Rattle.pfl_world.specs.desk.Changes.{is_held}
 use Rattle.pfl_world.specs.node.Packets.{handled, before_rules}
-use Rattle.pfl_world.specs.receive.Receiving.{taken}
+use Rattle.pfl_world.specs.receive.Receiving.{taken, of_state, of_update}
 use Rattle.pfl_world.specs.Events.{points_at, step}
 use Rattle.pfl_world.specs.Runs.{world_after, run}
 use Rattle.pfl_world.specs.Flushing.{sent_frame}
@@ -47,9 +50,35 @@ pub record HasRisen (s t : State) : Type 0 where
 abbrev pub LevelsRise : Node → Node → Type 0
 LevelsRise old new = (name : StateName) (s t : State) → maps.get old.states name ≡ Some s → maps.get new.states name ≡ Some t → HasRisen s t
 
--- a record of the peer's that a node takes lowers no level
+-- without `merge` a record of the peer's that a node takes lowers no level
 abbrev pub RecordsLowerNoLevel : Type 0
-RecordsLowerNoLevel = (n : Node) (same_rules : Bool) (m : Message) → AreStates n.states → LevelsRise n (taken n same_rules m)
+RecordsLowerNoLevel = (n : Node) (same_rules : Bool) (m : Message) → n.limits.kernel.merge ≡ false → AreStates n.states
+    → LevelsRise n (taken n same_rules m)
+
+-- whichever rules are the kernel's, it lowers no level of the end that sent the first packet
+abbrev pub RecordsLowerNoSource : Type 0
+RecordsLowerNoSource = (n : Node) (same_rules : Bool) (m : Message) → AreStates n.states
+    → (name : StateName) (s t : State) → maps.get n.states name ≡ Some s → maps.get (taken n same_rules m).states name ≡ Some t
+    → s.src.level ≤ t.src.level
+
+-- the record is an update of the name, and says this of its state
+abbrev pub Updates : Message → StateName → Received → Type 0
+Updates (message.Update r) name said = (r.name ≡ name) × (said ≡ of_state r)
+Updates (message.UpdateShort u) name said = (u.name ≡ name) × (said ≡ of_update u)
+Updates _ name said = ⊥
+
+-- by `merge` both ends of what is said were taken, whose source was not stale (if_pfsync.c, as far as we know it)
+pub record TakenWhole (k : Kernel) (said : Received) (s t : State) : Type 0 where
+  pub merge : k.merge ≡ true
+  pub fresh : stale_src s said ≡ false
+  pub src : t.src ≡ said.src
+  pub dst : t.dst ≡ said.dst
+
+-- and a level of the other end only so
+abbrev pub RecordsLowerOnlySo : Type 0
+RecordsLowerOnlySo = (n : Node) (same_rules : Bool) (m : Message) → AreStates n.states
+    → (name : StateName) (s t : State) → maps.get n.states name ≡ Some s → maps.get (taken n same_rules m).states name ≡ Some t
+    → HasRisen s t ⊎ ((said : Received) × (Updates m s.name said × TakenWhole n.limits.kernel said s t))
 
 -- the packet of an event is one
 abbrev pub IsNodeEvent : NodeEvent → Type 0
@@ -71,12 +100,19 @@ abbrev pub StandsThrough : World → Event → NodeId → StateName → Type 0
 StandsThrough w (event.Of ticket frame.Deliver) id name = All (HasState name) (points_at w (event.Of ticket frame.Deliver) id)
 StandsThrough w _ id name = Unit {0}
 
--- an event that is accepted lowers no level, at either node, of a state that was not removed in it
+-- without `merge` an event that is accepted lowers no level, at either node, of a state that was not removed in it
 abbrev pub LevelsNeverFall : Type 0
 LevelsNeverFall =
     (w : World) (e : Event) (v : World) → IsWorld w → world_after (step w e) ≡ Some v
-    → (id : NodeId) (name : StateName) (s t : State) → StandsThrough w e id name
+    → (id : NodeId) (name : StateName) (s t : State) → (node_at w id).limits.kernel.merge ≡ false → StandsThrough w e id name
     → maps.get (node_at w id).states name ≡ Some s → maps.get (node_at v id).states name ≡ Some t → HasRisen s t
+
+-- whichever rules are the kernel's, it lowers no level of the end that sent the first packet
+abbrev pub SourcesNeverFall : Type 0
+SourcesNeverFall =
+    (w : World) (e : Event) (v : World) → IsWorld w → world_after (step w e) ≡ Some v
+    → (id : NodeId) (name : StateName) (s t : State) → StandsThrough w e id name
+    → maps.get (node_at w id).states name ≡ Some s → maps.get (node_at v id).states name ≡ Some t → s.src.level ≤ t.src.level
 
 -- the name has a state at the node all along the events, also at each of their points
 abbrev pub StandsAlong : World → List Event → NodeId → StateName → Type 0
@@ -84,12 +120,19 @@ StandsAlong w [] id name = HasState name (node_at w id)
 StandsAlong w (e ∷ es) id name = HasState name (node_at w id) × All (HasState name) (points_at w e id)
     × IsSomeAnd (world_after (step w e)) (λ v. StandsAlong v es id name)
 
--- events, one after the other, lower no level of a state that was not removed in between
+-- without `merge` events, one after the other, lower no level of a state that was not removed in between
 abbrev pub LevelsNeverFallAlong : Type 0
 LevelsNeverFallAlong =
     (w : World) (es : List Event) (v : World) → IsWorld w → All IsEvent es → run w es ≡ Some v
-    → (id : NodeId) (name : StateName) (s t : State) → StandsAlong w es id name
+    → (id : NodeId) (name : StateName) (s t : State) → (node_at w id).limits.kernel.merge ≡ false → StandsAlong w es id name
     → maps.get (node_at w id).states name ≡ Some s → maps.get (node_at v id).states name ≡ Some t → HasRisen s t
+
+-- whichever rules are the kernel's, they lower no level of the end that sent the first packet
+abbrev pub SourcesNeverFallAlong : Type 0
+SourcesNeverFallAlong =
+    (w : World) (es : List Event) (v : World) → IsWorld w → All IsEvent es → run w es ≡ Some v
+    → (id : NodeId) (name : StateName) (s t : State) → StandsAlong w es id name
+    → maps.get (node_at w id).states name ≡ Some s → maps.get (node_at v id).states name ≡ Some t → s.src.level ≤ t.src.level
 
 -- ---- keys (pf.c)
 

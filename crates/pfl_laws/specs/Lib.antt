@@ -1,4 +1,5 @@
 pub mod Laws
+pub mod Rest
 pub mod Reverting
 pub mod inner
 pub use Rattle.pfl_base.specs as base
@@ -7,6 +8,7 @@ pub use Rattle.pfl_world.specs.rules as rules
 pub use Rattle.pfl_world.specs.track as track
 pub use Rattle.pfl_world.specs.table as table
 pub use Rattle.pfl_world.specs.wire as wire
+pub use Rattle.pfl_world.specs.merge as merge
 pub use Rattle.pfl_world.specs.defer as defer
 pub use Rattle.pfl_language.specs as language
 pub use Rattle.pfl_world.specs.desk as desk

@@ -1,18 +1,41 @@
 //! Laws of runs. They have no code: each is a theorem over the definitions, which a function's contract names.
 
 ghost use Rattle.pfl_laws.specs.Laws.{LevelsNeverFall, RecordsLowerNoLevel, LevelsNeverFallAlong, StatesStayApart, StatesStayApartAlong};
+ghost use Rattle.pfl_laws.specs.Laws.{SourcesNeverFall, RecordsLowerNoSource, RecordsLowerOnlySo, SourcesNeverFallAlong};
 ghost use Rattle.pfl_laws.specs.Laws.{OpeningsAreBoots, LaterOpeningsAreBoots, EventsKeepBoots, NewStatesAreNamed, NoNameIsGivenTwice};
 ghost use Rattle.pfl_laws.specs.Laws.{NoTicketIsGivenTwice, NoBootIsGivenTwice};
 ghost use Rattle.pfl_laws.specs.Laws.{EventsSendOnlySo, FramesWereSent};
 ghost use Rattle.pfl_laws.specs.Laws.{OpeningsAreTied, LaterOpeningsAreTied, EventsKeepTied, RecordsKeepTied, EventsKeepTiedAlong};
 ghost use Rattle.pfl_laws.specs.Laws.{HeldPacketsLeaveOnlySo, RecordsLetGoOnlySo};
+ghost use Rattle.pfl_laws.specs.Rest.{CopiesComeToRest, OthersComeToRest, CrossedGoOn, LevelAndNumberCross};
 
 /// An event lowers the level of no end of a state at either node (pf.c) that is not removed in it, and neither does a record of
-/// the peer's; nor do events, one after the other, where the state was not removed in between.
+/// the peer's; nor do events, one after the other, where the state was not removed in between. So it is by the profile, and
+/// whichever other rules are the kernel's, but not with `merge` (if_pfsync.c, as far as we know it).
 pub fn levels_never_fall()
     ensures event { LevelsNeverFall }
     ensures taken { RecordsLowerNoLevel }
     ensures along { LevelsNeverFallAlong }
+{}
+
+/// With `merge` too, no event, no record and no run of events lowers the level of the end that sent the first packet. That of the
+/// other end a record lowers only as an update whose first end is not stale, and then both ends are what it says.
+pub fn sources_never_fall()
+    ensures event { SourcesNeverFall }
+    ensures taken { RecordsLowerNoSource }
+    ensures falls { RecordsLowerOnlySo }
+    ensures along { SourcesNeverFallAlong }
+{}
+
+/// Two copies of a state, of which one is sent, and whoever finds an end of what comes stale answers with what it then has: with
+/// `merge` they have the same ends after three messages at most, and the last is not answered (if_pfsync.c, as far as we know it).
+/// Without it they do after two, unless each finds the end that did not send the first packet stale in the other's copy, as where
+/// one is ahead in its level, and the other in its number: those are answered without end, and each keeps its own.
+pub fn copies_come_to_rest()
+    ensures merge { CopiesComeToRest }
+    ensures others { OthersComeToRest }
+    ensures crossed { CrossedGoOn }
+    ensures cross { LevelAndNumberCross }
 {}
 
 /// No two states of a node have one wire key or one stack key (pf.c), after each event and along all events.

@@ -6,6 +6,7 @@ pub mod Fronts
 pub mod Timeouts
 pub mod Letters
 pub mod Searched
+pub mod KernelWords
 pub mod Plain
 mod Worked
 pub mod WrittenNumbers

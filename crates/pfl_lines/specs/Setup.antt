@@ -1,6 +1,8 @@
 -- How a pair is set up, line by line (this project's profile).
-use Rattle.std.specs.Prelude.{ℕ, List, codes, bytes_eq, if◌then◌else◌, Result, Ok, Err}
+use Rattle.std.specs.Prelude.{ℕ, List, [], ◌∷◌, codes, bytes_eq, if◌then◌else◌, Result, Ok, Err}
 use Rattle.std.specs.Option.{ok_or, option_map_or}
+use Rattle.pfl_base.specs.declared.kernel.Kernel.{Kernel}
+use Rattle.pfl_base.specs.Kernels.{every_rule, kernel_at_word, profile, rules_of_either, with_kernel_rule}
 use Rattle.pfl_base.specs.Numbers.{greatest}
 use Rattle.pfl_language.specs.declared.limits.Limit.{Limit}
 use Rattle.pfl_language.specs.Limits.{limit_at_word, greatest_said}
@@ -43,11 +45,32 @@ rule_line_of ws = do
   rule ← rule_of node.1
   Ok (setup.Rule node.0 rule)
 
+-- the rules of the kernel that a word stands for: one, or `all`
+abbrev pub kernel_rules_of : List ℕ → Result Kernel LineFault
+kernel_rules_of word =
+    if bytes_eq word (codes "all") then Ok every_rule else
+    option_map_or (λ rule. Ok (with_kernel_rule profile rule)) (kernel_at_word word) (Err Unknown)
+
+-- these rules, and those of further words
+abbrev pub kernel_with : Kernel → List (List ℕ) → Result Kernel LineFault
+kernel_with kernel [] = Ok kernel
+kernel_with kernel (word ∷ ws) = do
+  more ← kernel_rules_of word
+  kernel_with (rules_of_either kernel more) ws
+
+-- WORD..
+unfoldable pub kernel_line_of : List (List ℕ) → Result SetupLine LineFault
+kernel_line_of ws = do
+  first ← one_word kernel_rules_of ws
+  kernel ← kernel_with first.0 first.1
+  Ok (setup.Kernel kernel)
+
 -- what belongs to a setup line's word
 abbrev pub setup_by : List ℕ → List (List ℕ) → Result SetupLine LineFault
 setup_by word ws =
     if bytes_eq word (codes "set") then set_of ws else
     if bytes_eq word (codes "rule") then rule_line_of ws else
+    if bytes_eq word (codes "kernel") then kernel_line_of ws else
     if bytes_eq word (codes "open") then finished (setup.Open, ws) else Err Unknown
 
 -- what words say

@@ -4,14 +4,15 @@ ghost use Rattle.std.specs.Prelude.{◌≡◌};
 ghost use Rattle.pfl_lines.specs.Words.{words};
 ghost use Rattle.pfl_lines.specs.inner.Readings.{Gives};
 ghost use Rattle.pfl_lines.specs.Commands.{finished};
-ghost use Rattle.pfl_lines.specs.Setup.{limit_at, limit_line_of, timeout_line_of, set_of, rule_line_of, setup_by, setup_of, parsed_setup};
+ghost use Rattle.pfl_lines.specs.Setup.{limit_at, limit_line_of, timeout_line_of, set_of, rule_line_of, kernel_line_of, kernel_rules_of, kernel_with};
+ghost use Rattle.pfl_lines.specs.Setup.{setup_by, setup_of, parsed_setup};
 
 use crate::commands::checked;
 use crate::fault::LineFault;
 use crate::parts::{node_at, number_at};
 use crate::rules::{behind_word, class_at, rule_of};
 use crate::words::{is_word, one_word, word_at};
-use pfl_base::{Class, GREATEST_NUMBER, NodeId};
+use pfl_base::{Class, GREATEST_NUMBER, Kernel, KernelWord, NodeId};
 use pfl_language::Limit;
 use pfl_rules::Rule;
 
@@ -24,6 +25,8 @@ pub enum SetupLine {
     Timeout { class: Class, seconds: u32 },
     /// A node gets its next rule.
     Rule { node: NodeId, rule: Rule },
+    /// These rules are the kernel's, at both nodes.
+    Kernel(Kernel),
     /// The setup ends.
     Open,
 }
@@ -87,6 +90,43 @@ fn rule_line_of(line: &[u8]) -> Result<SetupLine, LineFault>
     Ok(SetupLine::Rule { node, rule })
 }
 
+/// The rules of the kernel that a word stands for: one, or `all`.
+fn kernel_rules_of(word: &[u8]) -> Result<Kernel, LineFault>
+    ensures { result ≡ kernel_rules_of word.now }
+{
+    if is_word(word, "all") {
+        return Ok(Kernel::all());
+    }
+    match KernelWord::of_word(word) {
+        Some(rule) => Ok(Kernel::profile().with(rule)),
+        None => Err(LineFault::Unknown),
+    }
+}
+
+/// These rules, and those of further words.
+fn kernel_with(first: Kernel, line: &[u8]) -> Result<Kernel, LineFault>
+    ensures { result ≡ kernel_with first (words line.now) }
+{
+    let mut kernel = first;
+    let mut rest = line;
+    while let Ok((word, others)) = word_at(rest) {
+        kernel = kernel.union(kernel_rules_of(word)?);
+        rest = others;
+    }
+    Ok(kernel)
+}
+
+/// `WORD..`.
+#[tactic(auto, unfolding(crate::specs::Setup::kernel_line_of))]
+fn kernel_line_of(line: &[u8]) -> Result<SetupLine, LineFault>
+    ensures { result ≡ kernel_line_of (words line.now) }
+{
+    let (word, rest) = word_at(line)?;
+    let first = kernel_rules_of(word)?;
+    let kernel = kernel_with(first, rest)?;
+    Ok(SetupLine::Kernel(kernel))
+}
+
 /// What belongs to a setup line's word.
 fn setup_by(word: &[u8], line: &[u8]) -> Result<SetupLine, LineFault>
     ensures { result ≡ setup_by word.now (words line.now) }
@@ -96,6 +136,9 @@ fn setup_by(word: &[u8], line: &[u8]) -> Result<SetupLine, LineFault>
     }
     if is_word(word, "rule") {
         return rule_line_of(line);
+    }
+    if is_word(word, "kernel") {
+        return kernel_line_of(line);
     }
     if is_word(word, "open") {
         return ended(SetupLine::Open, line);

@@ -29,3 +29,8 @@ SourceInOrder held r kept = is_tcp held.wire.proto ≡ true → held.src.level �
 -- TCP: nor is the destination's, once it has begun
 abbrev pub DestinationInOrder : State → State → Type 0
 DestinationInOrder held kept = is_tcp held.wire.proto ≡ true → syn_sent ≤ held.dst.level → seq_gt held.dst.lo kept.dst.lo ≡ false
+
+-- the destination has not fallen, in level or in sequence
+pub record DestinationStays (held kept : State) : Type 0 where
+  pub level : held.dst.level ≤ kept.dst.level
+  pub sequence : DestinationInOrder held kept

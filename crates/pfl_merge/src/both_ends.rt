@@ -1,14 +1,14 @@
 //! The merge, and what is behind.
 
-ghost use Rattle.std.specs.Prelude.{◌≡◌};
+ghost use Rattle.std.specs.Prelude.{◌≡◌, ◌≤◌, true, false};
 ghost use Rattle.pfl_merge.specs.Merging.{is_ahead as is_further, stale_source, stale_destination, stale_src as behind_src, stale_dst as behind_dst};
 ghost use Rattle.pfl_merge.specs.Merging.{last_use as used_last, merged};
 ghost use Rattle.pfl_track.specs.States.{IsState};
-ghost use Rattle.pfl_merge.specs.Laws.{Keeps, Rises, SourceInOrder, DestinationInOrder};
+ghost use Rattle.pfl_merge.specs.Laws.{Keeps, Rises, SourceInOrder, DestinationInOrder, DestinationStays};
 
 use crate::merged::Merged;
 use crate::received::Received;
-use pfl_base::{Millis, Proto, seq_gt};
+use pfl_base::{Kernel, Millis, Proto, seq_gt};
 use pfl_track::{Peer, SYN_SENT, State};
 
 /// The held end is further than the received one.
@@ -62,19 +62,24 @@ pub fn last_use(remaining: u32, timeout: u32, now: Millis) -> Millis
 }
 
 /// The held state with what the peer sends of it: each end is the received one where that is not behind; the class and
-/// the last use go with them. `timeout` is the state's here, in seconds, for the received class.
-pub fn merge(held: &State, received: &Received, timeout: u32, now: Millis) -> Merged
-    ensures merged { result ≡ merged held.now received.now timeout now }
+/// the last use go with them. With `merge` the other end is taken though it is behind, unless both are (if_pfsync.c, as far as
+/// we know it): it may fall then, and only where the end that sent the first packet was not behind. `timeout` is the state's
+/// here, in seconds, for the received class.
+pub fn merge(kernel: Kernel, held: &State, received: &Received, timeout: u32, now: Millis) -> Merged
+    ensures merged { result ≡ merged kernel held.now received.now timeout now }
     ensures state { IsState result.state }
     ensures keeps { Keeps held.now result.state }
-    ensures rises { Rises held.now result.state }
+    ensures source_rises { held.now.src.level ≤ result.state.src.level }
     ensures source_in_order { SourceInOrder held.now received.now result.state }
-    ensures destination_in_order { DestinationInOrder held.now result.state }
+    ensures rises { kernel.merge ≡ false → Rises held.now result.state }
+    ensures destination_in_order { kernel.merge ≡ false → DestinationInOrder held.now result.state }
+    ensures destination_falls { behind_src held.now received.now ≡ true → DestinationStays held.now result.state }
 {
     let stale_src = is_source_behind(held, received);
     let stale_dst = is_destination_behind(held, received);
     let src = if stale_src { held.src() } else { received.src };
-    let dst = if stale_dst { held.dst() } else { received.dst };
+    let keeps_dst = stale_dst && (!kernel.merge || stale_src);
+    let dst = if keeps_dst { held.dst() } else { received.dst };
     let told = held.with_ends(src, dst).with_peer_change(Some(now));
     let state = if stale_src && stale_dst {
         told

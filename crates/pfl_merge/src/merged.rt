@@ -2,7 +2,7 @@
 
 use pfl_track::State;
 
-/// The state after a merge, and which ends of the peer's were behind, so that the held ones stayed.
+/// The state after a merge, and which ends of the peer's were behind.
 #[derive(Clone, Copy, Debug, PartialEq, Eq)]
 pub struct Merged {
     /// The state.

@@ -65,7 +65,7 @@ insert-keeps : (n : Node) (b : Bool) (r : StateRecord) (ack : Bool) → Keeps n 
 insert-keeps n b r ack = either (not (can_import n r)) n _ _ refl (either ack n _ _ refl refl)
 
 merge-keeps : (n : Node) (s : State) (r : Received) → Keeps n (merge_taken n s r)
-merge-keeps n s r = go (lost n s.name) (merged s r (timeout_at n s.rule r.class) n.clock) ∙ lost-keeps n s.name
+merge-keeps n s r = go (lost n s.name) (merged n.limits.kernel s r (timeout_at n s.rule r.class) n.clock) ∙ lost-keeps n s.name
   where
     go : (m : Node) (x : Merged) → Keeps m (merged_into m x)
     go m x = either (x.stale_src || x.stale_dst) m _ _ (changed-keeps _ _) refl

@@ -4,6 +4,7 @@ use Rattle.std.specs.List.{fold}
 use Rattle.std.specs.Option.{option_map_or}
 use Rattle.std.proofs.Common.{T, cond, ◌∙◌, ap, sym, subst, inl, inr}
 use Rattle.pfl_base.specs.declared.direction.Dir.{Dir}
+use Rattle.pfl_base.specs.declared.kernel.Kernel.{Kernel}
 use Rattle.pfl_base.specs.declared.packet.Packet.{Packet}
 use Rattle.pfl_base.specs.declared.state_name.StateName.{StateName}
 use Rattle.pfl_base.specs.Keys.{key}
@@ -16,8 +17,7 @@ use Rattle.pfl_rules.specs.Rules.{verdict, rule_at}
 use Rattle.pfl_track.specs.declared.state.State.{State}
 use Rattle.pfl_track.specs.declared.tracked.Tracked.{Tracked}
 use Rattle.pfl_track.specs.declared.tracked.Tracked.TheVariants.{Moved, OutOfWindow, Reused}
-use Rattle.pfl_track.specs.Tracking.{tracked}
-use Rattle.pfl_track.proofs.ForCallers.{Stays, tracked-stays}
+use Rattle.pfl_track.proofs.ForCallers.{Stays, tracked_by-stays}
 use Rattle.pfl_receive.specs.table.Tables.{AreStates, found, key_in_use}
 use Rattle.pfl_receive.specs.table.Translating.{is_taken, new_keys}
 use Rattle.pfl_receive.proofs.ForCallers.table.{OwnsKeys-unused, OwnsKeys-known, SameKeys, SameKeys-itself, AreStates-with, AreStates-without, found-stands}
@@ -36,7 +36,7 @@ use Rattle.pfl_receive.specs.desk.Nodes.{Node, timeout_at}
 use Rattle.pfl_receive.specs.desk.Changes.{put_state, mark, is_unannounced, is_insert, is_held, freed, lost, not_waiting, released, changed, deleted}
 use Rattle.pfl_receive.specs.desk.Changes.{forgotten, count_stale, count_freed, count_lost, without_held}
 use Rattle.pfl_node.specs.Starting.{Handled, started, judged, by_rule, announced, hold, with_room, with_new, new_state, is_at_max, is_deferred}
-use Rattle.pfl_node.specs.Packets.{handled, handled_by, followed, accepted}
+use Rattle.pfl_node.specs.Packets.{handled, handled_by, followed, accepted, tracked_at}
 use Rattle.pfl_receive.specs.Receiving.{taken, insert_taken, can_import, imported, merge_taken, merged_into, bulk_taken, state_answered}
 use Rattle.pfl_receive.specs.Receiving.{request_taken, ack_taken, is_known, cleared_names, status_taken}
 
@@ -186,14 +186,14 @@ same_of true held x y f g = f
 same_of false held x y f g = g
 
 -- a merge keeps the held name and keys
-merged-same : (held : State) (r : Received) (seconds now : ℕ) → SameKeys held (merged held r seconds now).state
-merged-same held r seconds now =
+merged-same : (k : Kernel) (held : State) (r : Received) (seconds now : ℕ) → SameKeys held (merged k held r seconds now).state
+merged-same k held r seconds now =
     same_of (not (stale_src held r && stale_dst held r)) held _ _
     (record { name = refl; wire = refl; stack = refl }) (record { name = refl; wire = refl; stack = refl })
 
 merge-apart : (n : Node) (s : State) (r : Received) → Apart n → maps.get n.states s.name ≡ Some s → Apart (merge_taken n s r)
-merge-apart n s r k at = go (lost n s.name) (merged s r (timeout_at n s.rule r.class) n.clock)
-    (lost-apart n s.name k) (ap (λ m. maps.get m s.name) (lost-states n s.name) ∙ at) (merged-same s r _ _)
+merge-apart n s r k at = go (lost n s.name) (merged n.limits.kernel s r (timeout_at n s.rule r.class) n.clock)
+    (lost-apart n s.name k) (ap (λ m. maps.get m s.name) (lost-states n s.name) ∙ at) (merged-same n.limits.kernel s r _ _)
   where
     go : (m : Node) (x : Merged) → Apart m → maps.get m.states s.name ≡ Some s → SameKeys s x.state → Apart (merged_into m x)
     go m x k at same =
@@ -294,4 +294,4 @@ handled-apart n dir p k = by (found n.states (key p dir) dir) refl
   where
     by : (o : Option State) → found n.states (key p dir) dir ≡ o → Apart (handled_by n dir p o).node
     by None e = judged-apart n dir p k
-    by (Some s) e = followed-apart n dir p s (tracked s p dir n.clock) k (found-stands n.states (key p dir) dir s k e) (tracked-stays s p dir n.clock)
+    by (Some s) e = followed-apart n dir p s (tracked_at n s p dir) k (found-stands n.states (key p dir) dir s k e) (tracked_by-stays n.limits.kernel s p dir n.clock)

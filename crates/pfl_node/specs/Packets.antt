@@ -6,7 +6,7 @@ use Rattle.pfl_base.specs.Keys.{key}
 use Rattle.pfl_track.specs.declared.state.State.{State}
 use Rattle.pfl_track.specs.declared.tracked.Tracked.{Tracked}
 use Rattle.pfl_track.specs.declared.tracked.Tracked.TheVariants.{Moved, OutOfWindow, Reused}
-use Rattle.pfl_track.specs.Tracking.{tracked}
+use Rattle.pfl_track.specs.Rules.{tracked_by}
 use Rattle.pfl_receive.specs.table.Tables.{found}
 use Rattle.pfl_language.specs.declared.node_event.NodeOutcome.TheVariants as outcome
 use Rattle.pfl_language.specs.declared.fate.Reason.TheVariants as reason
@@ -19,6 +19,10 @@ use Rattle.pfl_node.specs.Meanings.{NodeMeaning}
 abbrev pub accepted : Node → State → Handled
 accepted n s = pass (changed (freed n s.name) (record s { ack_wanted = false })) (Some s.name)
 
+-- what a packet of the state s does to it at the node
+abbrev pub tracked_at : Node → State → Packet → Dir → Tracked
+tracked_at n s p dir = tracked_by n.limits.kernel s p dir n.clock
+
 -- a packet of the state s, as tracking has it; a new connection over a closed one is a packet that no state takes
 abbrev pub followed : Node → Dir → Packet → State → Tracked → Handled
 followed n dir p s (Moved t) = accepted n t
@@ -28,7 +32,7 @@ followed n dir p s Reused = judged (deleted n s) dir p
 -- a packet, by the state that was found
 abbrev pub handled_by : Node → Dir → Packet → Option State → Handled
 handled_by n dir p None = judged n dir p
-handled_by n dir p (Some s) = followed n dir p s (tracked s p dir n.clock)
+handled_by n dir p (Some s) = followed n dir p s (tracked_at n s p dir)
 
 -- the packet at the node; a packet of a state is not tested against rules (pf.conf(5))
 unfoldable pub handled : Node → Dir → Packet → Handled
@@ -42,7 +46,7 @@ on_the_way n s _ = []
 -- the point that a packet goes through before its rules are asked
 abbrev pub before_rules : Node → Dir → Packet → Option State → List Node
 before_rules n dir p None = []
-before_rules n dir p (Some s) = on_the_way n s (tracked s p dir n.clock)
+before_rules n dir p (Some s) = on_the_way n s (tracked_at n s p dir)
 
 -- the points that the packet goes through
 unfoldable pub packet_points : Node → Dir → Packet → List Node

@@ -12,10 +12,9 @@ ghost use Rattle.pfl_receive.specs.desk.Edits.{NodeLeadsBack, NodeRecorded};
 ghost use Rattle.pfl_node.specs.inner.Carried.{Handles, Tried};
 ghost use Rattle.pfl_receive.specs.desk.inner.Kept.{MayReplace};
 ghost use Rattle.pfl_receive.specs.desk.Nodes.{Node as Whole, AreParts, IsRefusal, points_refusal};
-ghost use Rattle.pfl_node.specs.Packets.{handled, packet_points, followed, on_the_way, accepted};
+ghost use Rattle.pfl_node.specs.Packets.{handled, packet_points, followed, on_the_way, accepted, tracked_at};
 ghost use Rattle.pfl_node.specs.Starting.{judged, pass};
 ghost use Rattle.pfl_receive.specs.table.Tables.{found};
-ghost use Rattle.pfl_track.specs.Tracking.{tracked};
 ghost use Rattle.pfl_node.specs.Weights.{packet_edits};
 
 use crate::node::Node;
@@ -24,7 +23,7 @@ use pfl_base::{Dir, Packet, Refusal, key};
 use pfl_edits::{Change, OfPart, Recorder};
 use pfl_language::{Fate, Reason};
 use pfl_receive::{Desk, NodeEdit, Overfull, Slot};
-use pfl_track::{State, Tracked, track};
+use pfl_track::{State, Tracked, track_by};
 use std::alloc::Allocator;
 
 impl<A: Allocator + Copy> Node<A> {
@@ -100,11 +99,11 @@ fn follow<A: Allocator>(
     requires found { found desk.old.node.states (flow_of packet.now dir) dir ≡ Some state.now }
     requires room { 14 ≤ desk.old.edits.spare }
     ensures done { Handles result desk.old desk.new
-        (followed desk.old.node dir packet.now state.now (tracked state.now packet.now dir desk.old.node.clock))
-        ((followed desk.old.node dir packet.now state.now (tracked state.now packet.now dir desk.old.node.clock)).node
-        ∷ on_the_way desk.old.node state.now (tracked state.now packet.now dir desk.old.node.clock)) }
+        (followed desk.old.node dir packet.now state.now (tracked_at desk.old.node state.now packet.now dir))
+        ((followed desk.old.node dir packet.now state.now (tracked_at desk.old.node state.now packet.now dir)).node
+        ∷ on_the_way desk.old.node state.now (tracked_at desk.old.node state.now packet.now dir)) }
 {
-    match track(state, packet, dir, desk.clock()) {
+    match track_by(desk.kernel(), state, packet, dir, desk.clock()) {
         Tracked::Moved(state) => {
             let fate = accept(desk, slot, state)?;
             Ok((fate, desk.is_overcounted()))

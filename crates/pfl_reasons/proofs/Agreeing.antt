@@ -9,7 +9,7 @@ use Rattle.pfl_base.specs.declared.refusal.Refusal.{Refusal}
 use Rattle.pfl_base.specs.declared.refusal.Refusal.TheVariants.{CountFull, LinkFull, NoSuchFrame}
 use Rattle.pfl_base.specs.Numbers.{greatest}
 use Rattle.pfl_edits.specs.Maps as maps
-use Rattle.pfl_track.specs.Edges.{TestsAgree}
+use Rattle.pfl_track.specs.RuleLaws.{OutcomesFollow}
 use Rattle.pfl_language.specs.declared.event.Event.{Event}
 use Rattle.pfl_language.specs.declared.event.Event.TheVariants as event
 use Rattle.pfl_language.specs.declared.event.FrameEvent.{FrameEvent}
@@ -89,23 +89,23 @@ plain-at : (w : World) (id : NodeId) (e : NodeEvent) (s : Stepped) → NeedsNoRe
     → from_node w id (node_step (node_at w id) e) ≡ Ok s → FollowsFrom w (event.At id e) Plain s
 plain-at w id e s so is = subst (FollowsFrom w (event.At id e) Plain) (accepted-at w id _ _ s is) so
 
-at_node-so : TestsAgree → (w : World) (id : NodeId) (e : NodeEvent) (s : Stepped) → from_node w id (node_step (node_at w id) e) ≡ Ok s
+at_node-so : OutcomesFollow → (w : World) (id : NodeId) (e : NodeEvent) (s : Stepped) → from_node w id (node_step (node_at w id) e) ≡ Ok s
     → FollowsFrom w (event.At id e) (explained_at (node_at w id) e) s
-at_node-so agree w id (own.Packet dir p) s is =
+at_node-so follow w id (own.Packet dir p) s is =
     let n = node_at w id in
     let h = handled n dir p in
     subst (FollowsFrom w (event.At id (own.Packet dir p)) (OfPacket (packet_reason n dir p))) (accepted-at w id _ _ s is)
-    (subst (λ m. HandledSo n dir p (packet_reason n dir p) (record { fate = h.fate; node = m })) (sym (own-node w id h.node)) (handled-so agree n dir p))
-at_node-so agree w id own.Purge s is =
+    (subst (λ m. HandledSo n dir p (packet_reason n dir p) (record { fate = h.fate; node = m })) (sym (own-node w id h.node)) (handled-so follow n dir p))
+at_node-so follow w id own.Purge s is =
     let n = node_at w id in
     subst (FollowsFrom w (event.At id own.Purge) (explained_at n own.Purge)) (accepted-at w id _ _ s is)
     (subst (PurgedSo n n.clock (maps.len n.states) (adaptive n.limits) (expiries n) (length (expired_states n))) (sym (own-node w id (purged n))) (purged-so n))
-at_node-so agree w id (own.Tick ms) s is = plain-at w id (own.Tick ms) s tt is
-at_node-so agree w id own.Release s is = plain-at w id own.Release s tt is
-at_node-so agree w id (own.Kill name) s is = plain-at w id (own.Kill name) s tt is
-at_node-so agree w id own.Clear s is = plain-at w id own.Clear s tt is
-at_node-so agree w id own.BulkTurn s is = plain-at w id own.BulkTurn s tt is
-at_node-so agree w id own.BulkRetry s is = plain-at w id own.BulkRetry s tt is
+at_node-so follow w id (own.Tick ms) s is = plain-at w id (own.Tick ms) s tt is
+at_node-so follow w id own.Release s is = plain-at w id own.Release s tt is
+at_node-so follow w id (own.Kill name) s is = plain-at w id (own.Kill name) s tt is
+at_node-so follow w id own.Clear s is = plain-at w id own.Clear s tt is
+at_node-so follow w id own.BulkTurn s is = plain-at w id own.BulkTurn s tt is
+at_node-so follow w id own.BulkRetry s is = plain-at w id own.BulkRetry s tt is
 
 -- a frame in flight that comes to its receiver
 module _ (w : World) (ticket : ℕ) (f : InFlight) (at : maps.get w.link.frames ticket ≡ Some f) where
@@ -168,26 +168,26 @@ of_frame-so w ticket (frame.Cut len) s is =
     (λ f. tt) (maps.get w.link.frames ticket) s is
 
 -- what an event gives that is accepted follows from its explanation
-outcomes-follow : TestsAgree → (w : World) (e : Event) (s : Stepped) → step w e ≡ Ok s → FollowsFrom w e (explained_outcome w e) s
+given-so : OutcomesFollow → (w : World) (e : Event) (s : Stepped) → step w e ≡ Ok s → FollowsFrom w e (explained_outcome w e) s
 unfolding step flush_step restart_step
-outcomes-follow agree w (event.At id e) s is = at_node-so agree w id e s is
-outcomes-follow agree w (event.Of ticket e) s is = of_frame-so w ticket e s is
-outcomes-follow agree w (event.Flush id) s is =
+given-so follow w (event.At id e) s is = at_node-so follow w id e s is
+given-so follow w (event.Of ticket e) s is = of_frame-so w ticket e s is
+given-so follow w (event.Flush id) s is =
     subst (FollowsFrom w (event.Flush id) Plain) (accepted (flush_refusal w id) (record {
       world = with_link (with_node w id (flushed (node_at w id))) (sent w.link (sent_frame w id));
       outcome = outcome.Sent w.link.next (length (sent_frame w id).bytes);
     }) s is) tt
-outcomes-follow agree w (event.Restart id) s is =
+given-so follow w (event.Restart id) s is =
     subst (FollowsFrom w (event.Restart id) Plain) (accepted (refused_by ((nat_le greatest w.next_boot, CountFull) ∷ [])) (record {
       world = record (with_node w id (restarted (node_at w id) w.next_boot)) { next_boot = w.next_boot + 1 };
       outcome = outcome.Boot w.next_boot;
     }) s is) tt
 
 -- each event agrees with its explanation
-pub events-agree : TestsAgree → ReasonsAgree
+pub events-agree : OutcomesFollow → ReasonsAgree
 unfolding explained
-events-agree tests w e = by (step w e) refl
+events-agree follow w e = by (step w e) refl
   where
     by : (r : Result Stepped Refusal) → step w e ≡ r → AgreesWith w e (explained_by w e r) r
-    by (Ok s) is = outcomes-follow tests w e s is
+    by (Ok s) is = given-so follow w e s is
     by (Err why) is = numbers-stand w e why is

@@ -42,8 +42,8 @@ use Rattle.pfl_world.specs.receive.Receiving.{request_taken, state_answered, sta
 use Rattle.pfl_world.specs.table.Tables.{by_stack, by_wire}
 use Rattle.pfl_reasons.specs.Laws.{RecordsAreCountedSo}
 use Rattle.pfl_reasons.specs.Records.{BulkBegins, CountedAsMany, CountedSo, IsFateOf, IsLastUsed, IsQueued, ack_fate, answer_fate, delete_fate}
-use Rattle.pfl_reasons.specs.Records.{import_fate, import_fault, keys_in, merge_fate, name_in, record_fate, request_fate, short_fate, status_fate}
-use Rattle.pfl_reasons.specs.Records.{update_fate}
+use Rattle.pfl_reasons.specs.Records.{import_fate, import_fault, keys_in, merge_fate, name_in, received_in, record_fate, request_fate, short_fate}
+use Rattle.pfl_reasons.specs.Records.{status_fate, update_fate}
 use Rattle.pfl_reasons.specs.declared.record_fate.BadRecord.{BadRecord}
 use Rattle.pfl_reasons.specs.declared.record_fate.BadRecord.TheVariants as bad
 use Rattle.pfl_reasons.specs.declared.record_fate.RecordFate.{RecordFate}
@@ -113,35 +113,35 @@ not-given n name is =
 
 module _ (n : Node) (r : StateRecord) (last : ℕ) (after : Node) where
   -- a state that may not be taken over is bad, for the first of the reasons
-  by_faults : (known not_given deleting full : Bool) (on_wire on_stack : Option State)
+  by_faults : (received : Option Received) (known not_given deleting full : Bool) (on_wire on_stack : Option State)
       → is_known n r.name ≡ known → is_not_given n r.name ≡ not_given → is_delete (kind_of n.queue r.name) ≡ deleting
       → nat_le n.limits.states (maps.len n.states) ≡ full → by_wire n.states r.keys.wire ≡ on_wire → by_stack n.states r.keys.stack ≡ on_stack
-      → (known ≡ false → CountedSo n after r.name (Some r.keys) (Imported last))
+      → (known ≡ false → CountedSo n after r.name (Some r.keys) received (Imported last))
       → CountedSo n (cond (not (not (known || not_given || deleting || (is_some on_wire || is_some on_stack) || full))) (count_bad n) after)
-      r.name (Some r.keys)
+      r.name (Some r.keys) received
       (option_map_or Bad
       (cond known (Some bad.Known) (cond not_given (Some bad.NotGiven) (cond deleting (Some bad.Deleting)
       (option_or (option_map (λ (s : State). bad.WireInUse s.name) on_wire)
       (option_or (option_map (λ (s : State). bad.StackInUse s.name) on_stack) (cond full (Some bad.Full) None))))))
       (Imported last))
-  by_faults true not_given deleting full on_wire on_stack k g d f w s new = (refl, k)
-  by_faults false true deleting full on_wire on_stack k g d f w s new = (refl, not-given n r.name g)
-  by_faults false false true full on_wire on_stack k g d f w s new = (refl, deletes (kind_of n.queue r.name) d)
-  by_faults false false false full (Some t) on_stack k g d f w s new = (refl, owner n (λ (u : State). is_key u.wire r.keys.wire) t w)
-  by_faults false false false full None (Some t) k g d f w s new = (refl, owner n (λ (u : State). is_key u.stack r.keys.stack) t s)
-  by_faults false false false true None None k g d f w s new = (refl, leb-true n.limits.states (maps.len n.states) f)
-  by_faults false false false false None None k g d f w s new = new refl
+  by_faults received true not_given deleting full on_wire on_stack k g d f w s new = (refl, k)
+  by_faults received false true deleting full on_wire on_stack k g d f w s new = (refl, not-given n r.name g)
+  by_faults received false false true full on_wire on_stack k g d f w s new = (refl, deletes (kind_of n.queue r.name) d)
+  by_faults received false false false full (Some t) on_stack k g d f w s new = (refl, owner n (λ (u : State). is_key u.wire r.keys.wire) t w)
+  by_faults received false false false full None (Some t) k g d f w s new = (refl, owner n (λ (u : State). is_key u.stack r.keys.stack) t s)
+  by_faults received false false false true None None k g d f w s new = (refl, leb-true n.limits.states (maps.len n.states) f)
+  by_faults received false false false false None None k g d f w s new = new refl
 
 none-known : (o : Option State) → is_some o ≡ false → o ≡ None
 none-known None e = refl
 none-known (Some s) e = absurd (cc)
 
-insert-counted : (n : Node) (b : Bool) (r : StateRecord) (ack : Bool)
-    → CountedSo n (insert_taken n b r ack) r.name (Some r.keys) (import_fate n b r)
-insert-counted n b r ack =
+insert-counted : (n : Node) (b : Bool) (r : StateRecord) (ack : Bool) (received : Option Received)
+    → CountedSo n (insert_taken n b r ack) r.name (Some r.keys) received (import_fate n b r)
+insert-counted n b r ack received =
     let s = imported n b r in
     let told = push_if true (mark (put_state n s) r.name InsertAck) in
-    by_faults n r s.last (cond ack told (put_state n s))
+    by_faults n r s.last (cond ack told (put_state n s)) received
     (is_known n r.name) (is_not_given n r.name) (is_delete (kind_of n.queue r.name)) (nat_le n.limits.states (maps.len n.states))
     (by_wire n.states r.keys.wire) (by_stack n.states r.keys.stack) refl refl refl refl refl refl
     (λ new. (
@@ -166,21 +166,22 @@ into-counted n m x still = by (x.stale_src || x.stale_dst)
     by false = let stale = still.1 in (still.0, omega arith)
 
 merge-counted : (n : Node) (name : StateName) (keys : Option KeyFields) (s : State) → maps.get n.states name ≡ Some s → (r : Received)
-    → CountedSo n (merge_taken n s r) name keys (merge_fate n s r)
+    → CountedSo n (merge_taken n s r) name keys (Some r) (merge_fate n s r)
 merge-counted n name keys s at r =
+    let k = n.limits.kernel in
     let timeout = timeout_at n s.rule r.class in
-    let counts = into-counted n (lost n s.name) (merged s r timeout n.clock) (lost-still n s.name) in
-    (counts.0, counts.1, λ are. merged-so n (lost n s.name) name s r timeout n.clock at (are.filed name s at))
+    let counts = into-counted n (lost n s.name) (merged k s r timeout n.clock) (lost-still n s.name) in
+    (counts.0, counts.1, refl, λ are. merged-so k n (lost n s.name) name s r timeout n.clock at (are.filed name s at))
 
 update-counted : (n : Node) (b : Bool) (r : StateRecord)
     → CountedSo n (option_map_or (λ (s : State). merge_taken n s (of_state r)) (maps.get n.states r.name)
-    (insert_taken n b r false)) r.name (Some r.keys) (update_fate n b r)
+    (insert_taken n b r false)) r.name (Some r.keys) (Some (of_state r)) (update_fate n b r)
 update-counted n b r = by (maps.get n.states r.name) refl
   where
     by : (o : Option State) → maps.get n.states r.name ≡ o
-        → CountedSo n (option_map_or (λ (s : State). merge_taken n s (of_state r)) o (insert_taken n b r false)) r.name (Some r.keys)
+        → CountedSo n (option_map_or (λ (s : State). merge_taken n s (of_state r)) o (insert_taken n b r false)) r.name (Some r.keys) (Some (of_state r))
         (option_map_or (λ (s : State). merge_fate n s (of_state r)) o (import_fate n b r))
-    by None at = insert-counted n b r false
+    by None at = insert-counted n b r false (Some (of_state r))
     by (Some s) at = merge-counted n r.name (Some r.keys) s at (of_state r)
 
 -- what is asked for is on the list of requests
@@ -194,24 +195,25 @@ asked q name = by (is_requested q name) refl
         ∙ (ap (λ (b : Bool). list_any (is_name name) q.requests || (b || false)) (is_name-itself name name refl) ∙ or-true (list_any (is_name name) q.requests))
 
 short-counted : (n : Node) (u : UpdateRecord)
-    → CountedSo n (option_map_or (λ (s : State). merge_taken n s (of_update u)) (maps.get n.states u.name) (ask n u.name)) u.name None (short_fate n u)
+    → CountedSo n (option_map_or (λ (s : State). merge_taken n s (of_update u)) (maps.get n.states u.name) (ask n u.name)) u.name None (Some (of_update u))
+    (short_fate n u)
 short-counted n u = by (maps.get n.states u.name) refl
   where
     by : (o : Option State) → maps.get n.states u.name ≡ o
-        → CountedSo n (option_map_or (λ (s : State). merge_taken n s (of_update u)) o (ask n u.name)) u.name None
+        → CountedSo n (option_map_or (λ (s : State). merge_taken n s (of_update u)) o (ask n u.name)) u.name None (Some (of_update u))
         (option_map_or (λ (s : State). merge_fate n s (of_update u)) o fate.Asked)
     by None at = ((refl, refl), at, asked n.queue u.name)
     by (Some s) at = merge-counted n u.name None s at (of_update u)
 
-ack-counted : (n : Node) (name : StateName) → CountedSo n (option_map_or (ack_taken n) (maps.get n.states name) n) name None (ack_fate n name)
+ack-counted : (n : Node) (name : StateName) → CountedSo n (option_map_or (ack_taken n) (maps.get n.states name) n) name None None (ack_fate n name)
 ack-counted n name = by (maps.get n.states name) refl
   where
     waiting : (s : State) → maps.get n.states name ≡ Some s → (b : Bool) → s.ack_wanted ≡ b
-        → CountedSo n (cond b (released n s.name) n) name None (cond b Acknowledged Nothing)
+        → CountedSo n (cond b (released n s.name) n) name None None (cond b Acknowledged Nothing)
     waiting s at true wanted = (released-still n s.name, λ are. acknowledged n name s at wanted (are.filed name s at))
     waiting s at false wanted = refl
 
-    by : (o : Option State) → maps.get n.states name ≡ o → CountedSo n (option_map_or (ack_taken n) o n) name None
+    by : (o : Option State) → maps.get n.states name ≡ o → CountedSo n (option_map_or (ack_taken n) o n) name None None
         (option_map_or (λ (s : State). cond s.ack_wanted Acknowledged Nothing) o Nothing)
     by None at = refl
     by (Some s) at = waiting s at s.ack_wanted refl
@@ -230,10 +232,10 @@ bulk-begins n = by (has_states n) refl
     by true some = (ltb-true 0 (maps.len n.states) some, refl, refl)
     by false none = let few = ltb-false 0 (maps.len n.states) none in (omega (arith, few), refl, refl)
 
-request-counted : (n : Node) (name : StateName) → CountedSo n (request_taken n name) name None (request_fate n name)
+request-counted : (n : Node) (name : StateName) → CountedSo n (request_taken n name) name None None (request_fate n name)
 request-counted n name = by (is_name no_name name) (maps.get n.states name) refl
   where
-    answered : (b : Bool) (m : Node) → CountedAsMany n m → IsQueued n name m → CountedSo n (cond b m n) name None (cond b fate.Queued Nothing)
+    answered : (b : Bool) (m : Node) → CountedAsMany n m → IsQueued n name m → CountedSo n (cond b m n) name None None (cond b fate.Queued Nothing)
     answered true m k queued = (k, queued)
     answered false m k queued = refl
 
@@ -242,7 +244,7 @@ request-counted n name = by (is_name no_name name) (maps.get n.states name) refl
         (marked-kind n.queue s.name)
 
     by : (all : Bool) (o : Option State) → maps.get n.states name ≡ o
-        → CountedSo n (cond all (bulk_taken n) (option_map_or (state_answered n) o (count_bad n))) name None
+        → CountedSo n (cond all (bulk_taken n) (option_map_or (state_answered n) o (count_bad n))) name None None
         (cond all (fate.Bulk (has_states n)) (option_map_or (answer_fate n) o (Bad bad.Unknown)))
     by true o at = ((refl, refl), bulk-begins n)
     by false None at = (refl, at)
@@ -253,24 +255,25 @@ gone : (n : Node) (name : StateName) → maps.get (forgotten n name).states name
 unfolding forgotten
 gone n name = get-set_at_same names_total names_exact (lost n name).states name None
 
-delete-counted : (n : Node) (name : StateName) → CountedSo n (delete_taken n name) name None (delete_fate n name)
+delete-counted : (n : Node) (name : StateName) → CountedSo n (delete_taken n name) name None None (delete_fate n name)
 delete-counted n name = by (is_known n name) refl
   where
-    by : (b : Bool) → is_known n name ≡ b → CountedSo n (cond b (forgotten n name) (count_bad n)) name None (cond b fate.Deleted (Bad bad.Unknown))
+    by : (b : Bool) → is_known n name ≡ b → CountedSo n (cond b (forgotten n name) (count_bad n)) name None None (cond b fate.Deleted (Bad bad.Unknown))
     by true known = (forgotten-still n name, known, gone n name)
     by false unknown = (refl, none-known (maps.get n.states name) unknown)
 
-status-counted : (n : Node) (status : BulkStatus) → CountedSo n (status_taken n status) no_name None (status_fate n)
+status-counted : (n : Node) (status : BulkStatus) → CountedSo n (status_taken n status) no_name None None (status_fate n)
 status-counted n status = by n.client refl status
   where
     by : (c : BulkClient) → n.client ≡ c → (status : BulkStatus)
-        → CountedSo n (record n { client = after_status c status n.clock }) no_name None (cond (is_waiting c) fate.Heard Nothing)
+        → CountedSo n (record n { client = after_status c status n.clock }) no_name None None (cond (is_waiting c) fate.Heard Nothing)
     by client.Idle is Start = ap (λ (c : BulkClient). record n { client = c }) (sym is)
     by client.Idle is Finish = ap (λ (c : BulkClient). record n { client = c }) (sym is)
     by (client.Waiting tries asked) is Start = (ap is_waiting is, refl, inl (ap (λ (c : BulkClient). heard c n.clock) (sym is)))
     by (client.Waiting tries asked) is Finish = (ap is_waiting is, refl, inr refl)
 
-clear-counted : (n : Node) (creator bound : ℕ) → CountedSo n (clear_taken n creator bound) no_name None (fate.Cleared (length (cleared_names n creator bound)))
+clear-counted : (n : Node) (creator bound : ℕ)
+    → CountedSo n (clear_taken n creator bound) no_name None None (fate.Cleared (length (cleared_names n creator bound)))
 clear-counted n creator bound =
     (all-still (cleared_names n creator bound) n n (refl, refl), fewer-by n (λ name. (name.creator == creator) && nat_le name.id bound))
 
@@ -326,10 +329,10 @@ fits n b (message.DeleteShort name) =
 fits n b (message.Bulk creator status) =
     elim (is_waiting n.client) as (λ w. IsFateOf (message.Bulk creator status) (cond w fate.Heard Nothing)) [ true ↦ tt | false ↦ tt ]
 
-says-so : (n : Node) (b : Bool) (m : Message) → CountedSo n (taken n b m) (name_in m) (keys_in m) (record_fate n b m)
+says-so : (n : Node) (b : Bool) (m : Message) → CountedSo n (taken n b m) (name_in m) (keys_in m) (received_in m) (record_fate n b m)
 unfolding taken record_fate
 says-so n b (message.Clear creator bound) = clear-counted n creator bound
-says-so n b (message.Insert r) = insert-counted n b r r.ack_wanted
+says-so n b (message.Insert r) = insert-counted n b r r.ack_wanted None
 says-so n b (message.InsertAck name) = ack-counted n name
 says-so n b (message.Update r) = update-counted n b r
 says-so n b (message.UpdateShort u) = short-counted n u

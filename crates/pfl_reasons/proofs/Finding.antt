@@ -8,7 +8,7 @@ use Rattle.pfl_base.specs.Keys.{key}
 use Rattle.pfl_track.specs.declared.state.State.{State}
 use Rattle.pfl_track.specs.declared.tracked.Tracked.{Tracked}
 use Rattle.pfl_track.specs.declared.tracked.Tracked.TheVariants.{Moved, OutOfWindow, Reused}
-use Rattle.pfl_track.specs.Tracking.{tracked}
+use Rattle.pfl_track.specs.Rules.{tracked_by}
 use Rattle.pfl_world.specs.desk.Changes.{deleted}
 use Rattle.pfl_world.specs.desk.Nodes.{Node}
 use Rattle.pfl_world.specs.table.Tables.{States, found}
@@ -26,7 +26,8 @@ module _ (n : Node) (dir : Dir) (p : Packet) where
   unfolding packet_reason
   of_no_state none = ap (by_found n dir p) none
 
-  module _ (s : State) (at : found n.states (key p dir) dir ≡ Some s) (x : Tracked) (is : tracked s p dir n.clock ≡ x) where
+  module _ (s : State) (at : found n.states (key p dir) dir ≡ Some s) (x : Tracked)
+      (is : tracked_by n.limits.kernel s p dir n.clock ≡ x) where
     of_found : packet_reason n dir p ≡ by_tracked n dir p s x
     unfolding packet_reason
     of_found = ap (by_found n dir p) at ∙ ap (by_tracked n dir p s) is
@@ -34,10 +35,10 @@ module _ (n : Node) (dir : Dir) (p : Packet) where
     pub of_closed : x ≡ Reused → packet_reason n dir p ≡ ByRules (Some s.name) (judged_reason (deleted n s) dir p)
     of_closed reused = of_found ∙ ap (by_tracked n dir p s) reused
 
-    pub of_state : x ≢ Reused → packet_reason n dir p ≡ OfState s.name (tested s dir p)
+    pub of_state : x ≢ Reused → packet_reason n dir p ≡ OfState s.name (tested n.limits.kernel s dir p)
     of_state other = of_found ∙ by x other
       where
-        by : (y : Tracked) → y ≢ Reused → by_tracked n dir p s y ≡ OfState s.name (tested s dir p)
+        by : (y : Tracked) → y ≢ Reused → by_tracked n dir p s y ≡ OfState s.name (tested n.limits.kernel s dir p)
         by (Moved t) other = refl
         by OutOfWindow other = refl
         by Reused other = absurd (other refl)

@@ -4,6 +4,7 @@ use Rattle.std.specs.Option.{option_map_or}
 use Rattle.std.proofs.Common.{cond, ap, sym, subst, inl, inr}
 use Rattle.std.proofs.lemmas.Bool.{leb-true}
 use Rattle.pfl_base.specs.declared.direction.Dir.{Dir}
+use Rattle.pfl_base.specs.declared.kernel.Kernel.{Kernel}
 use Rattle.pfl_base.specs.declared.packet.Packet.{Packet}
 use Rattle.pfl_base.specs.Keys.{is_key, key}
 use Rattle.pfl_base.specs.Packets.{is_request, is_tcp}
@@ -13,16 +14,18 @@ use Rattle.pfl_edits.proofs.ForCallers.{get-set_at_same}
 use Rattle.pfl_rules.specs.declared.rule.Rule.{Rule}
 use Rattle.pfl_rules.specs.Matching.{is_pass}
 use Rattle.pfl_rules.specs.Rules.{deciding, rule_at, verdict_by}
-use Rattle.pfl_track.specs.declared.peer.Peer.{Peer}
+use Rattle.pfl_track.specs.declared.branch.Branch.{Branch}
+use Rattle.pfl_track.specs.declared.judgement.Judgement.{Judgement}
 use Rattle.pfl_track.specs.declared.state.State.{State}
 use Rattle.pfl_track.specs.declared.tracked.Tracked.{Tracked}
 use Rattle.pfl_track.specs.declared.tracked.Tracked.TheVariants.{Moved, OutOfWindow, Reused}
-use Rattle.pfl_track.specs.Edges.{TestsAgree, is_met, window_test}
-use Rattle.pfl_track.specs.Tracking.{is_closed, moved, receiver, sender, tracked, tracked_other}
-use Rattle.pfl_track.specs.Windows.{begun, is_inside, receiver_after, sender_after}
+use Rattle.pfl_track.specs.Judging.{branch_of, window_test_by}
+use Rattle.pfl_track.specs.RuleLaws.{OutcomesFollow}
+use Rattle.pfl_track.specs.Rules.{branch, passed, segment_of, tracked_by, tracked_tcp_by}
+use Rattle.pfl_track.specs.Tracking.{is_closed, receiver, sender, tracked_other}
 use Rattle.pfl_language.specs.declared.fate.Fate.TheVariants as fate
 use Rattle.pfl_language.specs.declared.fate.Reason.TheVariants as reason
-use Rattle.pfl_world.proofs.ForCallers.track.{Stays, tracked-stays}
+use Rattle.pfl_world.proofs.ForCallers.track.{Stays, tracked_by-stays}
 use Rattle.pfl_world.specs.desk.Changes.{deleted, mark, put_state}
 use Rattle.pfl_world.specs.desk.Nodes.{Node}
 use Rattle.pfl_world.specs.node.Packets.{followed, handled, handled_by}
@@ -34,7 +37,7 @@ use Rattle.pfl_world.specs.queue.declared.Kind.TheVariants.{Insert}
 use Rattle.pfl_reasons.specs.declared.packet_reason.Judged.TheVariants as made
 use Rattle.pfl_reasons.specs.Deciding.{Decides}
 use Rattle.pfl_reasons.specs.Packets.{HandledSo, HasState, IsPassedBy, IsReuse, JudgedSo, TestedSo, by_found, by_keys, by_tracked, judged_reason, packet_reason}
-use Rattle.pfl_reasons.specs.Packets.{rule_reason, start_reason, tested}
+use Rattle.pfl_reasons.specs.Packets.{passes, rule_reason, start_reason, tested}
 use Rattle.pfl_reasons.proofs.Deciding.{decides, none-decides}
 use Rattle.pfl_reasons.proofs.Stated.{owner, some_and}
 
@@ -157,75 +160,80 @@ module _ (n : Node) (dir : Dir) (p : Packet) where
 
 -- ---- a packet of a state
 
--- what tracking makes of a packet that misses no edge, or one
-SaysOfWindow : Bool → Tracked → Type 0
-SaysOfWindow met (Moved t) = met ≡ true
-SaysOfWindow met OutOfWindow = met ≡ false
-SaysOfWindow met Reused = Unit {0}
+-- what tracking makes of a packet that passes its tests, or does not
+SaysOfTests : Bool → Tracked → Type 0
+SaysOfTests passes (Moved t) = passes ≡ true
+SaysOfTests passes OutOfWindow = passes ≡ false
+SaysOfTests passes Reused = Unit {0}
 
-abbrev misses_none : State → Dir → Packet → Bool
-misses_none s dir p = option_map_or is_met (tested s dir p) true
+abbrev passes_all : Kernel → State → Dir → Packet → Bool
+passes_all k s dir p = option_map_or passes (tested k s dir p) true
 
-tracked-says : TestsAgree → (s : State) (p : Packet) (dir : Dir) (now : ℕ) → SaysOfWindow (misses_none s dir p) (tracked s p dir now)
-unfolding SaysOfWindow
-tracked-says agree s p dir now = by (is_tcp p.proto) (is_request p && is_closed s)
+tracked-says : OutcomesFollow → (k : Kernel) (s : State) (p : Packet) (dir : Dir) (now : ℕ)
+    → SaysOfTests (passes_all k s dir p) (tracked_by k s p dir now)
+unfolding SaysOfTests
+tracked-says follow k s p dir now = by (is_tcp p.proto) refl
   where
-    from : Peer
-    from = begun (sender s dir) (receiver s dir) p
+    gone : Option Branch → Tracked
+    gone way = passed s (segment_of k (sender s dir) (receiver s dir) p) p dir now way
 
-    to : Peer
-    to = receiver s dir
+    tests : Judgement
+    tests = window_test_by k s dir p
 
-    in_window : (inside : Bool) (t : State) → is_met (window_test s dir p) ≡ inside
-        → SaysOfWindow (is_met (window_test s dir p)) (cond (not inside) OutOfWindow (Moved t))
-    in_window true t e = e
-    in_window false t e = e
+    in_way : (way : Option Branch) → SaysOfTests (is_some way) (gone way)
+    in_way None = refl
+    in_way (Some b) = refl
 
-    by : (tcp again : Bool)
-        → SaysOfWindow (option_map_or is_met (cond tcp (Some (window_test s dir p)) None) true)
-        (cond tcp (cond again Reused
-        (cond (not (is_inside from to p)) OutOfWindow (Moved (moved s dir (sender_after from p) (receiver_after from to p) now))))
-        (Moved (tracked_other s dir now)))
-    by true true = tt
-    by true false = in_window (is_inside from to p) _ (agree from to p)
-    by false again = refl
+    unless_again : (again : Bool) (way : Option Branch) → SaysOfTests (is_some way) (cond again Reused (gone way))
+    unless_again true way = tt
+    unless_again false way = in_way way
+
+    by : (tcp : Bool) → is_tcp p.proto ≡ tcp → SaysOfTests (option_map_or passes (cond tcp (Some tests) None) true) (tracked_by k s p dir now)
+    by true is = subst (SaysOfTests (passes tests)) (sym (follow k s p dir now is)) (unless_again (is_request p && is_closed s) (branch_of tests))
+    by false is = subst (SaysOfTests true) (sym (ap (λ b. cond b (tracked_tcp_by k s p dir now) (Moved (tracked_other s dir now))) is)) refl
 
 -- a new connection over a closed one
-tracked-reuse : (s : State) (p : Packet) (dir : Dir) (now : ℕ) → tracked s p dir now ≡ Reused → IsReuse s p
-tracked-reuse s p dir now =
-    by (is_tcp p.proto) (is_request p) (is_closed s) (is_inside (begun (sender s dir) (receiver s dir) p) (receiver s dir) p) _ _
+tracked-reuse : (k : Kernel) (s : State) (p : Packet) (dir : Dir) (now : ℕ) → tracked_by k s p dir now ≡ Reused → IsReuse s p
+tracked-reuse k s p dir now =
+    by (is_tcp p.proto) (is_request p) (is_closed s) (branch k (segment_of k (sender s dir) (receiver s dir) p) (receiver s dir) p) _
   where
-    by : (tcp asks closed inside : Bool) (t u : State)
-        → cond tcp (cond (asks && closed) Reused (cond (not inside) OutOfWindow (Moved t))) (Moved u) ≡ Reused
+    gone : Option Branch → Tracked
+    gone way = passed s (segment_of k (sender s dir) (receiver s dir) p) p dir now way
+
+    by : (tcp asks closed : Bool) (way : Option Branch) (u : State)
+        → cond tcp (cond (asks && closed) Reused (gone way)) (Moved u) ≡ Reused
         → (tcp ≡ true) × (asks ≡ true) × (closed ≡ true)
-    by true true true inside t u is = (refl, refl, refl)
-    by true true false true t u is = absurd (cc)
-    by true true false false t u is = absurd (cc)
-    by true false closed true t u is = absurd (cc)
-    by true false closed false t u is = absurd (cc)
-    by false asks closed inside t u is = absurd (cc)
+    by true true true way u is = (refl, refl, refl)
+    by true true false None u is = absurd (cc)
+    by true true false (Some b) u is = absurd (cc)
+    by true false closed None u is = absurd (cc)
+    by true false closed (Some b) u is = absurd (cc)
+    by false asks closed way u is = absurd (cc)
 
 module _ (n : Node) (dir : Dir) (p : Packet) (s : State) (at : found n.states (key p dir) dir ≡ Some s) where
-  found-so : IsSomeAnd (found n.states (key p dir) dir) (λ t. (t.name ≡ s.name) × (tested s dir p ≡ tested t dir p))
-  found-so = some_and (λ (t : State). (t.name ≡ s.name) × (tested s dir p ≡ tested t dir p)) (found n.states (key p dir) dir) s at (refl, refl)
+  found-so : IsSomeAnd (found n.states (key p dir) dir) (λ t. (t.name ≡ s.name) × (tested n.limits.kernel s dir p ≡ tested n.limits.kernel t dir p))
+  found-so = some_and (λ (t : State). (t.name ≡ s.name) × (tested n.limits.kernel s dir p ≡ tested n.limits.kernel t dir p))
+      (found n.states (key p dir) dir) s at (refl, refl)
 
-  followed-so : (x : Tracked) → tracked s p dir n.clock ≡ x → Stays s x → SaysOfWindow (misses_none s dir p) x
+  followed-so : (x : Tracked) → tracked_by n.limits.kernel s p dir n.clock ≡ x → Stays s x → SaysOfTests (passes_all n.limits.kernel s dir p) x
       → HandledSo n dir p (by_tracked n dir p s x) (followed n dir p s x)
-  unfolding SaysOfWindow
-  followed-so (Moved t) is stays met = (
+  unfolding SaysOfTests
+  followed-so (Moved t) is stays says = (
     found-so,
-    subst (λ b. TestedSo n s.name b (followed n dir p s (Moved t))) (sym met) (ap (λ name. fate.Pass (Some name)) stays.name),
+    subst (λ b. TestedSo n s.name b (followed n dir p s (Moved t))) (sym says) (ap (λ name. fate.Pass (Some name)) stays.name),
   )
-  followed-so OutOfWindow is stays met = (found-so, subst (λ b. TestedSo n s.name b (drop n reason.Window)) (sym met) refl)
-  followed-so Reused is stays met =
+  followed-so OutOfWindow is stays says = (found-so, subst (λ b. TestedSo n s.name b (drop n reason.Window)) (sym says) refl)
+  followed-so Reused is stays says =
       let made = judged_reason (deleted n s) dir p in
       some_and (λ (t : State). (t.name ≡ s.name) × IsReuse t p × JudgedSo (deleted n t) dir p made (judged (deleted n s) dir p))
-      (found n.states (key p dir) dir) s at (refl, tracked-reuse s p dir n.clock is, judged-so (deleted n s) dir p)
+      (found n.states (key p dir) dir) s at (refl, tracked-reuse n.limits.kernel s p dir n.clock is, judged-so (deleted n s) dir p)
 
-pub handled-so : TestsAgree → (n : Node) (dir : Dir) (p : Packet) → HandledSo n dir p (packet_reason n dir p) (handled n dir p)
+pub handled-so : OutcomesFollow → (n : Node) (dir : Dir) (p : Packet) → HandledSo n dir p (packet_reason n dir p) (handled n dir p)
 unfolding handled packet_reason
-handled-so agree n dir p = by (found n.states (key p dir) dir) refl
+handled-so follow n dir p = by (found n.states (key p dir) dir) refl
   where
     by : (o : Option State) → found n.states (key p dir) dir ≡ o → HandledSo n dir p (by_found n dir p o) (handled_by n dir p o)
     by None at = (at, judged-so n dir p)
-    by (Some s) at = followed-so n dir p s at (tracked s p dir n.clock) refl (tracked-stays s p dir n.clock) (tracked-says agree s p dir n.clock)
+    by (Some s) at =
+        let k = n.limits.kernel in
+        followed-so n dir p s at (tracked_by k s p dir n.clock) refl (tracked_by-stays k s p dir n.clock) (tracked-says follow k s p dir n.clock)

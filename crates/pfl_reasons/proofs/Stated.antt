@@ -2,12 +2,14 @@
 use Rattle.std.specs.Prelude.{◌≡◌, ◌&&◌, ◌||◌, ◌+◌, Bool, true, false, not, List, [], ◌∷◌, filter, find, min, Option, Some, None, IsSomeAnd, is_some, ℕ, refl}
 use Rattle.std.specs.Option.{option_map_or}
 use Rattle.std.proofs.Common.{cond, ◌∙◌, ap, subst, sym}
+use Rattle.pfl_base.specs.declared.kernel.Kernel.{Kernel}
 use Rattle.pfl_base.specs.declared.state_name.StateName.{StateName}
 use Rattle.pfl_base.specs.Names.{is_name}
 use Rattle.pfl_base.specs.Packets.{is_tcp}
 use Rattle.pfl_base.proofs.ForCallers.{names_exact, names_total}
 use Rattle.pfl_edits.specs.Maps as maps
 use Rattle.pfl_edits.proofs.ForCallers.{first_value-stands, get-set_at_same}
+use Rattle.pfl_track.specs.declared.peer.Peer.{Peer}
 use Rattle.pfl_track.specs.declared.state.State.{State}
 use Rattle.pfl_merge.specs.declared.merged.Merged.{Merged}
 use Rattle.pfl_merge.specs.declared.received.Received.{Received}
@@ -18,7 +20,8 @@ use Rattle.pfl_world.specs.desk.Changes.{changed, count_freed, count_stale, free
 use Rattle.pfl_world.specs.desk.Nodes.{Node}
 use Rattle.pfl_world.specs.receive.Receiving.{merged_into}
 use Rattle.pfl_reasons.specs.Packets.{HasState}
-use Rattle.pfl_reasons.specs.Records.{IsLastUsed, IsMergedSo, WaitsNoMore}
+use Rattle.pfl_reasons.specs.declared.record_fate.TakenEnds.{TakenEnds}
+use Rattle.pfl_reasons.specs.Records.{IsLastUsed, IsMergedSo, WaitsNoMore, ends_of, ends_taken}
 use Rattle.pfl_reasons.proofs.Expiring.{passes}
 
 -- what holds of the value that there is
@@ -65,45 +68,66 @@ into-like n x =
     let s = record x.state { ack_wanted = false } in
     either like (x.stale_src || x.stale_dst) _ _ (changed-like (count_stale n) s) (put-like n s)
 
--- what a merge keeps of a state: its name, and the ends that are newer
-record Keeps (s t : State) (stale_src stale_dst : Bool) : Type 0 where
+-- what a merge makes of a state: its name stays, and each end that was taken is that of the record
+record Becomes (s : State) (r : Received) (ends : TakenEnds) (t : State) : Type 0 where
   name : t.name ≡ s.name
-  src : stale_src ≡ true → t.src ≡ s.src
-  dst : stale_dst ≡ true → t.dst ≡ s.dst
+  src : t.src ≡ cond ends.src r.src s.src
+  dst : t.dst ≡ cond ends.dst r.dst s.dst
 
-chosen : {X : Type 0} (stale : Bool) (held received : X) → stale ≡ true → cond stale held received ≡ held
-chosen true held received is = refl
-chosen false held received is = absurd (cc)
+-- an end that does not stay is taken
+taken-else : {X : Type 0} (stays : Bool) (held received : X) → cond stays held received ≡ cond (not stays) received held
+taken-else true held received = refl
+taken-else false held received = refl
 
-merged-keeps : (s : State) (r : Received) (timeout now : ℕ) → Keeps s (merged s r timeout now).state (stale_src s r) (stale_dst s r)
-merged-keeps s r timeout now = by (not (stale_src s r && stale_dst s r)) _ (record {
+-- the ends that are shown as taken, by whether the rule is the kernel's and which ends are older
+abbrev ends_by : Bool → Bool → Bool → TakenEnds
+ends_by merge src dst = ends_of (cond merge (Some (record { src = not src; dst = not (dst && src) })) None) src dst
+
+src-taken : (merge src dst : Bool) (held received : Peer) → cond src held received ≡ cond (ends_by merge src dst).src received held
+src-taken true src dst held received = taken-else src held received
+src-taken false src dst held received = taken-else src held received
+
+dst-taken : (merge src dst : Bool) (held received : Peer)
+    → cond (dst && (not merge || src)) held received ≡ cond (ends_by merge src dst).dst received held
+dst-taken true src dst held received = taken-else (dst && src) held received
+dst-taken false src true held received = refl
+dst-taken false src false held received = refl
+
+-- the ends of a record that a merge takes
+abbrev pub taken_by : Kernel → State → Received → TakenEnds
+taken_by k s r = ends_of (ends_taken k (stale_src s r) (stale_dst s r)) (stale_src s r) (stale_dst s r)
+
+merged-becomes : (k : Kernel) (s : State) (r : Received) (timeout now : ℕ) → Becomes s r (taken_by k s r) (merged k s r timeout now).state
+merged-becomes k s r timeout now = by (not (stale_src s r && stale_dst s r)) _ (record {
   name = refl;
-  src = λ is. chosen (stale_src s r) s.src r.src is;
-  dst = λ is. chosen (stale_dst s r) s.dst r.dst is;
+  src = src-taken k.merge (stale_src s r) (stale_dst s r) s.src r.src;
+  dst = dst-taken k.merge (stale_src s r) (stale_dst s r) s.dst r.dst;
 })
   where
-    by : (b : Bool) (t : State) → Keeps s t (stale_src s r) (stale_dst s r) → Keeps s (refreshed b t r timeout now) (stale_src s r) (stale_dst s r)
-    by true t keeps = record { name = keeps.name; src = keeps.src; dst = keeps.dst }
-    by false t keeps = keeps
+    by : (b : Bool) (t : State) → Becomes s r (taken_by k s r) t → Becomes s r (taken_by k s r) (refreshed b t r timeout now)
+    by true t becomes = record { name = becomes.name; src = becomes.src; dst = becomes.dst }
+    by false t becomes = becomes
 
 inside : {X : Type 0} (P Q : X → Type 0) (o : Option X) → ((x : X) → P x → Q x) → IsSomeAnd o P → IsSomeAnd o Q
 inside P Q None then holds = holds
 inside P Q (Some x) then holds = then x holds
 
 -- a state that is merged
-pub merged-so : (n m : Node) (name : StateName) (s : State) (r : Received) (timeout now : ℕ) → maps.get n.states name ≡ Some s → s.name ≡ name
-    → IsMergedSo n name (stale_src s r) (stale_dst s r) (merged s r timeout now).state.last (merged_into m (merged s r timeout now))
-merged-so n m name s r timeout now at filed =
-    let x = merged s r timeout now in
+pub merged-so : (k : Kernel) (n m : Node) (name : StateName) (s : State) (r : Received) (timeout now : ℕ)
+    → maps.get n.states name ≡ Some s → s.name ≡ name
+    → IsMergedSo n name (taken_by k s r) (merged k s r timeout now).state.last (merged_into m (merged k s r timeout now)) r
+merged-so k n m name s r timeout now at filed =
+    let x = merged k s r timeout now in
+    let ends = taken_by k s r in
     let after = merged_into m x in
-    let keeps = merged-keeps s r timeout now in
-    let like = subst (λ (k : StateName). HasLike after k x.state) (keeps.name ∙ filed) (into-like m x) in
+    let becomes = merged-becomes k s r timeout now in
+    let like = subst (λ (j : StateName). HasLike after j x.state) (becomes.name ∙ filed) (into-like m x) in
     some_and (λ (u : State). IsSomeAnd (maps.get after.states name)
-    (λ (t : State). (t.last ≡ x.state.last) × (stale_src s r ≡ true → t.src ≡ u.src) × (stale_dst s r ≡ true → t.dst ≡ u.dst)))
+    (λ (t : State). (t.last ≡ x.state.last) × (t.src ≡ cond ends.src r.src u.src) × (t.dst ≡ cond ends.dst r.dst u.dst)))
     (maps.get n.states name) s at
     (inside (λ (t : State). (t.last ≡ x.state.last) × (t.src ≡ x.state.src) × (t.dst ≡ x.state.dst))
-    (λ (t : State). (t.last ≡ x.state.last) × (stale_src s r ≡ true → t.src ≡ s.src) × (stale_dst s r ≡ true → t.dst ≡ s.dst))
-    (maps.get after.states name) (λ t so. (so.0, λ is. so.1 ∙ keeps.src is, λ is. so.2 ∙ keeps.dst is)) like)
+    (λ (t : State). (t.last ≡ x.state.last) × (t.src ≡ cond ends.src r.src s.src) × (t.dst ≡ cond ends.dst r.dst s.dst))
+    (maps.get after.states name) (λ t so. (so.0, so.1 ∙ becomes.src, so.2 ∙ becomes.dst)) like)
 
 -- ---- waiting
 

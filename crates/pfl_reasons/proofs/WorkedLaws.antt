@@ -22,7 +22,7 @@ use Rattle.pfl_rules.specs.declared.rule.Rule.{Rule}
 use Rattle.pfl_rules.specs.declared.rule_dir.RuleDir.TheVariants.{Any}
 use Rattle.pfl_track.specs.Tracking.{silent}
 use Rattle.pfl_wire.specs.declared.message.Message.{Message}
-use Rattle.pfl_wire.specs.declared.message.Message.TheVariants.{Clear, DeleteShort, Insert, InsertAck}
+use Rattle.pfl_wire.specs.declared.message.Message.TheVariants.{Clear, DeleteShort, Insert, InsertAck, UpdateShort}
 use Rattle.pfl_world.proofs.ForCallers.{computing as of_worlds, limits, name, u1, u2}
 use Rattle.pfl_world.specs.desk.Nodes.{Node}
 use Rattle.pfl_world.specs.node.Starting as starting
@@ -135,6 +135,15 @@ not_acknowledged so = (so.1.1 (record {
   one_wire = λ n o s t is there same. absurd (cc);
   one_stack = λ n o s t is there same. absurd (cc);
 })).0
+
+-- a part of the state, with nothing new
+abbrev update : Message
+update = UpdateShort (record { name = name 2 1; src = silent; dst = silent; class = UdpFirst; remaining = 60 })
+
+-- by the profile the fate says no more than which ends are older
+no_end_is_shown : IsRefused holder update (fate.Merged false false 0 (Some (record { src = true; dst = true })))
+unfolding computing
+no_end_is_shown so = let none : Some (record { src = true; dst = true }) ≡ None = so.1.2 in absurd (cc)
 
 -- ---- packets, where the first rule is 0
 

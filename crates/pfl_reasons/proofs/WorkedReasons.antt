@@ -1,13 +1,15 @@
 -- Worked cases of explanations, computed: the rule that decided, the edge that was missed and by how much, when states expire.
-use Rattle.std.specs.Prelude.{◌≡◌, ℕ, true, false, List, [], ◌∷◌, replicate, Some, None, unwrap_or, refl}
+use Rattle.std.specs.Prelude.{◌≡◌, ℕ, true, false, List, [], ◌∷◌, replicate, Option, Some, None, unwrap_or, refl}
 use Rattle.pfl_base.specs.declared.addr.Addr.TheVariants.{V4}
 use Rattle.pfl_base.specs.declared.addr.End.{End}
 use Rattle.pfl_base.specs.declared.class.Class.TheVariants.{UdpFirst}
 use Rattle.pfl_base.specs.declared.direction.Dir.{Dir}
 use Rattle.pfl_base.specs.declared.direction.Dir.TheVariants.{Inbound, Outbound}
+use Rattle.pfl_base.specs.declared.kernel.Kernel.{Kernel}
 use Rattle.pfl_base.specs.declared.node_id.NodeId.TheVariants.{A, B}
 use Rattle.pfl_base.specs.declared.packet.Packet.{Packet}
 use Rattle.pfl_base.specs.declared.proto.Proto.TheVariants.{Tcp}
+use Rattle.pfl_base.specs.Kernels.{profile}
 use Rattle.pfl_language.specs.declared.event.Event.{Event}
 use Rattle.pfl_language.specs.declared.event.Event.TheVariants as event
 use Rattle.pfl_language.specs.declared.event.FrameEvent.TheVariants as frame
@@ -16,7 +18,10 @@ use Rattle.pfl_language.specs.declared.node_event.NodeEvent.TheVariants as own
 use Rattle.pfl_rules.specs.declared.action.Action.TheVariants.{Block, Pass}
 use Rattle.pfl_rules.specs.declared.rule.Rule.{Rule}
 use Rattle.pfl_rules.specs.declared.rule_dir.RuleDir.TheVariants.{Any, Out}
-use Rattle.pfl_track.specs.Edges.{tested_by}
+use Rattle.pfl_track.specs.declared.edges.AckTest.{AckTest}
+use Rattle.pfl_track.specs.declared.edges.EdgeTest.{EdgeTest}
+use Rattle.pfl_track.specs.declared.judgement.Judgement.{Judgement}
+use Rattle.pfl_track.specs.Judging as judging
 use Rattle.pfl_world.proofs.ForCallers.{computing as of_worlds, limits, name, u1, u2, u3}
 use Rattle.pfl_world.specs.Runs.{run}
 use Rattle.pfl_world.specs.Worlds.{World, new_world, new_world_at}
@@ -32,7 +37,7 @@ use Rattle.pfl_reasons.specs.Packets.{judged_reason, packet_reason}
 use Rattle.pfl_reasons.specs.Purges.{expiries}
 
 unfoldable computing : ℕ
-unfolding of_worlds against explained expiries judged_reason packet_reason tested_by
+unfolding of_worlds against explained expiries judged_reason packet_reason judging.judged
 computing = 0
 
 abbrev pass : Rule
@@ -132,25 +137,104 @@ out flags seq ack window len = packet Outbound (tcp client server flags seq ack 
 abbrev into : ℕ → ℕ → ℕ → ℕ → ℕ → Event
 into flags seq ack window len = packet Inbound (tcp server client flags seq ack window len)
 
+-- the handshake, at a pair with these rules of the kernel
+abbrev opened_by : Kernel → World
+opened_by k =
+    after (pair (record limits { kernel = k }) (pass ∷ []))
+    (out 2 100 0 1000 0 ∷ into 18 500 101 2000 0 ∷ out 16 101 501 1000 0 ∷ [])
+
 abbrev opened : World
-opened = after (pair limits (pass ∷ [])) (out 2 100 0 1000 0 ∷ into 18 500 101 2000 0 ∷ out 16 101 501 1000 0 ∷ [])
+opened = opened_by profile
 
 -- the server allows as far as 2101
 misses_by_one : explained opened (out 16 101 501 1000 2001) ≡ OfPacket (OfState (name 1 1) (Some (record {
-  right = record { number = 2102; bound = 2101; missed = Some 1 };
-  left = record { number = 101; bound = 4294965397; missed = None };
-  ack = Some (record { number = 501; least = 4294900762; most = 67536; missed = None });
+  eased = false;
+  test = record {
+    right = record { number = 2102; bound = 2101; missed = Some 1 };
+    left = record { number = 101; bound = 4294965397; missed = None };
+    ack = Some (record { number = 501; least = 4294900762; most = 67536; missed = None });
+  };
+  reset = None;
+  loose = None;
 })))
 unfolding computing
 misses_by_one = refl
 
-misses_nothing : explained opened (out 16 101 501 1000 2000) ≡ OfPacket (OfState (name 1 1) (Some (record {
-  right = record { number = 2101; bound = 2101; missed = None };
-  left = record { number = 101; bound = 4294965397; missed = None };
-  ack = Some (record { number = 501; least = 4294900762; most = 67536; missed = None });
-})))
+abbrev edge : ℕ → ℕ → Option ℕ → EdgeTest
+edge number bound missed = record { number = number; bound = bound; missed = missed }
+
+abbrev ack_of : ℕ → ℕ → ℕ → Option AckTest
+ack_of number least most = Some (record { number = number; least = least; most = most; missed = None })
+
+-- the edges of a window, and nothing else
+abbrev plainly : EdgeTest → EdgeTest → Option AckTest → Judgement
+plainly right left ack = record { eased = false; test = record { right = right; left = left; ack = ack }; reset = None; loose = None }
+
+abbrev by_state : Judgement → Explained
+by_state judgement = OfPacket (OfState (name 1 1) (Some judgement))
+
+misses_nothing : explained opened (out 16 101 501 1000 2000) ≡ by_state (plainly (edge 2101 2101 None) (edge 101 4294965397 None) (ack_of 501 4294900762 67536))
 unfolding computing
 misses_nothing = refl
+
+-- an acknowledgement of the server's whose own number is 3499 past what the client allowed
+abbrev far_ack : Event
+far_ack = into 16 5000 101 2000 0
+
+missed_by_the_profile : explained opened far_ack
+    ≡ by_state (plainly (edge 5000 1501 (Some 3499)) (edge 5000 4294966797 None) (ack_of 101 4294900362 67136))
+unfolding computing
+missed_by_the_profile = refl
+
+-- by the rule `window` it lies where the server stands, since it has no data; and the client's own acknowledgement, which had none, left its
+-- lo at 100
+eased : explained (opened_by (record profile { window = true })) far_ack ≡ by_state (record {
+  eased = true;
+  test = record { right = edge 501 1501 None; left = edge 501 4294966797 None; ack = ack_of 101 4294900361 67135 };
+  reset = None;
+  loose = None;
+})
+unfolding computing
+eased = refl
+
+-- a RST of the server's is two numbers off: by the rule `reset` it misses by one
+one_number_off : explained (opened_by (record profile { reset = true })) (into 4 503 0 0 0) ≡ by_state (record {
+  eased = false;
+  test = record { right = edge 503 1501 None; left = edge 503 4294966797 None; ack = None };
+  reset = Some (record { number = 503; least = 500; most = 502; missed = Some 1 });
+  loose = None;
+})
+unfolding computing
+one_number_off = refl
+
+-- after both have closed, data of the server's that the client never allowed
+abbrev late : Kernel → ℕ → Explained
+late k seq = explained (after (opened_by k) (out 17 101 501 1000 0 ∷ into 17 501 102 2000 0 ∷ out 16 102 502 1000 0 ∷ [])) (into 16 seq 102 2000 100)
+
+dropped_by_the_profile : late profile 2000
+    ≡ by_state (plainly (edge 2100 1502 (Some 598)) (edge 2000 4294966798 None) (ack_of 102 4294900363 67137))
+unfolding computing
+dropped_by_the_profile = refl
+
+-- by the rule `loose` it is near enough
+near_enough : late (record profile { loose = true }) 2000 ≡ by_state (record {
+  eased = false;
+  test = record { right = edge 2100 1502 (Some 598); left = edge 2000 4294966798 None; ack = ack_of 102 4294900363 67137 };
+  reset = None;
+  loose = Some (record { right = edge 2100 68537 None; left = edge 2000 4294900763 None });
+})
+unfolding computing
+near_enough = refl
+
+-- and further off it is not
+not_near_enough : late (record profile { loose = true }) 100000 ≡ by_state (record {
+  eased = false;
+  test = record { right = edge 100100 1502 (Some 98598); left = edge 100000 4294966798 None; ack = ack_of 102 4294900363 67137 };
+  reset = None;
+  loose = Some (record { right = edge 100100 68537 (Some 31563); left = edge 100000 4294900763 None });
+})
+unfolding computing
+not_near_enough = refl
 
 -- a new connection over the closed one
 begins_anew : explained (after opened (out 17 101 501 1000 0 ∷ into 17 501 102 2000 0 ∷ out 16 102 502 1000 0 ∷ [])) (out 2 9000 0 1000 0)

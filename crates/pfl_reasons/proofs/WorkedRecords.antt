@@ -1,11 +1,12 @@
 -- Worked cases of records, computed: what becomes of each at a new node.
-use Rattle.std.specs.Prelude.{◌≡◌, ℕ, true, false, List, [], ◌∷◌, map, None, replicate, refl}
+use Rattle.std.specs.Prelude.{◌≡◌, ℕ, Bool, true, false, List, [], ◌∷◌, map, Option, None, Some, replicate, refl}
 use Rattle.pfl_base.specs.declared.addr.Addr.TheVariants.{V4}
 use Rattle.pfl_base.specs.declared.proto.Proto.TheVariants.{Udp}
 use Rattle.pfl_base.specs.declared.direction.Dir.TheVariants.{Outbound}
 use Rattle.pfl_base.specs.declared.class.Class.TheVariants.{UdpFirst}
 use Rattle.pfl_base.specs.declared.flow.Key.{Key}
 use Rattle.pfl_base.specs.declared.state_name.StateName.{StateName}
+use Rattle.pfl_base.specs.Kernels.{profile}
 use Rattle.pfl_bulk.specs.declared.BulkClient.TheVariants as client
 use Rattle.pfl_edits.proofs.ForCallers as map_lemmas
 use Rattle.pfl_language.specs.Limits.{default_limits}
@@ -22,6 +23,7 @@ use Rattle.pfl_reasons.specs.Records.{fates}
 use Rattle.pfl_reasons.specs.declared.record_fate.BadRecord.TheVariants as bad
 use Rattle.pfl_reasons.specs.declared.record_fate.RecordFate.{RecordFate}
 use Rattle.pfl_reasons.specs.declared.record_fate.RecordFate.TheVariants as fate
+use Rattle.pfl_reasons.specs.declared.record_fate.TakenEnds.{TakenEnds}
 
 abbrev name : ℕ → ℕ → StateName
 name creator id = record { creator = creator; id = id }
@@ -51,6 +53,10 @@ insertion of = Insert (record {
 -- a part of the state, of which a third of the minute is left
 abbrev update : StateName → Peer → Message
 update of src = UpdateShort (record { name = of; src = src; dst = silent; class = UdpFirst; remaining = 20 })
+
+-- a part of it with both ends
+abbrev both : Peer → Peer → Message
+both src dst = UpdateShort (record { name = name 2 1; src = src; dst = dst; class = UdpFirst; remaining = 20 })
 
 -- an end that has been heard
 abbrev heard : Peer
@@ -86,9 +92,29 @@ asked_for = refl
 
 -- an end that is further is taken, and then the former one is older
 merged : become (insertion (name 2 1) ∷ update (name 2 1) heard ∷ update (name 2 1) silent ∷ []) ≡ fate.Imported 30000
-    ∷ fate.Merged false false 20000 ∷ fate.Merged true false 20000 ∷ []
+    ∷ fate.Merged false false 20000 None ∷ fate.Merged true false 20000 None ∷ []
 unfolding computing
 merged = refl
+
+-- parts of the state with both ends, one after another
+abbrev updates : List Message
+updates = insertion (name 2 1) ∷ both silent heard ∷ both heard silent ∷ both silent heard ∷ both silent silent ∷ []
+
+-- the second destination is older than the first, the third source than the second, and then both are: what is older stays
+newer_ends_stay : become updates ≡ fate.Imported 30000 ∷ fate.Merged false false 20000 None ∷ fate.Merged false true 20000 None
+    ∷ fate.Merged true false 20000 None ∷ fate.Merged true true 20000 None ∷ []
+unfolding computing
+newer_ends_stay = refl
+
+abbrev takes : Bool → Bool → Option TakenEnds
+takes src dst = Some (record { src = src; dst = dst })
+
+-- by the kernel's rule the destination is taken with the source; and where the source alone is older, it is taken too
+destination_goes_along : map (λ t. t.fate) (fates (record fresh { limits = record default_limits { kernel = record profile { merge = true } } }) true updates)
+    ≡ fate.Imported 30000 ∷ fate.Merged false false 20000 (takes true true) ∷ fate.Merged false true 20000 (takes true true)
+    ∷ fate.Merged true false 20000 (takes false true) ∷ fate.Merged true true 20000 (takes false false) ∷ []
+unfolding computing
+destination_goes_along = refl
 
 -- requests for all states, for one and for one that is not there, and deletions
 asked_and_deleted : become (UpdateRequest (name 0 0) ∷ insertion (name 2 1) ∷ UpdateRequest (name 2 1) ∷ UpdateRequest (name 2 1)

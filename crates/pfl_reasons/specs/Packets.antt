@@ -1,7 +1,8 @@
 -- Why a packet has its fate (pf.c, pf.conf(5); that it is shown is this project's profile).
-use Rattle.std.specs.Prelude.{◌≡◌, ◌≤◌, ◌⊎◌, ℕ, Bool, true, false, nat_le, Option, Some, None, IsSomeAnd, if◌then◌else◌, unwrap_or}
+use Rattle.std.specs.Prelude.{◌≡◌, ◌≤◌, ◌⊎◌, ℕ, Bool, true, false, nat_le, Option, Some, None, IsSomeAnd, is_some, if◌then◌else◌, unwrap_or}
 use Rattle.std.specs.Option.{option_map_or}
 use Rattle.pfl_base.specs.declared.direction.Dir.{Dir}
+use Rattle.pfl_base.specs.declared.kernel.Kernel.{Kernel}
 use Rattle.pfl_base.specs.declared.packet.Packet.{Packet}
 use Rattle.pfl_base.specs.declared.state_name.StateName.{StateName}
 use Rattle.pfl_base.specs.Keys.{is_key, key}
@@ -11,12 +12,13 @@ use Rattle.pfl_rules.specs.declared.rule.Rule.{Rule}
 use Rattle.pfl_rules.specs.declared.verdict.Verdict.{Verdict}
 use Rattle.pfl_rules.specs.Matching.{is_pass}
 use Rattle.pfl_rules.specs.Rules.{verdict, rule_at}
-use Rattle.pfl_track.specs.declared.edges.WindowTest.{WindowTest}
+use Rattle.pfl_track.specs.declared.judgement.Judgement.{Judgement}
 use Rattle.pfl_track.specs.declared.state.State.{State}
 use Rattle.pfl_track.specs.declared.tracked.Tracked.{Tracked}
 use Rattle.pfl_track.specs.declared.tracked.Tracked.TheVariants.{Reused}
-use Rattle.pfl_track.specs.Edges.{is_met, window_test}
-use Rattle.pfl_track.specs.Tracking.{is_closed, tracked}
+use Rattle.pfl_track.specs.Judging.{branch_of, window_test_by}
+use Rattle.pfl_track.specs.Rules.{tracked_by}
+use Rattle.pfl_track.specs.Tracking.{is_closed}
 use Rattle.pfl_language.specs.declared.fate.Fate.TheVariants as fate
 use Rattle.pfl_language.specs.declared.fate.Reason.TheVariants as reason
 use Rattle.pfl_world.specs.desk.Changes.{deleted}
@@ -54,19 +56,19 @@ rule_reason n dir p v number =
 unfoldable pub judged_reason : Node → Dir → Packet → Judged
 judged_reason n dir p = let v = verdict n.rules.list p dir in option_map_or (rule_reason n dir p v) v.rule judged.Unmatched
 
--- the test of the window, for TCP
-abbrev pub tested : State → Dir → Packet → Option WindowTest
-tested s dir p = if is_tcp p.proto then Some (window_test s dir p) else None
+-- what a packet of TCP is tested against; one of another protocol is not tested
+abbrev pub tested : Kernel → State → Dir → Packet → Option Judgement
+tested k s dir p = if is_tcp p.proto then Some (window_test_by k s dir p) else None
 
 -- the packet of the state s: a new connection over a closed one is judged without that
 abbrev pub by_tracked : Node → Dir → Packet → State → Tracked → PacketReason
 by_tracked n dir p s Reused = ByRules (Some s.name) (judged_reason (deleted n s) dir p)
-by_tracked n dir p s other = OfState s.name (tested s dir p)
+by_tracked n dir p s other = OfState s.name (tested n.limits.kernel s dir p)
 
 -- the state that was found, if one was
 abbrev pub by_found : Node → Dir → Packet → Option State → PacketReason
 by_found n dir p None = ByRules None (judged_reason n dir p)
-by_found n dir p (Some s) = by_tracked n dir p s (tracked s p dir n.clock)
+by_found n dir p (Some s) = by_tracked n dir p s (tracked_by n.limits.kernel s p dir n.clock)
 
 -- why the packet has its fate at the node
 unfoldable pub packet_reason : Node → Dir → Packet → PacketReason
@@ -114,17 +116,22 @@ JudgedSo n dir p (judged.Makes rule name) h =
 abbrev pub IsReuse : State → Packet → Type 0
 IsReuse s p = (is_tcp p.proto ≡ true) × (is_request p ≡ true) × (is_closed s ≡ true)
 
--- of a packet of the state, by whether the test of its window misses no edge: it goes on, or is dropped and counted, and nothing else
+-- by its tests there is a way in which the packet passes: inside the window, or loosely
+abbrev pub passes : Judgement → Bool
+passes j = is_some (branch_of j)
+
+-- of a packet of the state, by whether it passes its tests: it goes on, or is dropped and counted, and nothing else
 abbrev pub TestedSo : Node → StateName → Bool → Handled → Type 0
 TestedSo n name true h = h.fate ≡ fate.Pass (Some name)
 TestedSo n name false h = h ≡ drop n reason.Window
 
--- From the reason, at the node before it. The state that has the packet's key is of that name, and the test is that of its window, which a
--- packet without a test does not miss; without such a state the rules decide; and over a closed connection they decide as they do at the
--- node without that
+-- From the reason, at the node before it. The state that has the packet's key is of that name, and the tests are those of its window by the
+-- node's rules of the kernel; a packet that is not tested passes. Without such a state the rules decide; and over a closed connection they
+-- decide as they do at the node without that
 abbrev pub HandledSo : Node → Dir → Packet → PacketReason → Handled → Type 0
-HandledSo n dir p (OfState name test) h =
-    IsSomeAnd (found n.states (key p dir) dir) (λ s. (s.name ≡ name) × (test ≡ tested s dir p)) × TestedSo n name (option_map_or is_met test true) h
+HandledSo n dir p (OfState name judgement) h =
+    IsSomeAnd (found n.states (key p dir) dir) (λ s. (s.name ≡ name) × (judgement ≡ tested n.limits.kernel s dir p))
+    × TestedSo n name (option_map_or passes judgement true) h
 HandledSo n dir p (ByRules None made) h = (found n.states (key p dir) dir ≡ None) × JudgedSo n dir p made h
 HandledSo n dir p (ByRules (Some name) made) h =
     IsSomeAnd (found n.states (key p dir) dir) (λ s. (s.name ≡ name) × IsReuse s p × JudgedSo (deleted n s) dir p made h)

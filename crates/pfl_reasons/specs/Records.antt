@@ -2,6 +2,7 @@
 use Rattle.std.specs.Prelude.{◌≡◌, ◌<◌, ◌≤◌, ◌+◌, ◌⊎◌, ℕ, Bool, true, false, not, ◌&&◌, ◌||◌, ◌==◌, nat_le, List, [], ◌∷◌, length, Option, Some}
 use Rattle.std.specs.Prelude.{None, IsSomeAnd, if◌then◌else◌}
 use Rattle.std.specs.Option.{IsSome, option_map, option_map_or, option_or}
+use Rattle.pfl_base.specs.declared.kernel.Kernel.{Kernel}
 use Rattle.pfl_base.specs.declared.state_name.StateName.{StateName}
 use Rattle.pfl_base.specs.Keys.{is_key}
 use Rattle.pfl_base.specs.Names.{is_name}
@@ -30,6 +31,7 @@ use Rattle.pfl_reasons.specs.declared.record_fate.BadRecord.TheVariants as bad
 use Rattle.pfl_reasons.specs.declared.record_fate.RecordFate.{RecordFate}
 use Rattle.pfl_reasons.specs.declared.record_fate.RecordFate.TheVariants.{Bad, Imported, Merged, Asked, Queued, Bulk, Acknowledged, Deleted, Cleared}
 use Rattle.pfl_reasons.specs.declared.record_fate.RecordFate.TheVariants.{Heard, Nothing}
+use Rattle.pfl_reasons.specs.declared.record_fate.TakenEnds.{TakenEnds}
 use Rattle.pfl_reasons.specs.declared.record_fate.TakenRecord.{TakenRecord}
 use Rattle.pfl_reasons.specs.Packets.{HasState}
 
@@ -51,9 +53,16 @@ import_fault n r =
 abbrev pub import_fate : Node → Bool → StateRecord → RecordFate
 import_fate n same_rules r = option_map_or Bad (import_fault n r) (Imported (imported n same_rules r).last)
 
+-- which ends of a record are taken, where the rule `merge` is the kernel's: the source unless it is older, and the destination unless both
+-- are (if_pfsync.c, as far as we know it). By the profile those are taken that are not older, and nothing more is shown
+abbrev pub ends_taken : Kernel → Bool → Bool → Option TakenEnds
+ends_taken k stale_src stale_dst = if k.merge then Some (record { src = not stale_src; dst = not (stale_dst && stale_src) }) else None
+
 -- what the peer sends of a known state is merged
 abbrev pub merge_fate : Node → State → Received → RecordFate
-merge_fate n s r = let m = merged s r (timeout_at n s.rule r.class) n.clock in Merged m.stale_src m.stale_dst m.state.last
+merge_fate n s r =
+    let m = merged n.limits.kernel s r (timeout_at n s.rule r.class) n.clock in
+    Merged m.stale_src m.stale_dst m.state.last (ends_taken n.limits.kernel m.stale_src m.stale_dst)
 
 -- a whole state: it is merged, or taken over
 abbrev pub update_fate : Node → Bool → StateRecord → RecordFate
@@ -125,6 +134,12 @@ keys_in (message.Insert r) = Some r.keys
 keys_in (message.Update r) = Some r.keys
 keys_in other = None
 
+-- what a record brings of a state that may be known; another brings nothing
+abbrev pub received_in : Message → Option Received
+received_in (message.Update r) = Some (of_state r)
+received_in (message.UpdateShort u) = Some (of_update u)
+received_in other = None
+
 -- what can become of a record of each kind
 abbrev pub IsFateOf : Message → RecordFate → Type 0
 IsFateOf (message.Clear creator bound) (Cleared many) = Unit {0}
@@ -134,8 +149,8 @@ IsFateOf (message.InsertAck name) Acknowledged = Unit {0}
 IsFateOf (message.InsertAck name) Nothing = Unit {0}
 IsFateOf (message.Update r) (Bad why) = Unit {0}
 IsFateOf (message.Update r) (Imported last) = Unit {0}
-IsFateOf (message.Update r) (Merged stale_src stale_dst last) = Unit {0}
-IsFateOf (message.UpdateShort u) (Merged stale_src stale_dst last) = Unit {0}
+IsFateOf (message.Update r) (Merged stale_src stale_dst last ends) = Unit {0}
+IsFateOf (message.UpdateShort u) (Merged stale_src stale_dst last ends) = Unit {0}
 IsFateOf (message.UpdateShort u) Asked = Unit {0}
 IsFateOf (message.UpdateRequest name) (Bad why) = Unit {0}
 IsFateOf (message.UpdateRequest name) (Bulk begins) = Unit {0}
@@ -167,11 +182,17 @@ CountedAsMany n after = (after.counters.bad ≡ n.counters.bad) × (after.counte
 abbrev pub IsLastUsed : Node → StateName → ℕ → Type 0
 IsLastUsed n name last = IsSomeAnd (maps.get n.states name) (λ s. s.last ≡ last)
 
--- the state of the name counts as last used then, and each end of it that is older in the record is what it was
-abbrev pub IsMergedSo : Node → StateName → Bool → Bool → ℕ → Node → Type 0
-IsMergedSo n name stale_src stale_dst last after =
+-- the ends that a merge took: those that are shown, or else those that are not older
+abbrev pub ends_of : Option TakenEnds → Bool → Bool → TakenEnds
+ends_of (Some ends) stale_src stale_dst = ends
+ends_of None stale_src stale_dst = record { src = not stale_src; dst = not stale_dst }
+
+-- the state of the name counts as last used then, and each end of it that was taken is that of the record, and any other what it was
+abbrev pub IsMergedSo : Node → StateName → TakenEnds → ℕ → Node → Received → Type 0
+IsMergedSo n name ends last after r =
     IsSomeAnd (maps.get n.states name) (λ s.
-    IsSomeAnd (maps.get after.states name) (λ t. (t.last ≡ last) × (stale_src ≡ true → t.src ≡ s.src) × (stale_dst ≡ true → t.dst ≡ s.dst)))
+    IsSomeAnd (maps.get after.states name) (λ t.
+    (t.last ≡ last) × (t.src ≡ (if ends.src then r.src else s.src)) × (t.dst ≡ (if ends.dst then r.dst else s.dst))))
 
 -- the state that the node has under the name is on the queue of updates
 abbrev pub IsQueued : Node → StateName → Node → Type 0
@@ -194,25 +215,26 @@ HasHeard n after = (is_waiting n.client ≡ true) × (after ≡ record n { clien
 
 -- What a fate says of the node before the record and after it. A bad record is so for the reason that is shown, is counted, and does
 -- nothing else; one without effect leaves the node as it is; any other is not bad, and is stale where an end was. A state that is taken
--- over was not known, and is then there with the last use that is shown; one that is merged was there, and keeps the ends that are newer.
--- What is asked for was not known, and is on the list of requests then; what is queued is on the queue of updates; what is deleted was known,
--- and is gone; and a clear leaves as many states fewer as it says. What is said of a state that is merged or acknowledged is so where each
--- state is under its own name, as at any node of a pair
-abbrev pub CountedSo : Node → Node → StateName → Option KeyFields → RecordFate → Type 0
-CountedSo n after name keys (Bad why) = (after ≡ count_bad n) × IsBadFor n name keys why
-CountedSo n after name keys Nothing = after ≡ n
-CountedSo n after name keys (Imported last) = CountedAsMany n after × (maps.get n.states name ≡ None) × IsLastUsed after name last
-CountedSo n after name keys (Merged stale_src stale_dst last) = (after.counters.bad ≡ n.counters.bad)
+-- over was not known, and is then there with the last use that is shown; one that is merged was there, and has the ends that were taken from
+-- the record. What is asked for was not known, and is on the list of requests then; what is queued is on the queue of updates; what is deleted
+-- was known, and is gone; and a clear leaves as many states fewer as it says. What is said of a state that is merged or acknowledged is so
+-- where each state is under its own name, as at any node of a pair
+abbrev pub CountedSo : Node → Node → StateName → Option KeyFields → Option Received → RecordFate → Type 0
+CountedSo n after name keys received (Bad why) = (after ≡ count_bad n) × IsBadFor n name keys why
+CountedSo n after name keys received Nothing = after ≡ n
+CountedSo n after name keys received (Imported last) = CountedAsMany n after × (maps.get n.states name ≡ None) × IsLastUsed after name last
+CountedSo n after name keys received (Merged stale_src stale_dst last ends) = (after.counters.bad ≡ n.counters.bad)
     × (after.counters.stale ≡ n.counters.stale + (if stale_src || stale_dst then 1 else 0))
-    × (AreStates n.states → IsMergedSo n name stale_src stale_dst last after)
-CountedSo n after name keys Asked = CountedAsMany n after × (maps.get n.states name ≡ None) × (is_requested after.queue name ≡ true)
-CountedSo n after name keys Queued = CountedAsMany n after × IsQueued n name after
-CountedSo n after name keys (Bulk begins) = CountedAsMany n after × BulkBegins n begins after
-CountedSo n after name keys Acknowledged = CountedAsMany n after × (AreStates n.states → WaitsNoMore n name after)
-CountedSo n after name keys Deleted = CountedAsMany n after × IsSome (maps.get n.states name) × (maps.get after.states name ≡ None)
-CountedSo n after name keys (Cleared many) = CountedAsMany n after × (maps.len n.states ≡ maps.len after.states + many)
-CountedSo n after name keys Heard = HasHeard n after
+    × (ends ≡ ends_taken n.limits.kernel stale_src stale_dst)
+    × (AreStates n.states → IsSomeAnd received (IsMergedSo n name (ends_of ends stale_src stale_dst) last after))
+CountedSo n after name keys received Asked = CountedAsMany n after × (maps.get n.states name ≡ None) × (is_requested after.queue name ≡ true)
+CountedSo n after name keys received Queued = CountedAsMany n after × IsQueued n name after
+CountedSo n after name keys received (Bulk begins) = CountedAsMany n after × BulkBegins n begins after
+CountedSo n after name keys received Acknowledged = CountedAsMany n after × (AreStates n.states → WaitsNoMore n name after)
+CountedSo n after name keys received Deleted = CountedAsMany n after × IsSome (maps.get n.states name) × (maps.get after.states name ≡ None)
+CountedSo n after name keys received (Cleared many) = CountedAsMany n after × (maps.len n.states ≡ maps.len after.states + many)
+CountedSo n after name keys received Heard = HasHeard n after
 
 -- the fate is one of a record of this kind, and what it says is so
 abbrev pub FatedSo : Node → Message → RecordFate → Node → Type 0
-FatedSo n m fate after = IsFateOf m fate × CountedSo n after (name_in m) (keys_in m) fate
+FatedSo n m fate after = IsFateOf m fate × CountedSo n after (name_in m) (keys_in m) (received_in m) fate

@@ -6,8 +6,8 @@ ghost use Rattle.pfl_world.specs.receive.Receiving as receiving;
 ghost use Rattle.pfl_reasons.specs.Records as meant;
 
 use crate::cleared::count_cleared;
-use crate::record_fate::{BadRecord, RecordFate};
-use pfl_base::{Class, Millis, StateName};
+use crate::record_fate::{BadRecord, RecordFate, TakenEnds};
+use pfl_base::{Class, Kernel, Millis, StateName};
 use pfl_merge::{Received, last_use, merge};
 use pfl_queue::Kind;
 use pfl_rules::scaled;
@@ -175,12 +175,28 @@ fn short_fate<A: Allocator>(node: &Node<A>, sent: &UpdateRecord) -> RecordFate
 fn merge_fate<A: Allocator>(node: &Node<A>, state: &State, received: &Received) -> RecordFate
     ensures { result ≡ meant.merge_fate node.now state.now received.now }
 {
+    let kernel = node.limits().kernel;
     let seconds = timeout(node, state.rule(), received.class);
-    let merged = merge(state, received, seconds, node.clock());
+    let merged = merge(kernel, state, received, seconds, node.clock());
     RecordFate::Merged {
         stale_src: merged.stale_src,
         stale_dst: merged.stale_dst,
         last: merged.state.last(),
+        taken: ends_taken(kernel, merged.stale_src, merged.stale_dst),
+    }
+}
+
+/// Which ends are taken, where the rule `merge` is the kernel's: the other end goes with the one that sent the first packet.
+fn ends_taken(kernel: Kernel, stale_src: bool, stale_dst: bool) -> Option<TakenEnds>
+    ensures { result ≡ meant.ends_taken kernel stale_src stale_dst }
+{
+    if kernel.merge {
+        Some(TakenEnds {
+            src: !stale_src,
+            dst: !(stale_dst && stale_src),
+        })
+    } else {
+        None
     }
 }
 

@@ -28,4 +28,4 @@ pub use packet_reason::{Judged, PacketReason};
 pub use pfl_events::Events;
 pub use pfl_link::InFlight;
 pub use pfl_world::World;
-pub use record_fate::{BadRecord, RecordFate, TakenRecord};
+pub use record_fate::{BadRecord, RecordFate, TakenEnds, TakenRecord};

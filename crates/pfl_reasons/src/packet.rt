@@ -12,11 +12,11 @@ ghost use Rattle.pfl_world.specs.Worlds.{node_at};
 ghost use Rattle.pfl_reasons.specs.Packets as meant;
 
 use crate::packet_reason::{Judged, PacketReason};
-use pfl_base::{Dir, NodeId, Packet, Proto, StateName, key};
+use pfl_base::{Dir, Kernel, NodeId, Packet, Proto, StateName, key};
 use pfl_edits::NoMemory;
 use pfl_language::{Event, NodeEvent};
 use pfl_rules::Rule;
-use pfl_track::{KeyPair, State, Tracked, WindowTest, track, window_test};
+use pfl_track::{Judgement, KeyPair, State, Tracked, track_by, window_test_by};
 use pfl_world::{Node, World};
 use std::alloc::Allocator;
 
@@ -39,21 +39,22 @@ pub(crate) fn packet_reason<A: Allocator + Copy>(
             judged,
         });
     };
-    match track(&state, packet, dir, node.clock()) {
+    let kernel = node.limits().kernel;
+    match track_by(kernel, &state, packet, dir, node.clock()) {
         Tracked::Reused => reuse_reason(world, id, &state, dir, packet),
         _ => Ok(PacketReason::OfState {
             name: state.name(),
-            test: tested(&state, packet, dir),
+            judgement: tested(kernel, &state, packet, dir),
         }),
     }
 }
 
-/// The test of the window, for TCP.
-fn tested(state: &State, packet: &Packet, dir: Dir) -> Option<WindowTest>
-    ensures { result ≡ meant.tested state.now dir packet.now }
+/// What the packet of the state is tested against, for TCP.
+fn tested(kernel: Kernel, state: &State, packet: &Packet, dir: Dir) -> Option<Judgement>
+    ensures { result ≡ meant.tested kernel state.now dir packet.now }
 {
     match packet.proto() {
-        Proto::Tcp => Some(window_test(state, packet, dir)),
+        Proto::Tcp => Some(window_test_by(kernel, state, packet, dir)),
         Proto::Udp | Proto::Icmp | Proto::Other(_) => None,
     }
 }

@@ -1,7 +1,7 @@
 //! Why packets have their fates, as plain data.
 
 use pfl_base::StateName;
-use pfl_track::WindowTest;
+use pfl_track::Judgement;
 
 /// What the rules made of a packet that no state took. Rules are named by their numbers, the first being 0.
 #[derive(Clone, Copy, Debug, PartialEq, Eq)]
@@ -44,10 +44,11 @@ pub enum Judged {
 /// Why a packet has its fate.
 #[derive(Clone, Copy, Debug, PartialEq, Eq)]
 pub enum PacketReason {
-    /// The state has its key. A packet of TCP goes on if it misses no edge of the window, and any other goes on.
+    /// The state has its key. A packet of TCP goes on if there is a way in which it passes what it is tested against, and any other
+    /// goes on.
     OfState {
         name: StateName,
-        test: Option<WindowTest>,
+        judgement: Option<Judgement>,
     },
     /// No state takes it, so its rules decide; over a closed connection a new one begins, and the state of that is deleted first.
     ByRules {

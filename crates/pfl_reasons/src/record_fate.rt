@@ -22,6 +22,15 @@ pub enum BadRecord {
     Full,
 }
 
+/// Which ends of a record are taken.
+#[derive(Clone, Copy, Debug, PartialEq, Eq)]
+pub struct TakenEnds {
+    /// The end that sent the first packet.
+    pub src: bool,
+    /// The other end.
+    pub dst: bool,
+}
+
 /// What becomes of a record at the node that it comes to.
 #[derive(Clone, Copy, Debug, PartialEq, Eq)]
 pub enum RecordFate {
@@ -32,10 +41,12 @@ pub enum RecordFate {
         last: Millis,
     },
     /// It is merged into the node's state: which ends are older than those of the node, and when the state counts as last used then.
+    /// By the profile the ends are taken that are not older; where the rule `merge` is the kernel's, `taken` says which are.
     Merged {
         stale_src: bool,
         stale_dst: bool,
         last: Millis,
+        taken: Option<TakenEnds>,
     },
     /// The state is not known, and is asked for.
     Asked,

@@ -1,6 +1,7 @@
 -- What a merge gives may take the state's place.
 use Rattle.std.specs.Prelude.{◌≡◌, ◌≤◌, ◌<◌, ℕ, ◌-◌, ◌&&◌, Bool, true, false, not, length, Option, Some, IfSome, refl}
 use Rattle.std.proofs.Common.{cond, ◌∙◌, ap, sym, subst, arith}
+use Rattle.pfl_base.specs.declared.kernel.Kernel.{Kernel}
 use Rattle.pfl_base.specs.declared.state_name.StateName.{StateName}
 use Rattle.pfl_edits.specs.Maps as maps
 use Rattle.pfl_track.specs.declared.state.State.{State}
@@ -41,25 +42,26 @@ less : (a b : ℕ) → a - b ≤ a
 less a b = omega arith
 
 -- it was last used in the past
-last-past : (held : State) (r : Received) (seconds now : ℕ) → held.last ≤ now → (merged held r seconds now).state.last ≤ now
-last-past held r seconds now past = by (not (stale_src held r && stale_dst held r)) _ _ (less now _) past
+last-past : (k : Kernel) (held : State) (r : Received) (seconds now : ℕ) → held.last ≤ now → (merged k held r seconds now).state.last ≤ now
+last-past k held r seconds now past = by (not (stale_src held r && stale_dst held r)) _ _ (less now _) past
   where
     by : (b : Bool) (s t : State) → s.last ≤ now → t.last ≤ now → (cond b s t).last ≤ now
     by true s t h k = h
     by false s t h k = k
 
-peer-now : (held : State) (r : Received) (seconds now : ℕ) → (merged held r seconds now).state.peer_change ≡ Some now
-peer-now held r seconds now = by (not (stale_src held r && stale_dst held r)) _ _ refl refl
+peer-now : (k : Kernel) (held : State) (r : Received) (seconds now : ℕ) → (merged k held r seconds now).state.peer_change ≡ Some now
+peer-now k held r seconds now = by (not (stale_src held r && stale_dst held r)) _ _ refl refl
   where
     by : (b : Bool) (s t : State) → s.peer_change ≡ Some now → t.peer_change ≡ Some now → (cond b s t).peer_change ≡ Some now
     by true s t h k = h
     by false s t h k = k
 
 -- what a merge of a state of the node gives
-merged-may : (n : Node) (s t : State) (r : Received) (seconds : ℕ) → AreParts n → maps.get n.states s.name ≡ Some s
-    → t ≡ (merged s r seconds n.clock).state → Keeps s t → IsState t → MayReplace (lost n s.name) t
-merged-may n s t r seconds is stands same keeps state =
+merged-may : (n : Node) (k : Kernel) (s t : State) (r : Received) (seconds : ℕ) → AreParts n → maps.get n.states s.name ≡ Some s
+    → t ≡ (merged k s r seconds n.clock).state → Keeps s t → IsState t → MayReplace (lost n s.name) t
+merged-may n k s t r seconds is stands same keeps state =
     let it = is.each s.name s stands in
+    let peer : t.peer_change ≡ Some n.clock = ap (λ (u : State). u.peer_change) same ∙ peer-now k s r seconds n.clock in
     lost-may n s.name t (record {
       former = s;
       stands = ap (maps.get n.states) keeps.name ∙ stands;
@@ -70,14 +72,14 @@ merged-may n s t r seconds is stands same keeps state =
         is = state;
         given = subst (λ (k : StateName). k.creator ≡ n.creator → k.id < n.next_id) (sym keeps.name) it.given;
         rule = subst (λ (o : Option ℕ). IfSome o (λ k. k < length n.rules.list)) (sym keeps.rule) it.rule;
-        last = subst (λ (u : State). u.last ≤ n.clock) (sym same) (last-past s r seconds n.clock it.last);
-        peer_change = subst (λ (o : Option ℕ). IfSome o (IsPast n)) (sym (ap (λ (u : State). u.peer_change) same ∙ peer-now s r seconds n.clock)) (omega arith);
+        last = subst (λ (u : State). u.last ≤ n.clock) (sym same) (last-past k s r seconds n.clock it.last);
+        peer_change = subst (λ (o : Option ℕ). IfSome o (IsPast n)) (sym peer) (omega arith);
         updates = subst (λ (k : ℕ). k ≤ 255) (sym keeps.updates) it.updates;
       };
     })
 
 -- the same of what a merge gave, at the node's time
-pub merge-may : (n : Node) (s : State) (m : Merged) (r : Received) (seconds now : ℕ) → AreParts n → maps.get n.states s.name ≡ Some s
-    → m ≡ merged s r seconds now → now ≡ n.clock → Keeps s m.state → IsState m.state → MayReplace (lost n s.name) m.state
-merge-may n s m r seconds now is stands gives clock =
-    merged-may n s m.state r seconds is stands (ap (λ (k : Merged). k.state) gives ∙ ap (λ (k : ℕ). (merged s r seconds k).state) clock)
+pub merge-may : (n : Node) (k : Kernel) (s : State) (m : Merged) (r : Received) (seconds now : ℕ) → AreParts n → maps.get n.states s.name ≡ Some s
+    → m ≡ merged k s r seconds now → now ≡ n.clock → Keeps s m.state → IsState m.state → MayReplace (lost n s.name) m.state
+merge-may n k s m r seconds now is stands gives clock =
+    merged-may n k s m.state r seconds is stands (ap (λ (x : Merged). x.state) gives ∙ ap (λ (at : ℕ). (merged k s r seconds at).state) clock)

@@ -77,7 +77,7 @@ few-merged n m k h = either (k + 1) (m.stale_src || m.stale_dst) _ _
     (few-changed (count_stale n) (record m.state { ack_wanted = false }) k h) (few-put n (record m.state { ack_wanted = false }) k h)
 
 few-merge : (n : Node) (s : State) (t : Received) → Few (maps.len n.states + 1) (merge_taken n s t)
-few-merge n s t = few-merged (lost n s.name) (merged s t (timeout_at n s.rule t.class) n.clock) (maps.len n.states) (few-lost n s.name)
+few-merge n s t = few-merged (lost n s.name) (merged n.limits.kernel s t (timeout_at n s.rule t.class) n.clock) (maps.len n.states) (few-lost n s.name)
 
 pub few-update : (n : Node) (b : Bool) (r : StateRecord) (t : Received)
     → Few (maps.len n.states + 1) (option_map_or (λ s. merge_taken n s t) (maps.get n.states r.name) (insert_taken n b r false))

@@ -78,7 +78,7 @@ insert_taken n same_rules r ack_wanted =
 
 -- ---- merging
 
--- what was stale is sent back
+-- where an end was stale, the state is sent back, also with `merge`, by which a stale destination may have been taken
 abbrev pub merged_into : Node → Merged → Node
 merged_into n m =
     if m.stale_src || m.stale_dst
@@ -87,7 +87,7 @@ merged_into n m =
 
 -- the peer knows of the state, so that a held packet of it is dropped
 abbrev pub merge_taken : Node → State → Received → Node
-merge_taken n s r = merged_into (lost n s.name) (merged s r (timeout_at n s.rule r.class) n.clock)
+merge_taken n s r = merged_into (lost n s.name) (merged n.limits.kernel s r (timeout_at n s.rule r.class) n.clock)
 
 -- what a whole record says of a known state
 abbrev pub of_state : StateRecord → Received

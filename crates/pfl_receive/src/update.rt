@@ -67,12 +67,12 @@ fn take_merge<A: Allocator>(
     ensures writes { Writes 7 desk.old desk.new }
 {
     let timeout = desk.timeout(state.rule(), received.class);
-    let merged = merge(state, received, timeout, desk.clock());
+    let merged = merge(desk.kernel(), state, received, timeout, desk.clock());
     desk.drop_held(state.name());
     put_merged(desk, &merged)
 }
 
-/// Puts what a merge gives in the state's place. What was stale is sent back.
+/// Puts what a merge gives in the state's place. Where an end was stale, the state is sent back.
 fn put_merged<A: Allocator>(desk: &mut Desk<A>, merged: &Merged) -> Result<(), Overfull>
     requires room { 5 ≤ desk.old.edits.spare }
     requires known { MayReplace desk.old.node merged.now.state }

@@ -2,4 +2,4 @@
 
 /// The release, the sum of its sources, and the logic that proves them.
 pub(crate) const VERSION: &str =
-    "release 17, sources 5ecfbe122d4d70d5e8f3b28b15b30cf7c5b43d758926928fdf50531d283a47dc, logic dac8208d650f15bf";
+    "release 18, sources a9d98b3d2114807a782cf3ff3d2b2b958965faab2a3b43ce19d63e575e52af67, logic dac8208d650f15bf";

@@ -1,5 +1,5 @@
 -- The lines that show what comes of an event, and why (this project's profile).
-use Rattle.std.specs.Prelude.{ℕ, Bool, true, false, List, [], ◌++◌, codes, Result, Ok, Err}
+use Rattle.std.specs.Prelude.{ℕ, Bool, true, false, List, [], ◌++◌, codes, Option, Result, Ok, Err}
 use Rattle.std.specs.List.{flat_map}
 use Rattle.std.specs.Option.{option_map_or}
 use Rattle.std.specs.Fmt.{decimal}
@@ -11,6 +11,9 @@ use Rattle.pfl_rules.specs.declared.adaptive.Adaptive.{Adaptive}
 use Rattle.pfl_track.specs.declared.edges.AckTest.{AckTest}
 use Rattle.pfl_track.specs.declared.edges.EdgeTest.{EdgeTest}
 use Rattle.pfl_track.specs.declared.edges.WindowTest.{WindowTest}
+use Rattle.pfl_track.specs.declared.judgement.Judgement.{Judgement}
+use Rattle.pfl_track.specs.declared.judgement.LooseTest.{LooseTest}
+use Rattle.pfl_track.specs.declared.judgement.ResetTest.{ResetTest}
 use Rattle.pfl_wire.specs.declared.message.Message.{Message}
 use Rattle.pfl_wire.specs.declared.message.Message.TheVariants.{Clear, Insert, InsertAck, Update, UpdateShort, UpdateRequest, Delete, DeleteShort, Bulk}
 use Rattle.pfl_wire.specs.Spelling.{status_byte}
@@ -27,6 +30,7 @@ use Rattle.pfl_timeline.specs.reasons.declared.record_fate.BadRecord.{BadRecord}
 use Rattle.pfl_timeline.specs.reasons.declared.record_fate.BadRecord.TheVariants as bad
 use Rattle.pfl_timeline.specs.reasons.declared.record_fate.RecordFate.{RecordFate}
 use Rattle.pfl_timeline.specs.reasons.declared.record_fate.RecordFate.TheVariants as fate
+use Rattle.pfl_timeline.specs.reasons.declared.record_fate.TakenEnds.{TakenEnds}
 use Rattle.pfl_timeline.specs.reasons.declared.record_fate.TakenRecord.{TakenRecord}
 use Rattle.pfl_timeline.specs.reasons.Explaining.{Explained, Packet, Records, Expiries, Plain, Stopped}
 use Rattle.pfl_script.specs.Texts.{or_dash, outcome_text}
@@ -51,6 +55,24 @@ ack_line t = codes "ack " ++ decimal t.number ++ codes " " ++ decimal t.least ++
 abbrev pub test_lines : WindowTest → List ℕ
 test_lines t = edge_line (codes "right") t.right ++ edge_line (codes "left") t.left ++ option_map_or ack_line t.ack []
 
+-- the packet has no data, so that it is judged by what it acknowledges alone
+abbrev pub eased_line : Bool → List ℕ
+eased_line true = codes "eased\n"
+eased_line false = []
+
+-- the number of a RST: the least and the greatest that it may be, and by how much it is missed
+abbrev pub reset_line : ResetTest → List ℕ
+reset_line t = codes "reset " ++ decimal t.number ++ codes " " ++ decimal t.least ++ codes " " ++ decimal t.most ++ codes " "
+    ++ or_dash decimal t.missed ++ codes "\n"
+
+-- the further edges, within which a packet passes loosely: by how much the right one is missed, and by how much the left one
+abbrev pub loose_line : LooseTest → List ℕ
+loose_line t = codes "loose " ++ or_dash decimal t.right.missed ++ codes " " ++ or_dash decimal t.left.missed ++ codes "\n"
+
+-- what a packet of TCP is tested against: the edges of the window, and by rules of the kernel a number and further edges besides
+abbrev pub judgement_lines : Judgement → List ℕ
+judgement_lines j = eased_line j.eased ++ test_lines j.test ++ option_map_or reset_line j.reset [] ++ option_map_or loose_line j.loose []
+
 -- the rule that passes the packet
 unfoldable pub pass_line : ℕ → List ℕ
 pass_line rule = codes "rule " ++ decimal rule ++ codes " pass\n"
@@ -65,9 +87,9 @@ judged_lines (WireInUse rule name) = pass_line rule ++ named_line (codes "wire")
 judged_lines (StackInUse rule name) = pass_line rule ++ named_line (codes "stack") name
 judged_lines (Makes rule name) = pass_line rule ++ named_line (codes "new") name
 
--- why a packet has its fate: the test of its state's window, or what the rules made of it, over a closed connection that went first
+-- why a packet has its fate: the tests of its state's window, or what the rules made of it, over a closed connection that went first
 abbrev pub packet_lines : PacketReason → List ℕ
-packet_lines (OfState name test) = named_line (codes "state") name ++ option_map_or test_lines test []
+packet_lines (OfState name judgement) = named_line (codes "state") name ++ option_map_or judgement_lines judgement []
 packet_lines (ByRules closed judged) = option_map_or (named_line (codes "closed")) closed [] ++ judged_lines judged
 
 -- ---- a frame that came to its receiver
@@ -94,18 +116,22 @@ bad_record_text (bad.WireInUse name) = codes "wire " ++ name_text name
 bad_record_text (bad.StackInUse name) = codes "stack " ++ name_text name
 bad_record_text bad.Full = codes "full"
 
--- the ends of a record that are stale: of the source and of the destination
-abbrev pub stale_text : Bool → Bool → List ℕ
-stale_text true true = codes "both"
-stale_text true false = codes "src"
-stale_text false true = codes "dst"
-stale_text false false = codes "-"
+-- the ends of a record of which something is so: the source and the destination
+abbrev pub ends_text : Bool → Bool → List ℕ
+ends_text true true = codes "both"
+ends_text true false = codes "src"
+ends_text false true = codes "dst"
+ends_text false false = codes "-"
+
+-- the ends that are taken, where that is shown
+abbrev pub taken_text : Option TakenEnds → List ℕ
+taken_text ends = option_map_or (λ (e : TakenEnds). codes " " ++ ends_text e.src e.dst) ends []
 
 -- what becomes of a record
 abbrev pub record_fate_text : RecordFate → List ℕ
 record_fate_text (fate.Bad why) = codes "bad " ++ bad_record_text why
 record_fate_text (fate.Imported last) = codes "imported " ++ decimal last
-record_fate_text (fate.Merged src dst last) = codes "merged " ++ stale_text src dst ++ codes " " ++ decimal last
+record_fate_text (fate.Merged src dst last ends) = codes "merged " ++ ends_text src dst ++ codes " " ++ decimal last ++ taken_text ends
 record_fate_text fate.Asked = codes "asked"
 record_fate_text fate.Queued = codes "queued"
 record_fate_text (fate.Bulk true) = codes "bulk begins"

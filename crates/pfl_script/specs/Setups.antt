@@ -11,7 +11,7 @@ use Rattle.pfl_rules.specs.declared.rule.Rule.{Rule}
 use Rattle.pfl_rules.specs.declared.fault.RuleFault.{RuleFault}
 use Rattle.pfl_rules.specs.Rules.{Rules, no_timeouts, rule_set, rule_fault, timed}
 use Rattle.pfl_language.specs.declared.limits.Limits.{Limits}
-use Rattle.pfl_language.specs.Limits.{default_limits, with_limit}
+use Rattle.pfl_language.specs.Limits.{default_limits, with_kernel, with_limit}
 use Rattle.pfl_lines.specs.declared.fault.LineFault.{LineFault}
 use Rattle.pfl_lines.specs.declared.setup.SetupLine.{SetupLine}
 use Rattle.pfl_lines.specs.declared.setup.SetupLine.TheVariants as setup
@@ -51,6 +51,7 @@ abbrev pub set_by : Draft → SetupLine → Draft
 set_by d (setup.Set limit n) = record d { limits = with_limit d.limits limit n }
 set_by d (setup.Timeout class seconds) = with_timeout d class seconds
 set_by d (setup.Rule node rule) = with_rule d node rule
+set_by d (setup.Kernel kernel) = record d { limits = with_kernel d.limits kernel }
 set_by d setup.Open = d
 
 -- the setup line ends the setup

@@ -2,12 +2,13 @@
 
 ghost use Rattle.std.specs.Prelude.{[], Some, codes};
 ghost use Rattle.std.specs.Option.{option_map_or};
-ghost use Rattle.pfl_script.specs.Reasons.{edge_line, ack_line, test_lines, named_line, pass_line, judged_lines, packet_lines};
+ghost use Rattle.pfl_script.specs.Reasons.{edge_line, ack_line, test_lines, eased_line, reset_line, loose_line, judgement_lines};
+ghost use Rattle.pfl_script.specs.Reasons.{named_line, pass_line, judged_lines, packet_lines};
 
 use crate::optional::OptionalNumber;
 use pfl_base::StateName;
 use pfl_timeline::{Judged, PacketReason};
-use pfl_track::{AckTest, EdgeTest, WindowTest};
+use pfl_track::{AckTest, EdgeTest, Judgement, LooseTest, ResetTest, WindowTest};
 use std::fmt;
 
 /// An edge of the window, as a line.
@@ -54,17 +55,15 @@ impl fmt::Display for AckLine {
     }
 }
 
-/// The test of the window, as lines; none for a packet that is not of TCP.
+/// The edges of the window, as lines.
 #[derive(Clone, Copy)]
-struct TestLines(Option<WindowTest>);
+struct TestLines(WindowTest);
 
 impl fmt::Display for TestLines {
-    ghost output = { λ l. Some (option_map_or test_lines l.0 []) };
+    ghost output = { λ l. Some (test_lines l.0) };
 
     fn fmt<W: fmt::Write>(&self, f: &mut fmt::Formatter<W>) -> fmt::Result {
-        let Some(test) = self.0 else {
-            return Ok(());
-        };
+        let test = self.0;
         let right = EdgeLine {
             side: "right",
             test: test.right,
@@ -75,6 +74,79 @@ impl fmt::Display for TestLines {
         };
         let ack = AckLine(test.ack);
         write!(f, "{right}{left}{ack}")
+    }
+}
+
+/// That a packet is judged by what it acknowledges alone, as a line; none where it is not.
+#[derive(Clone, Copy)]
+struct EasedLine(bool);
+
+impl fmt::Display for EasedLine {
+    ghost output = { λ l. Some (eased_line l.0) };
+
+    fn fmt<W: fmt::Write>(&self, f: &mut fmt::Formatter<W>) -> fmt::Result {
+        match self.0 {
+            true => f.write_str("eased\n"),
+            false => Ok(()),
+        }
+    }
+}
+
+/// The number of a RST, as a line; none where it is not asked for.
+#[derive(Clone, Copy)]
+struct ResetLine(Option<ResetTest>);
+
+impl fmt::Display for ResetLine {
+    ghost output = { λ l. Some (option_map_or reset_line l.0 []) };
+
+    fn fmt<W: fmt::Write>(&self, f: &mut fmt::Formatter<W>) -> fmt::Result {
+        let Some(test) = self.0 else {
+            return Ok(());
+        };
+        let ResetTest {
+            number,
+            least,
+            most,
+            missed,
+        } = test;
+        let missed = OptionalNumber::of_u32(missed);
+        writeln!(f, "reset {number} {least} {most} {missed}")
+    }
+}
+
+/// By how much the further edges are missed, as a line; none where they are not asked for.
+#[derive(Clone, Copy)]
+struct LooseLine(Option<LooseTest>);
+
+impl fmt::Display for LooseLine {
+    ghost output = { λ l. Some (option_map_or loose_line l.0 []) };
+
+    fn fmt<W: fmt::Write>(&self, f: &mut fmt::Formatter<W>) -> fmt::Result {
+        let Some(test) = self.0 else {
+            return Ok(());
+        };
+        let right = OptionalNumber::of_u32(test.right.missed);
+        let left = OptionalNumber::of_u32(test.left.missed);
+        writeln!(f, "loose {right} {left}")
+    }
+}
+
+/// What a packet of a state is tested against, as lines; none for a packet that is not of TCP.
+#[derive(Clone, Copy)]
+struct JudgementLines(Option<Judgement>);
+
+impl fmt::Display for JudgementLines {
+    ghost output = { λ l. Some (option_map_or judgement_lines l.0 []) };
+
+    fn fmt<W: fmt::Write>(&self, f: &mut fmt::Formatter<W>) -> fmt::Result {
+        let Some(judgement) = self.0 else {
+            return Ok(());
+        };
+        let eased = EasedLine(judgement.eased);
+        let edges = TestLines(judgement.test);
+        let reset = ResetLine(judgement.reset);
+        let loose = LooseLine(judgement.loose);
+        write!(f, "{eased}{edges}{reset}{loose}")
     }
 }
 
@@ -155,9 +227,9 @@ impl fmt::Display for PacketLines {
 
     fn fmt<W: fmt::Write>(&self, f: &mut fmt::Formatter<W>) -> fmt::Result {
         match self.0 {
-            PacketReason::OfState { name, test } => {
-                let test = TestLines(test);
-                write!(f, "state {name}\n{test}")
+            PacketReason::OfState { name, judgement } => {
+                let tests = JudgementLines(judgement);
+                write!(f, "state {name}\n{tests}")
             }
             PacketReason::ByRules { closed, judged } => {
                 let closed = ClosedLine(closed);

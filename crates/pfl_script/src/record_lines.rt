@@ -1,9 +1,9 @@
 //! The lines that show what became of records. Each part prints as its words.
 
 ghost use Rattle.std.specs.Prelude.{◌≡◌, Some};
-ghost use Rattle.pfl_script.specs.Reasons.{record_text, bad_record_text, stale_text, record_fate_text, record_line};
+ghost use Rattle.pfl_script.specs.Reasons.{record_text, bad_record_text, ends_text, taken_text, record_fate_text, record_line};
 
-use pfl_timeline::{BadRecord, RecordFate, TakenRecord};
+use pfl_timeline::{BadRecord, RecordFate, TakenEnds, TakenRecord};
 use pfl_wire::Message;
 use std::fmt;
 
@@ -49,15 +49,31 @@ impl fmt::Display for BadWords {
     }
 }
 
-/// The ends of a record that are stale.
-fn stale_word(src: bool, dst: bool) -> &'static str
-    ensures { result.now ≡ stale_text src dst }
+/// The ends of a record of which something is so.
+fn ends_word(src: bool, dst: bool) -> &'static str
+    ensures { result.now ≡ ends_text src dst }
 {
     match (src, dst) {
         (true, true) => "both",
         (true, false) => "src",
         (false, true) => "dst",
         (false, false) => "-",
+    }
+}
+
+/// The ends of a record that are taken, after a blank, where that is shown.
+#[derive(Clone, Copy)]
+struct TakenWords(Option<TakenEnds>);
+
+impl fmt::Display for TakenWords {
+    ghost output = { λ w. Some (taken_text w.0) };
+
+    fn fmt<W: fmt::Write>(&self, f: &mut fmt::Formatter<W>) -> fmt::Result {
+        let Some(ends) = self.0 else {
+            return Ok(());
+        };
+        let word = ends_word(ends.src, ends.dst);
+        write!(f, " {word}")
     }
 }
 
@@ -79,9 +95,11 @@ impl fmt::Display for FateWords {
                 stale_src,
                 stale_dst,
                 last,
+                taken,
             } => {
-                let stale = stale_word(stale_src, stale_dst);
-                write!(f, "merged {stale} {last}")
+                let stale = ends_word(stale_src, stale_dst);
+                let taken = TakenWords(taken);
+                write!(f, "merged {stale} {last}{taken}")
             }
             RecordFate::Asked => f.write_str("asked"),
             RecordFate::Queued => f.write_str("queued"),

@@ -89,6 +89,10 @@ impl<A: Allocator> SetupDraft<A> {
                 Ok(()) => Ok(false),
                 Err(_) => Err(SetupFault::NoMemory),
             },
+            SetupLine::Kernel(kernel) => {
+                self.limits = self.limits.with_kernel(kernel);
+                Ok(false)
+            }
             SetupLine::Open => Ok(true),
         }
     }

@@ -20,7 +20,7 @@ pub use laws::{
 pub use look::{Look, NotSeen, Sight};
 pub use pfl_reasons::{
     Against, BadRecord, Events, Expiry, Explained, FrameStep, InFlight, Judged, PacketReason,
-    RecordFate, TakenRecord,
+    RecordFate, TakenEnds, TakenRecord,
 };
 pub use pfl_search::{Counters, Node, World, WorldFault};
 pub use reply::{Explanation, FrameTrace, Reply};

@@ -14,7 +14,7 @@ use Rattle.pfl_track.proofs.Moving.{tracked-used}
 use Rattle.pfl_track.proofs.Rising.{tracked-rises}
 
 -- a packet that leaves a state leaves the same, or has moved it
-left-cases : (m : State) (r : Tracked) (t : State) → left_of m r ≡ Some t → (m ≡ t) ⊎ (r ≡ Moved t)
+pub left-cases : (m : State) (r : Tracked) (t : State) → left_of m r ≡ Some t → (m ≡ t) ⊎ (r ≡ Moved t)
 left-cases m (Moved u) t e = let same : u ≡ t = cc in inr (ap (λ (v : State). Moved v) same)
 left-cases m OutOfWindow t e = let same : m ≡ t = cc in inl same
 left-cases m Reused t e = cc
@@ -41,11 +41,11 @@ module _ (P : State → Type 0) (Q : Arrival → Type 0) (step : (m : State) (a 
   along s run t all p e = subst (λ (at : Option State). IfSome at P) e (kept (Some s) run all p)
 
 -- a state whose levels have risen from those of s
-record Risen (s t : State) : Type 0 where
-  is : IsState t
-  rises : RisesInRange s t
+pub record Risen (s t : State) : Type 0 where
+  pub is : IsState t
+  pub rises : RisesInRange s t
 
-rises-on : (s m t : State) → RisesInRange s m → RisesInRange m t → RisesInRange s t
+pub rises-on : (s m t : State) → RisesInRange s m → RisesInRange m t → RisesInRange s t
 rises-on s m t h k = let src = h.src in let dst = h.dst in let src_on = k.src in let dst_on = k.dst in
     record { src = omega arith; dst = omega arith; src_most = k.src_most; dst_most = k.dst_most }
 
@@ -55,7 +55,7 @@ risen-on s m a t packet risen e = record {
   rises = rises-on s m t risen.rises (tracked-rises m a.packet a.dir a.now t risen.is e);
 }
 
-risen : (s : State) → IsState s → Risen s s
+pub risen : (s : State) → IsState s → Risen s s
 risen s is = record { is = is; rises = record { src = omega arith; dst = omega arith; src_most = is.src.level; dst_most = is.dst.level } }
 
 risen-along : (s : State) (run : List Arrival) (t : State) → IsState s → All (λ a. IsPacket a.packet) run → after_all s run ≡ Some t → Risen s t

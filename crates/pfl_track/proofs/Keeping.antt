@@ -18,10 +18,10 @@ use Rattle.pfl_track.proofs.Moving.{tracked-used}
 use Rattle.pfl_track.proofs.Rising.{tracked-rises}
 
 -- a scale in its range
-abbrev IsShift : Option ℕ → Type 0
+abbrev pub IsShift : Option ℕ → Type 0
 IsShift o = IfSome o (λ s. s ≤ 14)
 
-shift-if : (b : Bool) (o : Option ℕ) → IsShift o → IsShift (cond b o None)
+pub shift-if : (b : Bool) (o : Option ℕ) → IsShift o → IsShift (cond b o None)
 shift-if true o h = h
 shift-if false o h = tt
 
@@ -29,7 +29,7 @@ shift-of : (b : Bool) (x y : Peer) → IsShift x.scale → IsShift y.scale → I
 shift-of true x y h k = h
 shift-of false x y h k = k
 
-begun-shift : (s d : Peer) (p : Packet) → IsPacket p → IsShift s.scale → IsShift (begun s d p).scale
+pub begun-shift : (s d : Peer) (p : Packet) → IsPacket p → IsShift s.scale → IsShift (begun s d p).scale
 begun-shift s d p packet h = shift-of (s.level == 0) _ s (shift-if (syn p) p.scale packet.scale) h
 
 -- both ends have scales in their range
@@ -44,10 +44,10 @@ moved-shifts s dir from to now h k = by (from_src s dir)
     by true = record { src = h; dst = k }
     by false = record { src = k; dst = h }
 
-sender-shift : (s : State) (dir : Dir) → IsState s → IsShift (sender s dir).scale
+pub sender-shift : (s : State) (dir : Dir) → IsState s → IsShift (sender s dir).scale
 sender-shift s dir is = shift-of (from_src s dir) s.src s.dst is.src.scale is.dst.scale
 
-receiver-shift : (s : State) (dir : Dir) → IsState s → IsShift (receiver s dir).scale
+pub receiver-shift : (s : State) (dir : Dir) → IsState s → IsShift (receiver s dir).scale
 receiver-shift s dir is = shift-of (from_src s dir) s.dst s.src is.dst.scale is.src.scale
 
 tcp-shifts : (s : State) (p : Packet) (dir : Dir) (now : ℕ) (t : State) → IsState s → IsPacket p → tracked_tcp s p dir now ≡ Moved t → Shifts t

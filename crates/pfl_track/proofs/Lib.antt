@@ -5,5 +5,11 @@ pub mod Keeping
 pub mod Along
 pub mod Families
 mod Worked
+mod WorkedRules
 pub mod ForCallers
 pub mod Testing
+pub mod RuleMoving
+pub mod RuleRising
+pub mod RuleTesting
+pub mod RuleAlong
+pub mod BareAcks

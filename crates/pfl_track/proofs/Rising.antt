@@ -43,7 +43,7 @@ small_flags false true false level h = omega arith
 small_flags false false true level h = omega arith
 small_flags false false false level h = h
 
-sender_level-most : (p : Packet) (level : ℕ) → level ≤ 10 → sender_level p level ≤ 10
+pub sender_level-most : (p : Packet) (level : ℕ) → level ≤ 10 → sender_level p level ≤ 10
 sender_level-most p level h = small_flags (rst p) (fin p) (syn p) level h
 
 acknowledged-most : (level : ℕ) → level ≤ 10 → acknowledged level ≤ 10
@@ -54,7 +54,7 @@ small_answer true a level up h k = omega arith
 small_answer false true level up h k = k
 small_answer false false level up h k = h
 
-receiver_level-most : (p : Packet) (level : ℕ) → level ≤ 10 → receiver_level p level ≤ 10
+pub receiver_level-most : (p : Packet) (level : ℕ) → level ≤ 10 → receiver_level p level ≤ 10
 receiver_level-most p level h = small_answer (rst p) (ack p) level (acknowledged level) h (acknowledged-most level h)
 
 by_side : (b : Bool) (s : State) (from to : Peer) (now : ℕ) → (cond b s.src s.dst).level ≤ from.level
@@ -62,11 +62,11 @@ by_side : (b : Bool) (s : State) (from to : Peer) (now : ℕ) → (cond b s.src 
 by_side true s from to now h k u v = record { src = h; dst = k; src_most = u; dst_most = v }
 by_side false s from to now h k u v = record { src = k; dst = h; src_most = v; dst_most = u }
 
-moved-rises : (s : State) (dir : Dir) (from to : Peer) (now : ℕ) → (sender s dir).level ≤ from.level → (receiver s dir).level ≤ to.level
+pub moved-rises : (s : State) (dir : Dir) (from to : Peer) (now : ℕ) → (sender s dir).level ≤ from.level → (receiver s dir).level ≤ to.level
     → from.level ≤ 10 → to.level ≤ 10 → RisesInRange s (moved s dir from to now)
 moved-rises s dir from to now h k u v = by_side (from_src s dir) s from to now h k u v
 
-side-level : (b : Bool) (s : State) → IsState s → ((cond b s.src s.dst).level ≤ 10) × ((cond b s.dst s.src).level ≤ 10)
+pub side-level : (b : Bool) (s : State) → IsState s → ((cond b s.src s.dst).level ≤ 10) × ((cond b s.dst s.src).level ≤ 10)
 side-level true s is = (is.src.level, is.dst.level)
 side-level false s is = (is.dst.level, is.src.level)
 
@@ -75,7 +75,7 @@ begun_level : (b : Bool) (level : ℕ) (s : Peer) (x : Peer) → (b ≡ true →
 begun_level true level s x z h e = let zero_is = z refl in (omega arith, omega arith)
 begun_level false level s x z h e = (omega arith, h)
 
-begun-rises : (s d : Peer) (p : Packet) → s.level ≤ 10 → (s.level ≤ (begun s d p).level) × ((begun s d p).level ≤ 10)
+pub begun-rises : (s d : Peer) (p : Packet) → s.level ≤ 10 → (s.level ≤ (begun s d p).level) × ((begun s d p).level ≤ 10)
 begun-rises s d p h = begun_level (s.level == 0) s.level s _ (λ e. grind (arith, nat_tests)) h refl
 
 tcp-rises : (s : State) (p : Packet) (dir : Dir) (now : ℕ) (t : State) → IsState s → tracked_tcp s p dir now ≡ Moved t → RisesInRange s t
@@ -102,7 +102,7 @@ tcp-rises s p dir now t is e = by_tests (is_request p && is_closed s) (is_inside
     by_tests false false e = cc
     by_tests false true e = let same : m ≡ t = cc in subst (RisesInRange s) same rises
 
-other-rises : (s : State) (dir : Dir) (now : ℕ) → IsState s → RisesInRange s (tracked_other s dir now)
+pub other-rises : (s : State) (dir : Dir) (now : ℕ) → IsState s → RisesInRange s (tracked_other s dir now)
 other-rises s dir now is =
     let levels = side-level (from_src s dir) s is in
     moved-rises s dir _ _ now (omega arith) (answered (receiver s dir).level) (heard (sender s dir).level levels.0)

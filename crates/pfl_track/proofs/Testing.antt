@@ -2,7 +2,7 @@
 use Rattle.std.specs.Prelude.{◌≡◌, ℕ, Bool, true, false, not, ◌&&◌, ◌||◌, Some, None, is_none, if◌then◌else◌, refl}
 use Rattle.std.specs.Option.{option_map_or}
 use Rattle.pfl_track.specs.declared.edges.AckTest.{AckTest}
-use Rattle.pfl_track.specs.Edges.{TestsAgree, ack_test, left_test, right_test, tested_by, unless}
+use Rattle.pfl_track.specs.Edges.{TestsAgree, ack_test, tested_by, unless}
 use Rattle.pfl_track.specs.Windows.{ack_near, acknowledges, at_scale, is_scaled, left_edge, max_ack_window, right_edge}
 
 -- each edge that is tested holds, or is missed

@@ -22,7 +22,7 @@ inside = record { addr = V4 0x0a000001; port = 1000 }
 abbrev outside : ℕ → End
 outside port = record { addr = V4 0xc0000209; port = port }
 
-abbrev tcp : Dir → ℕ → ℕ → ℕ → ℕ → Packet
+abbrev pub tcp : Dir → ℕ → ℕ → ℕ → ℕ → Packet
 tcp Outbound flags seq ack window =
     record { proto = Tcp; src = inside; dst = outside 80; flags = flags; seq = seq; ack = ack; window = window; len = 0; scale = None }
 tcp Inbound flags seq ack window =
@@ -32,7 +32,7 @@ abbrev udp : Dir → Packet
 udp Outbound = record { proto = Udp; src = inside; dst = outside 53; flags = 0; seq = 0; ack = 0; window = 0; len = 40; scale = None }
 udp Inbound = record { proto = Udp; src = outside 53; dst = inside; flags = 0; seq = 0; ack = 0; window = 0; len = 80; scale = None }
 
-abbrev begin : Packet → State
+abbrev pub begin : Packet → State
 begin p = start_state (record { creator = 1; id = 1 }) (key p Outbound) (key p Outbound) Outbound p (Some 0) false 0
 
 -- levels and class, or none where the packet is dropped or the state reused
@@ -66,7 +66,7 @@ udp_one_way : shown (then (Moved (begin (udp Outbound))) Outbound (udp Outbound)
 udp_one_way = refl
 
 -- a connection from SYN to both FINs
-abbrev opened : Tracked
+abbrev pub opened : Tracked
 opened = then (then (Moved (begin (tcp Outbound 2 100 0 1000))) Inbound (tcp Inbound 18 500 101 2000)) Outbound (tcp Outbound 16 101 501 1000)
 
 tcp_first : seen (begin (tcp Outbound 2 100 0 1000)) ≡ (2, 0, TcpFirst)
@@ -78,7 +78,7 @@ tcp_answered = refl
 tcp_opened : shown opened ≡ Some (4, 4, TcpEstablished)
 tcp_opened = refl
 
-abbrev ends : Tracked → Option (Peer × Peer)
+abbrev pub ends : Tracked → Option (Peer × Peer)
 ends (Moved s) = Some (s.src, s.dst)
 ends OutOfWindow = None
 ends Reused = None
@@ -102,7 +102,7 @@ left = then leaving Inbound (tcp Inbound 17 501 102 2000)
 tcp_left : shown left ≡ Some (9, 7, TcpFinWait)
 tcp_left = refl
 
-abbrev closed : Tracked
+abbrev pub closed : Tracked
 closed = then left Outbound (tcp Outbound 16 102 502 1000)
 
 tcp_closed : shown closed ≡ Some (9, 9, TcpClosed)

@@ -3,7 +3,6 @@ use Rattle.std.specs.Prelude.{◌≡◌, ℕ, ◌-◌, ◌^◌, Bool, true, ◌&
 use Rattle.std.specs.Option.{option_map_or}
 use Rattle.pfl_base.specs.declared.direction.Dir.{Dir}
 use Rattle.pfl_base.specs.declared.packet.Packet.{Packet}
-use Rattle.pfl_base.specs.Packets.{is_tcp}
 use Rattle.pfl_base.specs.Sequence.{add32, sub32}
 use Rattle.pfl_track.specs.declared.edges.AckTest.{AckTest}
 use Rattle.pfl_track.specs.declared.edges.EdgeTest.{EdgeTest}

@@ -2,13 +2,12 @@
 
 ghost use Rattle.std.specs.Prelude.{◌≡◌};
 ghost use Rattle.pfl_track.specs.Edges as meant;
+ghost use Rattle.pfl_track.specs.Judging as judging;
 
 use crate::peer::Peer;
 use crate::state::State;
 use crate::tracking::{receiver, sender};
-use crate::window::{
-    MAX_ACK_WINDOW, ack_near, acknowledges, at_scale, begun, end_of, is_scaled, left_edge,
-};
+use crate::window::{MAX_ACK_WINDOW, acknowledges, at_scale, begun, end_of, is_near, is_scaled};
 use pfl_base::{Dir, Packet, seq_geq};
 
 /// A sequence number of a packet, what bounds it, and by how much it lies beyond, if it does.
@@ -37,17 +36,16 @@ pub struct WindowTest {
 }
 
 /// The distance, unless there is nothing to miss.
-fn unless(holds: bool, distance: u32) -> Option<u32>
+pub(crate) fn unless(holds: bool, distance: u32) -> Option<u32>
     ensures { result ≡ meant.unless holds distance }
 {
     if holds { None } else { Some(distance) }
 }
 
-/// The right edge: whether the packet ends within what was allowed.
-fn right_test(sender: &Peer, packet: &Packet) -> EdgeTest
-    ensures { result ≡ meant.right_test sender.now packet.now }
+/// A number that may be at most its bound.
+pub(crate) fn up_to(bound: u32, number: u32) -> EdgeTest
+    ensures { result ≡ judging.up_to bound number }
 {
-    let (number, bound) = (end_of(packet), sender.hi());
     EdgeTest {
         number,
         bound,
@@ -55,35 +53,51 @@ fn right_test(sender: &Peer, packet: &Packet) -> EdgeTest
     }
 }
 
-/// The left edge: whether the packet begins no more than a window back.
-fn left_test(sender: &Peer, window: u32, packet: &Packet) -> EdgeTest
-    ensures { result ≡ meant.left_test sender.now window packet.now }
+/// A number that may be at least its bound.
+pub(crate) fn back_to(bound: u32, number: u32) -> EdgeTest
+    ensures { result ≡ judging.back_to bound number }
 {
-    let (number, bound) = (packet.seq(), sender.lo().wrapping_sub(window));
     EdgeTest {
         number,
         bound,
-        missed: unless(
-            left_edge(sender, window, packet),
-            bound.wrapping_sub(number),
-        ),
+        missed: unless(seq_geq(number, bound), bound.wrapping_sub(number)),
     }
 }
 
-/// The acknowledged number: whether it is near what the other end sent. Of its two bounds the nearer one counts.
-fn ack_test(ahead: u32, receiver: &Peer, packet: &Packet) -> AckTest
-    ensures { result ≡ meant.ack_test ahead receiver.now packet.now }
+/// An acknowledged number. Of its two bounds the nearer one counts.
+pub(crate) fn near_test(ahead: u32, lo: u32, number: u32) -> AckTest
+    ensures { result ≡ judging.near_test ahead lo number }
 {
-    let number = packet.ack();
-    let behind = receiver.lo().wrapping_sub(number);
+    let behind = lo.wrapping_sub(number);
     let too_old = behind.saturating_sub(ahead);
     let too_new = MAX_ACK_WINDOW.wrapping_neg().saturating_sub(behind);
     AckTest {
         number,
-        least: receiver.lo().wrapping_sub(ahead),
-        most: receiver.lo().wrapping_add(MAX_ACK_WINDOW),
-        missed: unless(ack_near(ahead, receiver, packet), too_old.min(too_new)),
+        least: lo.wrapping_sub(ahead),
+        most: lo.wrapping_add(MAX_ACK_WINDOW),
+        missed: unless(is_near(ahead, lo, number), too_old.min(too_new)),
     }
+}
+
+/// The right edge: whether the packet ends within what was allowed.
+fn right_test(sender: &Peer, packet: &Packet) -> EdgeTest
+    ensures { result ≡ meant.right_test sender.now packet.now }
+{
+    up_to(sender.hi(), end_of(packet))
+}
+
+/// The left edge: whether the packet begins no more than a window back.
+fn left_test(sender: &Peer, window: u32, packet: &Packet) -> EdgeTest
+    ensures { result ≡ meant.left_test sender.now window packet.now }
+{
+    back_to(sender.lo().wrapping_sub(window), packet.seq())
+}
+
+/// The acknowledged number: whether it is near what the other end sent.
+fn ack_test(ahead: u32, receiver: &Peer, packet: &Packet) -> AckTest
+    ensures { result ≡ meant.ack_test ahead receiver.now packet.now }
+{
+    near_test(ahead, receiver.lo(), packet.ack())
 }
 
 /// What a packet of the state on its way is tested against, and by how much it misses.

@@ -10,11 +10,11 @@ pub const SYN_SENT: u8 = 2;
 
 const ESTABLISHED: u8 = 4;
 
-const CLOSING: u8 = 7;
+pub(crate) const CLOSING: u8 = 7;
 
 pub(crate) const FIN_WAIT_2: u8 = 9;
 
-const TIME_WAIT: u8 = 10;
+pub(crate) const TIME_WAIT: u8 = 10;
 
 /// UDP and other protocols: the end was heard.
 pub(crate) const SINGLE: u8 = 1;

@@ -361,6 +361,21 @@ impl State {
         }
     }
 
+    /// The state with these ends and this class, last used at this time.
+    pub(crate) fn renewed(&self, src: Peer, dst: Peer, class: Class, last: Millis) -> State
+        ensures { result ≡ record self.now { src = src; dst = dst; class = class; last = last } }
+    {
+        State {
+            kept: Kept {
+                src,
+                dst,
+                class,
+                last,
+                ..self.kept
+            },
+        }
+    }
+
     /// What packets move of it.
     pub fn motion(&self) -> Motion
         ensures { result ≡ motion_of self.now }

@@ -1,14 +1,18 @@
 //! How packets move states.
 
 ghost use Rattle.std.specs.Prelude.{◌≡◌, ◌≤◌};
+ghost use Rattle.pfl_track.specs.Rules as ruled;
 ghost use Rattle.pfl_track.specs.Tracking as meant;
 
+use crate::branch::Branch;
 use crate::levels::{FIN_WAIT_2, answered, class_after, heard};
+use crate::passing::{branch, receiver_by, sender_by};
 use crate::peer::{Peer, PeerFields};
+use crate::segment::{Segment, segment_of};
 use crate::state::State;
 use crate::tracked::Tracked;
 use crate::window::{begun, is_inside, receiver_after, sender_after};
-use pfl_base::{Dir, Millis, Packet, Proto};
+use pfl_base::{Dir, Kernel, Millis, Packet, Proto};
 
 /// What a packet of the state's flow does to the state, at a time in milliseconds (pf.c).
 pub fn track(state: &State, packet: &Packet, dir: Dir, now: Millis) -> Tracked
@@ -34,6 +38,60 @@ fn track_tcp(state: &State, packet: &Packet, dir: Dir, now: Millis) -> Tracked
     let from = sender_after(&sender, packet);
     let to = receiver_after(&sender, &receiver, packet);
     Tracked::Moved(moved(state, dir, from, to, now))
+}
+
+/// The same, where these rules are the kernel's, as far as we know it. A packet that passes loosely moves the ends alone.
+pub fn track_by(kernel: Kernel, state: &State, packet: &Packet, dir: Dir, now: Millis) -> Tracked
+    ensures { result ≡ ruled.tracked_by kernel state.now packet.now dir now }
+{
+    if tracks_by_profile(kernel) {
+        return track(state, packet, dir, now);
+    }
+    match packet.proto() {
+        Proto::Tcp => track_tcp_by(kernel, state, packet, dir, now),
+        Proto::Udp | Proto::Icmp | Proto::Other(_) => Tracked::Moved(track_other(state, dir, now)),
+    }
+}
+
+/// Whether none of the rules by which packets are tracked is the kernel's.
+fn tracks_by_profile(kernel: Kernel) -> bool
+    ensures { result ≡ ruled.tracks_by_profile kernel }
+{
+    !(kernel.window || kernel.loose || kernel.reset)
+}
+
+fn track_tcp_by(kernel: Kernel, state: &State, packet: &Packet, dir: Dir, now: Millis) -> Tracked
+    ensures { result ≡ ruled.tracked_tcp_by kernel state.now packet.now dir now }
+{
+    let again = packet.is_request() && is_closed(state);
+    if again {
+        return Tracked::Reused;
+    }
+    let receiver = receiver(state, dir);
+    let segment = segment_of(kernel, &sender(state, dir), &receiver, packet);
+    match branch(kernel, &segment, &receiver, packet) {
+        Some(branch) => Tracked::Moved(passed(state, &segment, packet, dir, now, branch)),
+        None => Tracked::OutOfWindow,
+    }
+}
+
+/// The state after a packet that passes so: one that passes loosely does not renew it.
+fn passed(
+    state: &State,
+    segment: &Segment,
+    packet: &Packet,
+    dir: Dir,
+    now: Millis,
+    branch: Branch,
+) -> State
+    ensures { result ≡ ruled.after state.now segment.now packet.now dir now branch }
+{
+    let from = sender_by(branch, segment, packet);
+    let to = receiver_by(branch, segment, &receiver(state, dir), packet);
+    match branch {
+        Branch::Window => moved(state, dir, from, to, now),
+        Branch::Loose => touched(state, dir, from, to),
+    }
 }
 
 fn track_other(state: &State, dir: Dir, now: Millis) -> State
@@ -95,7 +153,18 @@ fn moved(state: &State, dir: Dir, from: Peer, to: Peer, now: Millis) -> State
         (to, from)
     };
     let class = class_after(state.proto(), src.level(), dst.level());
-    state.with_ends(src, dst).refreshed(class, now)
+    state.renewed(src, dst, class, now)
+}
+
+/// The state with its ends after a packet that renews nothing, by who sent it.
+fn touched(state: &State, dir: Dir, from: Peer, to: Peer) -> State
+    ensures { result ≡ ruled.touched state.now dir from to }
+{
+    if from_src(state, dir) {
+        state.with_ends(from, to)
+    } else {
+        state.with_ends(to, from)
+    }
 }
 
 /// The end at another level.

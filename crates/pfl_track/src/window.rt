@@ -1,6 +1,7 @@
 //! The window of a TCP connection (RFC 9293, RFC 7323). Sequence numbers wrap.
 
 ghost use Rattle.std.specs.Prelude.{◌≡◌, ◌<◌, ◌^◌};
+ghost use Rattle.pfl_track.specs.Rules as ruled;
 ghost use Rattle.pfl_track.specs.Windows as meant;
 
 use crate::levels::{SYN_SENT, receiver_level, sender_level};
@@ -74,7 +75,7 @@ pub(crate) fn acknowledges(receiver: &Peer, packet: &Packet) -> bool
 }
 
 /// Whether the packet begins no more than a window back.
-pub(crate) fn left_edge(sender: &Peer, window: u32, packet: &Packet) -> bool
+fn left_edge(sender: &Peer, window: u32, packet: &Packet) -> bool
     ensures { result ≡ meant.left_edge sender.now window packet.now }
 {
     seq_geq(packet.seq(), sender.lo().wrapping_sub(window))
@@ -82,10 +83,17 @@ pub(crate) fn left_edge(sender: &Peer, window: u32, packet: &Packet) -> bool
 
 /// Whether the acknowledged number is near what the other end sent: at most `ahead` behind it, and at most [`MAX_ACK_WINDOW`]
 /// ahead of it.
-pub(crate) fn ack_near(ahead: u32, receiver: &Peer, packet: &Packet) -> bool
+fn ack_near(ahead: u32, receiver: &Peer, packet: &Packet) -> bool
     ensures { result ≡ meant.ack_near ahead receiver.now packet.now }
 {
-    let behind = receiver.lo().wrapping_sub(packet.ack());
+    is_near(ahead, receiver.lo(), packet.ack())
+}
+
+/// Whether an acknowledged number is at most `ahead` behind `lo`, and at most [`MAX_ACK_WINDOW`] ahead of it.
+pub(crate) fn is_near(ahead: u32, lo: u32, number: u32) -> bool
+    ensures { result ≡ ruled.is_near ahead lo number }
+{
+    let behind = lo.wrapping_sub(number);
     behind <= ahead || behind >= MAX_ACK_WINDOW.wrapping_neg()
 }
 

@@ -4,7 +4,7 @@ ghost use Rattle.std.specs.List.{AllByRecursion};
 ghost use Rattle.pfl_session.specs.Passes.{IsPassOf};
 ghost use Rattle.pfl_session.specs.Totals.{HasFewEvents};
 
-use pfl_base::{Addr, Dir, End, NodeId, Packet, PacketFields, Proto, TcpFlags};
+use pfl_base::{Addr, Dir, End, Kernel, NodeId, Packet, PacketFields, Proto, TcpFlags};
 use pfl_language::{BranchWord, Command, Event, Limits, NodeEvent};
 use pfl_rules::{Action, Rule, RuleDir, RuleSet};
 use pfl_session::{Lab, LabFault, Opened, Pass, Revision, Timeline, Which, World};
@@ -25,6 +25,7 @@ pub(super) fn limits() -> Limits {
         bulk_ms: 10_000,
         astart: None,
         aend: None,
+        kernel: Kernel::profile(),
     }
 }
 

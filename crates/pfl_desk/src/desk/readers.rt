@@ -10,7 +10,7 @@ ghost use Rattle.pfl_table.specs.declared.row.Row.{Row};
 
 use crate::counters::Counters;
 use crate::desk::Desk;
-use pfl_base::{Class, Millis};
+use pfl_base::{Class, Kernel, Millis};
 use pfl_bulk::{BulkClient, BulkServer};
 use pfl_defer::Deferrals;
 use pfl_language::Limits;
@@ -25,6 +25,13 @@ impl<A: Allocator> Desk<A> {
         ensures limits { result ≡ self.now.node.limits }
     {
         self.parts.limits()
+    }
+
+    /// Which of its rules are the kernel's.
+    pub fn kernel(&self) -> Kernel
+        ensures kernel { result ≡ self.now.node.limits.kernel }
+    {
+        self.parts.kernel()
     }
 
     /// Its rules.

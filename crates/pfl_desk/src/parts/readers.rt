@@ -10,7 +10,7 @@ ghost use Rattle.pfl_table.specs.declared.row.Row.{Row};
 
 use crate::counters::Counters;
 use crate::parts::Parts;
-use pfl_base::Millis;
+use pfl_base::{Kernel, Millis};
 use pfl_bulk::{BulkClient, BulkServer};
 use pfl_defer::Deferrals;
 use pfl_language::Limits;
@@ -25,6 +25,13 @@ impl<A: Allocator> Parts<A> {
         ensures limits { result ≡ self.now.limits }
     {
         self.limits
+    }
+
+    /// Which of its rules are the kernel's.
+    pub(crate) fn kernel(&self) -> Kernel
+        ensures kernel { result ≡ self.now.limits.kernel }
+    {
+        self.limits.kernel
     }
 
     /// Its rules.

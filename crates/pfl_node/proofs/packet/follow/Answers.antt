@@ -2,10 +2,9 @@ use Rattle.std.proofs.Common.{◌≡◌, ◌∙◌, ap, sym, arith}
 use Rattle.std.proofs.lemmas.Result.{err_from_is_err_and}
 use Rattle.pfl_base.specs.Keys.{key}
 use Rattle.pfl_track.specs.declared.tracked.Tracked.TheVariants.{Moved, OutOfWindow, Reused}
-use Rattle.pfl_track.specs.Tracking.{tracked}
 use Rattle.pfl_receive.proofs.ForCallers.table.{found-stands}
-use Rattle.pfl_node.specs.Packets.{followed}
-use Rattle.pfl_node.proofs.Fated.{found-replaces}
+use Rattle.pfl_node.specs.Packets.{followed, tracked_at}
+use Rattle.pfl_node.proofs.Fated.{found-replaces, tracks-at}
 use Rattle.pfl_node.proofs.Points.{stops-last, ends, handles-tracked}
 use Rattle.pfl_node.proofs.packet.follow.Goals as goal
 
@@ -14,8 +13,8 @@ accept-requires-clause-known g c =
     let n = c.args.desk.now.node in
     let p = c.args.packet.now in
     let s = c.args.state.now in
-    let moved : tracked s p c.args.dir n.clock ≡ Moved c.in-Moved.state = ap (tracked s p c.args.dir) (sym c.clock.ensures.clock)
-    ∙ (sym c.track.ensures ∙ c.in-Moved.is) in
+    let moved : tracked_at n s p c.args.dir ≡ Moved c.in-Moved.state =
+    tracks-at n s p c.args.dir _ _ _ c.kernel.ensures.kernel c.clock.ensures.clock c.track_by.ensures ∙ c.in-Moved.is in
     found-replaces n c.args.dir p s c.in-Moved.state c.requires.parts c.requires.packet c.requires.found moved
 
 pub returns-in_err-fate-in-Moved : goal.returns-in_err-fate-in-Moved
@@ -24,8 +23,8 @@ returns-in_err-fate-in-Moved g c =
     let n = c.args.desk.now.node in
     let p = c.args.packet.now in
     let s = c.args.state.now in
-    let moved : tracked s p c.args.dir n.clock ≡ Moved c.in-Moved.state = ap (tracked s p c.args.dir) (sym c.clock.ensures.clock)
-    ∙ (sym c.track.ensures ∙ c.in-Moved.is) in
+    let moved : tracked_at n s p c.args.dir ≡ Moved c.in-Moved.state =
+    tracks-at n s p c.args.dir _ _ _ c.kernel.ensures.kernel c.clock.ensures.clock c.track_by.ensures ∙ c.in-Moved.is in
     let tried = c.in_err-fate-in-Moved.ensures.done in
     record {
       done = rw q.1 (handles-tracked _ _ _ n c.args.dir p s _ _ moved
@@ -37,8 +36,8 @@ returns-in_ok-fate-in-Moved g c =
     let n = c.args.desk.now.node in
     let p = c.args.packet.now in
     let s = c.args.state.now in
-    let moved : tracked s p c.args.dir n.clock ≡ Moved c.in-Moved.state = ap (tracked s p c.args.dir) (sym c.clock.ensures.clock)
-    ∙ (sym c.track.ensures ∙ c.in-Moved.is) in
+    let moved : tracked_at n s p c.args.dir ≡ Moved c.in-Moved.state =
+    tracks-at n s p c.args.dir _ _ _ c.kernel.ensures.kernel c.clock.ensures.clock c.track_by.ensures ∙ c.in-Moved.is in
     let tried = c.in_ok-fate-in-Moved.ensures.done in
     record {
       done = handles-tracked _ _ _ n c.args.dir p s _ _ moved
@@ -51,8 +50,8 @@ returns-in-OutOfWindow g c =
     let n = c.args.desk.now.node in
     let p = c.args.packet.now in
     let s = c.args.state.now in
-    let out : tracked s p c.args.dir n.clock ≡ OutOfWindow = ap (tracked s p c.args.dir) (sym c.clock.ensures.clock)
-    ∙ (sym c.track.ensures ∙ c.in-OutOfWindow.is) in
+    let out : tracked_at n s p c.args.dir ≡ OutOfWindow =
+    tracks-at n s p c.args.dir _ _ _ c.kernel.ensures.kernel c.clock.ensures.clock c.track_by.ensures ∙ c.in-OutOfWindow.is in
     let e = c.drop_packet-fate.ensures in
     record {
       done = handles-tracked _ _ _ n c.args.dir p s _ _ out
@@ -70,5 +69,6 @@ returns-in-Reused g c =
     let n = c.args.desk.now.node in
     let p = c.args.packet.now in
     let s = c.args.state.now in
-    let reused : tracked s p c.args.dir n.clock ≡ Reused = ap (tracked s p c.args.dir) (sym c.clock.ensures.clock) ∙ (sym c.track.ensures ∙ c.in-Reused.is) in
+    let reused : tracked_at n s p c.args.dir ≡ Reused =
+    tracks-at n s p c.args.dir _ _ _ c.kernel.ensures.kernel c.clock.ensures.clock c.track_by.ensures ∙ c.in-Reused.is in
     record { done = handles-tracked _ _ _ n c.args.dir p s _ _ reused c.reuse.ensures.done }

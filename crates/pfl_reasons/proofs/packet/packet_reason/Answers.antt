@@ -1,14 +1,16 @@
 use Rattle.std.proofs.Common.{◌≡◌, None, Some, ◌∙◌, ap, refl, subst, sym}
 use Rattle.std.specs.Result.{IfOk}
+use Rattle.pfl_base.specs.declared.kernel.Kernel.{Kernel}
 use Rattle.pfl_base.specs.Keys.{key}
-use Rattle.pfl_track.specs.Tracking.{tracked}
+use Rattle.pfl_language.specs.declared.limits.Limits.{Limits}
+use Rattle.pfl_track.specs.Rules.{tracked_by}
 use Rattle.pfl_table.specs.Tables.{found, states_of}
 use Rattle.pfl_world.proofs.ForCallers.table.{found-stands}
 use Rattle.pfl_world.specs.desk.Nodes.{IsNode, Node}
 use Rattle.pfl_world.specs.Worlds.{node_at}
 use Rattle.pfl_reasons.specs.declared.packet_reason.PacketReason.{PacketReason}
 use Rattle.pfl_reasons.specs.declared.packet_reason.PacketReason.TheVariants.{ByRules, OfState}
-use Rattle.pfl_reasons.specs.Packets.{judged_reason}
+use Rattle.pfl_reasons.specs.Packets.{judged_reason, tested}
 use Rattle.pfl_reasons.proofs.Finding.{found-is, of_closed, of_no_state, of_state}
 use Rattle.pfl_reasons.proofs.packet.packet_reason.Goals as goal
 
@@ -51,17 +53,18 @@ returns-in-Reused g c =
     sym (found-is n c.node-node.result.now
     (states_of c.states.result.now) c.key.result c.args.dir p c.copied.result given c.states.ensures.states c.node-node.ensures.node
     c.key.ensures.key) ∙ c.in-Some.is in
-    let moved : tracked c.in-Some.state p c.args.dir n.clock ≡ c.track.result =
-    ap (tracked c.in-Some.state p c.args.dir) (sym (c.clock.ensures.clock ∙ ap (λ (m : Node). m.clock) c.node-node.ensures.node))
-    ∙ sym c.track.ensures in
+    let kernel = ap (λ (l : Limits). l.kernel) (c.limits.ensures.limits ∙ ap (λ (m : Node). m.limits) c.node-node.ensures.node) in
+    let clock = c.clock.ensures.clock ∙ ap (λ (m : Node). m.clock) c.node-node.ensures.node in
+    let moved : tracked_by n.limits.kernel c.in-Some.state p c.args.dir n.clock ≡ c.track_by.result =
+    sym (c.track_by.ensures ∙ λ i. tracked_by (kernel i) c.in-Some.state p c.args.dir (clock i)) in
     record {
       reason = subst (λ (why : PacketReason). IfOk c.reuse_reason.result (λ r. r ≡ why))
-          (sym (of_closed n c.args.dir p c.in-Some.state at c.track.result moved c.in-Reused.is)) c.reuse_reason.ensures.reason;
+          (sym (of_closed n c.args.dir p c.in-Some.state at c.track_by.result moved c.in-Reused.is)) c.reuse_reason.ensures.reason;
       still = c.reuse_reason.ensures.still;
     }
 
-pub returns-in_default-track : goal.returns-in_default-track
-returns-in_default-track g c =
+pub returns-in_default-track_by : goal.returns-in_default-track_by
+returns-in_default-track_by g c =
     let n = node_at c.args.world.now c.args.id in
     let p = c.args.packet.now in
     let given = c.copied.ensures ∙ c.found.ensures.state in
@@ -69,11 +72,13 @@ returns-in_default-track g c =
     sym (found-is n c.node-node.result.now
     (states_of c.states.result.now) c.key.result c.args.dir p c.copied.result given c.states.ensures.states c.node-node.ensures.node
     c.key.ensures.key) ∙ c.in-Some.is in
-    let moved : tracked c.in-Some.state p c.args.dir n.clock ≡ c.track.result =
-    ap (tracked c.in-Some.state p c.args.dir) (sym (c.clock.ensures.clock ∙ ap (λ (m : Node). m.clock) c.node-node.ensures.node))
-    ∙ sym c.track.ensures in
+    let kernel = ap (λ (l : Limits). l.kernel) (c.limits.ensures.limits ∙ ap (λ (m : Node). m.limits) c.node-node.ensures.node) in
+    let clock = c.clock.ensures.clock ∙ ap (λ (m : Node). m.clock) c.node-node.ensures.node in
+    let moved : tracked_by n.limits.kernel c.in-Some.state p c.args.dir n.clock ≡ c.track_by.result =
+    sym (c.track_by.ensures ∙ λ i. tracked_by (kernel i) c.in-Some.state p c.args.dir (clock i)) in
+    let judged = c.tested.ensures ∙ ap (λ (k : Kernel). tested k c.in-Some.state c.args.dir p) kernel in
     record {
-      reason = (λ i. OfState (c.name.ensures i) (c.tested.ensures i))
-          ∙ sym (of_state n c.args.dir p c.in-Some.state at c.track.result moved c.in_default-track.not-Reused);
+      reason = (λ i. OfState (c.name.ensures i) (judged i))
+          ∙ sym (of_state n c.args.dir p c.in-Some.state at c.track_by.result moved c.in_default-track_by.not-Reused);
       still = refl;
     }

@@ -4,7 +4,7 @@ use Rattle.pfl_receive.proofs.update.take_merge.Goals as goal
 
 pub put_merged-requires-clause-known : goal.put_merged-requires-clause-known
 put_merged-requires-clause-known g c =
-    let may = merge-may c.args.desk.now.node c.args.state.now _ c.args.received.now _ _ c.requires.parts c.requires.stands
+    let may = merge-may c.args.desk.now.node c.kernel.result c.args.state.now _ c.args.received.now _ _ c.requires.parts c.requires.stands
     c.merge-merged.ensures.merged c.clock.ensures.clock c.merge-merged.ensures.keeps c.merge-merged.ensures.state in
     rw c.drop_held.ensures.node (rw c.name.ensures may)
 

@@ -1,0 +1,40 @@
+-- Which rules are FreeBSD 13's, as far as we know its sources (pf.c, if_pfsync.c), in place of this project's profile.
+use Rattle.std.specs.Prelude.{ℕ, true, false, ◌||◌, List, [], ◌∷◌, find, bytes_eq, codes, Option}
+use Rattle.pfl_base.specs.declared.kernel.Kernel.{Kernel}
+use Rattle.pfl_base.specs.declared.kernel.KernelWord.{KernelWord}
+use Rattle.pfl_base.specs.declared.kernel.KernelWord.TheVariants.{Window, Loose, Merge, Reset}
+
+-- the word of a rule
+abbrev pub kernel_text : KernelWord → List ℕ
+kernel_text Window = codes "window"
+kernel_text Loose = codes "loose"
+kernel_text Merge = codes "merge"
+kernel_text Reset = codes "reset"
+
+-- the rule with the word, if there is one
+abbrev pub kernel_at_word : List ℕ → Option KernelWord
+kernel_at_word word = find (λ rule. bytes_eq (kernel_text rule) word) (Window ∷ Loose ∷ Merge ∷ Reset ∷ [])
+
+-- no rule is the kernel's
+abbrev pub profile : Kernel
+profile = record { window = false; loose = false; merge = false; reset = false }
+
+-- all of them are
+abbrev pub every_rule : Kernel
+every_rule = record { window = true; loose = true; merge = true; reset = true }
+
+-- one rule more
+abbrev pub with_kernel_rule : Kernel → KernelWord → Kernel
+with_kernel_rule k Window = record k { window = true }
+with_kernel_rule k Loose = record k { loose = true }
+with_kernel_rule k Merge = record k { merge = true }
+with_kernel_rule k Reset = record k { reset = true }
+
+-- the rules of either
+abbrev pub rules_of_either : Kernel → Kernel → Kernel
+rules_of_either k l = record {
+  window = k.window || l.window;
+  loose = k.loose || l.loose;
+  merge = k.merge || l.merge;
+  reset = k.reset || l.reset;
+}
