@@ -7,13 +7,13 @@ from typing import Callable, List, Sequence, Tuple
 
 from oracle.events import event
 from oracle.searches import line_of as search_line
-from oracle.setups import setup as small_setup
+from oracle.setups import setup as small_setup, with_kernel
 from shell.language.commands import BACK, COMMANDS, EXCISE, FORK, FORWARD, OPEN, RESTORE
 from shell.language.names import NODES
 from shell.language.setups import FRAMES, HELD, QUEUE, STATES
 
 from .corpora import Script
-from .lines import change_some, rule, spread, with_other_number, with_other_word
+from .lines import change_some, kernel, rule, spread, with_other_number, with_other_word
 from .vocabulary import BRANCHES, SHOWN
 
 # This many commands run in a moment.
@@ -41,12 +41,14 @@ class Draft:
             self.chance.choice(OF_COMMANDS)(self)
 
     def change_setup(self) -> None:
-        """Sets other limits, mostly small ones, and now and then other rules or a fault."""
+        """Sets other limits, mostly small ones, or rules of the kernel, and now and then other rules or a fault."""
         kind = self.chance.random()
         if kind < 0.3:
             self.setup = [*small_setup(self.chance), OPEN.word]
         elif kind < 0.6:
             self.setup[:0] = self.chance.sample([*small_setup(self.chance)], 4)
+        if self.chance.random() < 0.4:
+            self.setup = [*with_kernel(self.chance, self.setup[:-1]), *self.setup[-1:]]
         if self.chance.random() < 0.03:
             self.setup.insert(0, self.chance.choice(GREATEST))
         for _ in range(self.chance.choice((0, 0, 0, 0, 0, 0, 1, 2))):
@@ -100,7 +102,8 @@ class Draft:
 
     def add_events(self) -> None:
         for _ in range(self.chance.choice((1, 1, 3, 10))):
-            self.commands.insert(self.place(), f"step {self.name()} {event(self.chance, SHOWN)}")
+            is_far = self.chance.random() < 0.5
+            self.commands.insert(self.place(), f"step {self.name()} {event(self.chance, SHOWN, is_far)}")
 
     def add_exchange(self) -> None:
         """What is pending is sent and delivered, and a bulk update takes its turns; some of the tickets are in flight."""
@@ -158,6 +161,10 @@ class Draft:
         if self.setup and self.chance.random() < 0.2:
             del self.setup[self.chance.randrange(len(self.setup))]
 
+    def add_kernel(self) -> None:
+        """One more line `kernel`, or one that is faulty."""
+        self.setup.insert(self.chance.randint(0, max(0, len(self.setup) - 1)), kernel(self.chance))
+
     def add_rule(self) -> None:
         """One more rule, or now and then as many as a node can have."""
         at = self.chance.randint(0, max(0, len(self.setup) - 1))
@@ -173,4 +180,5 @@ OF_COMMANDS: Tuple[Change, ...] = (
 )
 OF_SETUPS: Tuple[Change, ...] = (
     *(Draft.change_word_of_setup, Draft.change_number_of_setup, Draft.change_lines_of_setup, Draft.add_rule, Draft.add_rule),
+    *(Draft.add_kernel, Draft.add_kernel),
 )

@@ -6,12 +6,12 @@ import re
 from typing import Callable, List
 
 from oracle.searches import MOST_RUNS
-from shell.language.commands import RULE
+from shell.language.commands import KERNEL, KERNEL_WORD, RULE
 from shell.language.forms import ACTION, GREATEST, NODE, RULE_DIRECTION
 from shell.language.searches import SEARCH
 from shell.language.setups import OPTIONS, Option
 
-from .vocabulary import ALIKE, BY_NAME, EDGES, FEW, LENGTHS
+from .vocabulary import ALIKE, BY_NAME, EDGES, FEW, LENGTHS, RULES_OF_KERNEL
 
 
 def change_some(chance: random.Random, lines: List[str], change: Callable[[random.Random, str], str]) -> None:
@@ -76,6 +76,12 @@ def rule(chance: random.Random) -> str:
         chance.shuffle(taken)
     values = (chance.choice(it.words) for it in (NODE, ACTION, RULE_DIRECTION))
     return " ".join([RULE.word, *values, *taken])
+
+
+def kernel(chance: random.Random) -> str:
+    """A line `kernel`, mostly with words that are rules."""
+    words = KERNEL_WORD.words if chance.random() < 0.7 else RULES_OF_KERNEL
+    return " ".join([KERNEL.word, *chance.choices(words, k=chance.choice((0, 1, 1, 1, 2, 2, 3, 4, 40, 90)))])
 
 
 def _option(chance: random.Random, option: Option) -> str:

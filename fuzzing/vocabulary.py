@@ -3,7 +3,7 @@ from __future__ import annotations
 
 from typing import Sequence, Tuple
 
-from shell.language.commands import SETUP
+from shell.language.commands import KERNEL_WORD, SETUP
 from shell.language.events import EVENTS
 from shell.language.forms import ACTION, RULE_DIRECTION
 from shell.language.lines import KNOWN
@@ -43,6 +43,8 @@ STATES = (
     *("1.1", "1.2", "2.1", "3.1", "1.0", "0.0", "0.1", "01.001", "1.1.1", "1.", ".1", "1"),
     *("4294967295.18446744073709551615", "4294967296.1"),
 )
+# Rules of the kernel, and words that are none.
+RULES_OF_KERNEL = (*KERNEL_WORD.words, "scale", "expiry", "takeover", "kernel", "profile", "none", "Window", "windows", "loos", "0", "-")
 # Words that can replace each other.
 ALIKE: Tuple[Sequence[str], ...] = (
     tuple(EVENTS),
@@ -54,6 +56,7 @@ ALIKE: Tuple[Sequence[str], ...] = (
     ACTION.words,
     (*LIMITS, TIMEOUT.word),
     CLASS.words,
+    RULES_OF_KERNEL,
     (*OPTIONS, "port", "keep"),
     FLAGS,
     PROTOCOLS,

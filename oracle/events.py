@@ -7,6 +7,7 @@ from typing import Dict, Iterator, Sequence, Tuple
 from shell.language import events
 from shell.language.events import EVENTS, LAST_MILLISECOND, PACKET, Event
 from shell.language.names import NODES
+from shell.language.packets import CIRCLE
 
 # The kinds without which nothing else happens come more often.
 WEIGHTS: Dict[Event, float] = {
@@ -14,6 +15,14 @@ WEIGHTS: Dict[Event, float] = {
     **{events.PURGE: 3, events.KILL: 3, events.CLEAR: 1, events.TURN: 5, events.RETRY: 3},
 }
 LONG = (LAST_MILLISECOND - 1,)
+FLAGS = ("S", "SA", "A", "A", "FA", "FA", "PA", "R")
+# How far the number of a packet of TCP is from the first one of its connection, and what it acknowledges from the other's.
+NEAR, NEAR_ACKS = (0, 1, 1, 1, 2, 10, 5000), (1, 1, 1, 2, 10)
+# Near the edges of what passes by the kernel's rules, with and without a scale.
+FAR = (*NEAR, *NEAR, -1, 3, 66000, 67000, 68000, 130000, 3000000000, -66000, -67034, -68000)
+FAR_ACKS = (*NEAR_ACKS, *NEAR_ACKS, 67000, 68000, -66000, -68000, -600000)
+SCALES = ("", "", " 0", " 1", " 7")
+CONNECTION = ("tcp", "10.0.0.1:1000", "192.0.2.9:80")
 
 
 def flow(chance: random.Random) -> Tuple[str, str, str]:
@@ -30,19 +39,24 @@ def flow(chance: random.Random) -> Tuple[str, str, str]:
     return protocol, f"{inner}:{port}", outer
 
 
-def packet(chance: random.Random, node: str) -> str:
-    """A packet of a flow in either direction; a TCP packet mostly fits the connection."""
+def packet(chance: random.Random, node: str, is_far: bool = False) -> str:
+    """A packet of a flow in either direction; a TCP packet mostly fits the connection. If it may be far from that, it is mostly one of a
+    single connection, so that this moves."""
     direction = chance.choice(("in", "out"))
-    protocol, inner, outer = flow(chance)
+    protocol, inner, outer = CONNECTION if is_far and chance.random() < 0.6 else flow(chance)
     ends = f"{outer} {inner}" if direction == "in" else f"{inner} {outer}"
     where = f"packet {node} {direction} {protocol} {ends}"
     if protocol != "tcp":
         return f"{where} {chance.randint(0, 100)}"
-    flags = chance.choice(("S", "SA", "A", "A", "FA", "FA", "PA", "R"))
+    flags = chance.choice((*FLAGS, "A", "RA") if is_far else FLAGS)
     own, other = (500, 100) if direction == "in" else (100, 500)
-    sequence = own + chance.choice((0, 1, 1, 1, 2, 10, 5000))
-    acknowledged = other + chance.choice((1, 1, 1, 2, 10)) if "A" in flags else 0
-    return f"{where} {flags} {sequence} {acknowledged} {chance.choice((0, 1000, 65535))} {chance.choice((0, 0, 10))}"
+    sequence = own + chance.choice(FAR if is_far else NEAR)
+    acknowledged = other + chance.choice(FAR_ACKS if is_far else NEAR_ACKS) if "A" in flags else 0
+    if is_far and flags == "RA" and chance.random() < 0.5:
+        acknowledged = 0
+    scale = chance.choice(SCALES) if is_far and "S" in flags else ""
+    window, length = chance.choice((0, 1000, 65535)), chance.choice((0, 0, 10))
+    return f"{where} {flags} {sequence % CIRCLE} {acknowledged % CIRCLE} {window} {length}{scale}"
 
 
 def some(chance: random.Random, shown: Sequence[str], other: str, *words: str) -> str:
@@ -51,7 +65,7 @@ def some(chance: random.Random, shown: Sequence[str], other: str, *words: str) -
     return chance.choice(found) if found and chance.random() < 0.95 else other
 
 
-def kinds(chance: random.Random, shown: Sequence[str]) -> Iterator[Tuple[float, str]]:
+def kinds(chance: random.Random, shown: Sequence[str], is_far: bool) -> Iterator[Tuple[float, str]]:
     """The kinds of events, each with its weight."""
     node = chance.choice(NODES)
     words = {
@@ -62,11 +76,11 @@ def kinds(chance: random.Random, shown: Sequence[str]) -> Iterator[Tuple[float, 
         "NAME": some(chance, shown, "1.99", "state", node),
     }
     for it in EVENTS.values():
-        line = packet(chance, node) if it is PACKET else " ".join([it.word, *(words[value.name] for value in it.values)])
+        line = packet(chance, node, is_far) if it is PACKET else " ".join([it.word, *(words[value.name] for value in it.values)])
         yield WEIGHTS.get(it, 2), line
 
 
-def event(chance: random.Random, shown: Sequence[str]) -> str:
-    """An event of any kind, mostly about what is shown."""
-    weighted = [*kinds(chance, shown)]
+def event(chance: random.Random, shown: Sequence[str], is_far: bool = False) -> str:
+    """An event of any kind, mostly about what is shown; a packet of TCP may be far from its connection."""
+    weighted = [*kinds(chance, shown, is_far)]
     return chance.choices([line for _, line in weighted], [weight for weight, _ in weighted])[0]

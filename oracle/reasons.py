@@ -1,19 +1,21 @@
 """What a reply to `why` must say: what follows from the pairs before and after the event, worked out without the program."""
 from __future__ import annotations
 
-from typing import List, Sequence, Tuple
+from typing import Dict, Iterator, List, Sequence, Tuple
 
-from shell.explanations import Expiry, Explanation, Judged, OfState, Purge, read_explanation
-from shell.frames import Frame
+from shell.explanations import Expiry, Explanation, Judged, OfState, Purge, TakenRecord, read_explanation
+from shell.frames import Carried, Changes, Frame, Record
+from shell.kernels import Kernel
 from shell.language.events import DELIVER, PACKET, PURGE, read_packet
-from shell.language.names import SYN_SENT, Name
+from shell.language.names import Name
 from shell.language.packets import PacketEvent
-from shell.language.records import BY_WORD
-from shell.language.setups import DEFER, NO_SYNC, STATES
+from shell.language.setups import DEFER, MERGE, NO_SYNC, STATES
+from shell.merging import merged
 from shell.pair import Node, read_shown
 from shell.rulings import deciding
 from shell.setups import Keys, Setup
-from shell.states import State
+from shell.states import Flow, State
+from shell.tracking import judged, moved
 from shell.words import expires_at
 
 from .frames import contents
@@ -35,7 +37,7 @@ def compare_reason(setup: Setup, reply: Sequence[str], before: Sequence[str], af
         wanted, came = _packet(setup, it, was.nodes[about], now.nodes[about])
     elif kind == DELIVER.word:
         frame = was.frames[int(about)]
-        wanted, came = _delivery(it, frame, was.nodes[frame.to], now.nodes[frame.to])
+        wanted, came = _delivery(setup.kernel, it, frame, was.nodes[frame.to], now.nodes[frame.to])
     elif kind == PURGE.word:
         wanted, came = _purge(setup, it, was.nodes[about], now.nodes[about])
     if wanted != came:
@@ -52,11 +54,16 @@ def _packet(setup: Setup, it: Explanation, was: Node, now: Node) -> Both:
     if state is None or state.name not in now.states:
         wanted = _judged(setup, was, packet)
         return (wanted, _outcome(setup, packet, wanted)), (it.reason, it.event.came)
-    if not isinstance(it.reason, OfState):
-        return "by its state", it.reason
-    is_missed = any(edge.missed is not None for edge in it.reason.edges.values())
-    outcome = "drop window" if is_missed else f"pass {state.name}"
-    return (state.name, _edges(state, packet), outcome), (it.reason.name, [*it.reason.edges], it.event.came)
+    after = moved(setup.kernel, state, packet, was.clock)
+    outcome = f"pass {state.name}" if after else "drop window"
+    there = now.states[state.name]
+    wanted_now = [*_tracked(after or state), (after or state).last]
+    return (judged(setup.kernel, state, packet), outcome, wanted_now), (it.reason, it.event.came, [*_tracked(there), there.last])
+
+
+def _tracked(state: Flow) -> Tuple[object, ...]:
+    """What packets and updates change of a state, but for its times."""
+    return state.source, state.destination, state.timeout_class
 
 
 def _outcome(setup: Setup, packet: PacketEvent, judged: Judged) -> str:
@@ -66,13 +73,6 @@ def _outcome(setup: Setup, packet: PacketEvent, judged: Judged) -> str:
     is_shared = not setup.rules[packet.node][judged.rule].has(NO_SYNC)
     is_held = setup.limits[DEFER] and packet.direction == "out" and is_shared
     return f"{'held' if is_held else 'pass'} {judged.name}"
-
-
-def _edges(state: State, packet: PacketEvent) -> List[str]:
-    """The edges that a packet of a state is tested against."""
-    other = state.destination if packet.direction == state.direction else state.source
-    counts = "A" in packet.flags and other.level >= SYN_SENT
-    return ["right", "left", *["ack"] * counts] if packet.is_tcp else []
 
 
 def _judged(setup: Setup, node: Node, packet: PacketEvent) -> Judged:
@@ -107,16 +107,35 @@ def _with_keys(states: Sequence[State], protocol: str, keys: Keys) -> List[Tuple
 # ---- a frame that comes
 
 
-def _delivery(it: Explanation, frame: Frame, was: Node, now: Node) -> Both:
-    """Its records; as many of them must be bad and stale as are counted."""
+def _delivery(kernel: Kernel, it: Explanation, frame: Frame, was: Node, now: Node) -> Both:
+    """Its records; as many of them must be bad and stale as are counted. What is merged must be merged by the rules, and what is tracked of
+    the states be what the records make of it."""
     first, *_ = lines = contents(frame.data)
     if not first.startswith("record "):
         return (None, first), (it.reason, it.event.came)
-    records = [words[: BY_WORD[words[0]].words + 1] for _, *words in map(str.split, lines)]
+    records = [Record.read(line.split()[1:]) for line in lines]
+    if [(one.kind, one.about) for one in records] != [(one.kind, one.about) for one in it.records]:
+        return records, it.records
     counted = [now.counters[name] - was.counters[name] for name in ("bad", "stale")]
     faulty = [sum(record.is_bad for record in it.records), sum(bool(record.stale) for record in it.records)]
-    came = [[record.kind.word, *record.about] for record in it.records]
-    return (records, counted, f"taken {len(records)}"), (came, faulty, it.event.came)
+    states: Dict[Name, Flow] = {**was.states}
+    merges = [*_merges(kernel, zip(records, it.records), states)]
+    wanted = counted, f"taken {len(records)}", [one for one, _ in merges], {name: _tracked(one) for name, one in states.items()}
+    there = {name: _tracked(one) for name, one in now.states.items()}
+    return wanted, (faulty, it.event.came, [one for _, one in merges], there)
+
+
+def _merges(kernel: Kernel, both: Iterator[Tuple[Record, TakenRecord]], states: Dict[Name, Flow]) -> Iterator[Both]:
+    """Of each record that is merged into a state what must be said of it, and what is. The states become what the records make of them."""
+    for record, fate in both:
+        for name in [name for name in states if fate.takes(name)]:
+            del states[name]
+        if fate.fate[0] == "imported" and isinstance(record.state, Carried):
+            states[record.name] = record.state
+        elif fate.fate[0] == "merged" and isinstance(record.state, (Carried, Changes)):
+            it = merged(kernel, states[record.name], record.state)
+            states[record.name] = it.state
+            yield (it.stale, it.taken, kernel.has(MERGE)), (fate.stale, fate.taken, fate.goes_together)
 
 
 # ---- a purge

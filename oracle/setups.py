@@ -2,10 +2,11 @@
 from __future__ import annotations
 
 import random
-from typing import Dict, Iterator, Sequence
+from typing import Dict, Iterator, List, Sequence
 
+from shell.language.commands import KERNEL, KERNEL_WORD
 from shell.language.names import NODES
-from shell.language.setups import AEND, ASTART, BATCH, BULK_MS, CLASSES, DEFER, FRAMES, HELD, MAXUPD, MTU, QUEUE, STATES, Limit
+from shell.language.setups import AEND, ASTART, BATCH, BULK_MS, CLASSES, DEFER, FRAMES, HELD, MAXUPD, MTU, QUEUE, STATES, SWITCHES, Limit
 
 # The values given to each limit that is set, and for some the value that it has in every other setup.
 TRIED: Dict[Limit, Sequence[int]] = {
@@ -30,6 +31,15 @@ def setup(chance: random.Random) -> Iterator[str]:
     for it in chance.sample(CLASSES, chance.choice((0, 0, 1, 2, 3))):
         yield f"set timeout {it.word} {chance.choice((0, 1, 2, 5, 30, it.seconds))}"
     yield from _rules(chance)
+
+
+def with_kernel(chance: random.Random, lines: Sequence[str]) -> List[str]:
+    """The lines of a setup, every other time with lines `kernel` between them: one word, all, or any number, some of them twice."""
+    setup = [*lines]
+    for _ in range(chance.choice((1, 1, 1, 2)) if chance.random() < 0.5 else 0):
+        words = [chance.choice(KERNEL_WORD.words)] if chance.random() < 0.5 else chance.choices([*SWITCHES], k=chance.randint(1, 5))
+        setup.insert(chance.randint(0, len(setup)), " ".join([KERNEL.word, *words]))
+    return setup
 
 
 def _rules(chance: random.Random) -> Iterator[str]:

@@ -53,7 +53,7 @@ function fill(viewer) {
   const where = `${branch.name}${branch.former ? " (an earlier run)" : ""}: ${branch.moments.length} events`;
   const now = place ? `The pair after event ${place}` : "The pair at the opening";
   byId("handout").replaceChildren(
-    make("h1", {}, run.title), ...paragraphs(run.intro), ...paragraphs(branch.notes), ...setupOf(run),
+    make("h1", {}, run.title), make("p", {}, run.by), ...paragraphs(run.intro), ...paragraphs(branch.notes), ...setupOf(run),
     make("h2", {}, where), chartOf(branch.chart),
     make("h2", {}, "The story"), ...branch.moments.map(described),
     make("h2", {}, now));

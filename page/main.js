@@ -26,6 +26,7 @@ function begin() {
   const run = JSON.parse(byId("run").textContent);
   const viewer = new Viewer(run);
   byId("title").textContent = run.title;
+  byId("by").textContent = run.by;
   const controls = new Controls(viewer);
   new Story(viewer);
   new ChartView(viewer);

@@ -9,7 +9,7 @@ from typing import Callable, Dict, Iterable, List, Sequence, Tuple
 from .charts.windows import FLOW, WINDOW_WORDS
 from .helps import CHART, NOTES, SHELL, VIEW, WHATIF, WHATIF_OPTIONS, WORDS
 from .laboratory import MOST_ENDS, Laboratory
-from .language.commands import BACK, COMMANDS, FORK, FRAME, RULE, SETUP, STEP, TYPED, WHY
+from .language.commands import BACK, COMMANDS, FORK, FRAME, KERNEL, KERNEL_WORD, RULE, SETUP, STEP, TYPED, WHY
 from .language.events import EVENTS
 from .language.forms import ACTION, DESTINATION, NODE, RULE_DIRECTION, SOURCE
 from .language.names import NODES
@@ -83,6 +83,8 @@ def candidates(lab: Laboratory, before: Sequence[str], begun: str) -> List[str]:
         return _matching(_places(lab, words, begun), begun)
     if words[0] == NOTES:
         return _matching(("on", "off") if len(words) == 1 else (), begun)
+    if words[0] == KERNEL.word:
+        return _matching((it for it in KERNEL_WORD.words if it not in words), begun)
     # An event follows the branch, which `why` may be without.
     places = {STEP.word: (2,), WHY.word: (1, 2)}.get(words[0], ())
     part = next((words[at:] for at in places if words[at:] and words[at] in EVENTS), words)

@@ -61,9 +61,14 @@ class Loop(cmd.Cmd):
         self.prompt = f"{self.where()}> " if self.is_typed else ""
 
     def where(self) -> str:
-        """The branch in use, and how many of its events stand."""
+        """The branch in use, how many of its events stand, and which rules are the kernel's, if any are."""
         if not self.lab.is_open:
             return "setup"
+        kernel = self.lab.setup.kernel
+        return self._branch() if kernel.is_profile else f"{self._branch()} ({kernel.short})"
+
+    def _branch(self) -> str:
+        """The branch in use, and how many of its events stand."""
         # (a server keeps every command that it gets, so a prompt asks it nothing)
         if self.lab.port is None or self.lab.is_mirrored:
             with contextlib.suppress(Unknown):

@@ -21,11 +21,33 @@ class Edge(NamedTuple):
     missed: Optional[int]
 
 
+class Loose(NamedTuple):
+    """By how much a packet ends after what passes loosely, and begins before it, if it does."""
+
+    right: Optional[int]
+    left: Optional[int]
+
+
 class OfState(NamedTuple):
-    """A state has the key of the packet. A TCP packet is tested: its edges are `right`, `left`, and `ack` if that counts."""
+    """A state has the key of the packet. A TCP packet is tested: its edges are `right`, `left`, and `ack` if that counts. By the kernel's
+    rules it may be judged by its sender's lo, since it has no data; a reset may be asked for its number; and a packet that misses one of
+    these may pass loosely."""
 
     name: Name
     edges: Dict[str, Edge]
+    is_eased: bool = False
+    reset: Optional[Edge] = None
+    loose: Optional[Loose] = None
+
+    @property
+    def is_inside(self) -> bool:
+        """Whether it passes inside the window; one that is not of TCP does."""
+        its = [*self.edges.values(), *([self.reset] if self.reset else [])]
+        return all(it.missed is None for it in its)
+
+    @property
+    def passes_loosely(self) -> bool:
+        return self.loose == Loose(None, None)
 
 
 class Judged(NamedTuple):
@@ -42,8 +64,8 @@ class Judged(NamedTuple):
         return Name.read(self.values[0])
 
 
-# The ends of a record that are behind those of the state, by their word.
-_STALE: Dict[str, Tuple[str, ...]] = {"-": (), "src": ("source",), "dst": ("destination",), "both": ("source", "destination")}
+# The ends of a record that are behind those of the state, or that are taken, by their word.
+_ENDS: Dict[str, Tuple[str, ...]] = {"-": (), "src": ("source",), "dst": ("destination",), "both": ("source", "destination")}
 
 
 class TakenRecord(NamedTuple):
@@ -59,7 +81,19 @@ class TakenRecord(NamedTuple):
 
     @property
     def stale(self) -> Tuple[str, ...]:
-        return _STALE[self.fate[1]] if self.fate[0] == "merged" else ()
+        return _ENDS[self.fate[1]] if self.fate[0] == "merged" else ()
+
+    @property
+    def taken(self) -> Tuple[str, ...]:
+        """The ends that were taken: by the profile those that are not stale. By the kernel's rule the program says which."""
+        if self.fate[0] != "merged":
+            return ()
+        return _ENDS[self.fate[3]] if self.goes_together else tuple(it for it in _ENDS["both"] if it not in self.stale)
+
+    @property
+    def goes_together(self) -> bool:
+        """Whether it was merged by the kernel's rule, by which the destination goes with the source."""
+        return self.fate[0] == "merged" and len(self.fate) > 3
 
     def takes(self, name: Name) -> bool:
         """Whether it took a state of this name, if there was one."""
@@ -134,13 +168,32 @@ def read_explanation(reply: Sequence[str]) -> Explanation:
 def _reason(lines: Sequence[List[str]]) -> Reason:
     first = lines[0][0] if lines else ""
     if first == "state":
-        edges = {word: Edge(int(number), tuple(map(int, bounds)), number_or_none(missed)) for word, number, *bounds, missed in lines[1:]}
-        return OfState(Name.read(lines[0][1]), edges)
+        return _of_state(lines)
     if first in ("closed", "rule"):
         return _judged(lines)
     if first == "record":
         return [_record(BY_WORD[kind], words) for _, kind, *words in lines]
     return _purge(lines) if lines else None
+
+
+def _of_state(lines: Sequence[List[str]]) -> OfState:
+    """The tests of a packet, in any order."""
+    words = {word: values for word, *values in lines}
+    (name,), is_eased = words.pop("state"), words.pop("eased", None) is not None
+    loose = _loose(words.pop("loose")) if "loose" in words else None
+    edges = {word: _edge(values) for word, values in words.items()}
+    reset = edges.pop("reset", None)
+    return OfState(Name.read(name), edges, is_eased, reset, loose)
+
+
+def _edge(values: Sequence[str]) -> Edge:
+    number, *bounds, missed = values
+    return Edge(int(number), tuple(map(int, bounds)), number_or_none(missed))
+
+
+def _loose(values: Sequence[str]) -> Loose:
+    right, left = map(number_or_none, values)
+    return Loose(right, left)
 
 
 def _against(lines: Sequence[List[str]]) -> Against:

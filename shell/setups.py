@@ -1,11 +1,12 @@
-"""The setup of a pair: its limits, and the rules of each node."""
+"""The setup of a pair: its limits, the rules of each node, and which rules are the kernel's."""
 from __future__ import annotations
 
 from dataclasses import dataclass, field
 from typing import Dict, Iterator, List, NamedTuple, Optional, Sequence, Tuple
 
 from .importing.comments import origin
-from .language.commands import SET
+from .kernels import PROFILE, Kernel
+from .language.commands import KERNEL, SET
 from .language.lines import has_word
 from .language.names import NODES
 from .language.packets import Key, PacketEvent
@@ -162,6 +163,7 @@ class Setup:
     limits: Dict[Limit, int] = field(default_factory=lambda: {it: it.default for it in LIMITS.values() if not it.fifths})
     timeouts: Dict[str, int] = field(default_factory=dict)
     rules: Dict[str, List[Rule]] = field(default_factory=lambda: {node: [] for node in NODES})
+    kernel: Kernel = PROFILE
     # Between which numbers of states timeouts shrink.
     adaptive: Adaptive = field(init=False)
     # Where the next rules are from, as the comment above them says.
@@ -193,6 +195,9 @@ class Setup:
         elif words[0] == SET.word:
             self.limits[LIMITS[words[1]]] = int(words[2])
             self._adapt()
+            self._origin = ""
+        elif words[0] == KERNEL.word:
+            self.kernel = self.kernel.with_words(words[1:])
             self._origin = ""
         else:
             self.rules[words[1]].append(Rule(tuple(words[2:]), self._origin))

@@ -18,7 +18,7 @@ from .dialogue import Loop
 from .fitting import shortened
 from .laboratory import Asked, Laboratory, Unknown, event_of
 from .language import pf_conf
-from .language.commands import SETUP, STEP
+from .language.commands import KERNEL, SETUP, STEP
 from .language.events import BROKEN, DELIVER, DROPPED, EVENTS, TICK
 from .language.forms import GREATEST, NAME as STATE_NAME
 from .language.lines import has_word, lines_of, opens
@@ -109,6 +109,8 @@ class Shell(Loop):
             self.lab.pass_over(line)
         elif not self.lab.is_open and words[0] not in helps.WORDS:
             raise Unknown(unknown_word(words[0]))
+        elif words == [KERNEL.word]:
+            self.show_kernel()
         elif words[0] in SETUP:
             self.setup_line(line)
         elif words[0] == SEARCH:
@@ -139,6 +141,14 @@ class Shell(Loop):
         self.lines.append((line, ()))
         if opens(line) and self.is_typed:
             self.show([self.paint.dim("the pair is set up; its branch is main. `help` lists the words.")])
+            self.show([self.paint.note(it) for it in self.lab.setup.kernel.warnings])
+
+    def show_kernel(self) -> None:
+        """Says which rules are the kernel's, and what to know about them."""
+        if not self.lab.knows_setup:
+            raise Unknown("which rules are the kernel's is in the server's setup, which is not known here: see --setup")
+        kernel = self.lab.setup.kernel
+        self.show(["the profile; no switch is on" if kernel.is_profile else kernel.line, *map(self.paint.note, kernel.warnings)])
 
     def events(self, branch: str, event: str, line: str = "") -> None:
         """Lets an event happen, or those that `tick both` and `deliver all` stand for."""

@@ -8,6 +8,7 @@ from .checksums import rules_checksum
 from .colours import Paint
 from .flights import Flight
 from .frames import HEADER, Frame
+from .language.commands import KERNEL
 from .language.events import MOST_TRIES
 from .language.names import COUNTERS, NODES, Name
 from .language.setups import BULK_MS, DEFER_MS
@@ -37,8 +38,16 @@ WIDTH, FURTHER = 120, 4
 
 
 def view(pair: Pair, setup: Optional[Setup], paint: Paint, columns: Optional[int] = None, part: str = "") -> List[str]:
-    """All of a pair: both nodes, and what is in flight; or only a node or a state, by its name. Long lists are in lines for this many
-    columns, if that is known."""
+    """All of a pair: both nodes, and what is in flight; or only a node or a state, by its name; and last which rules are the kernel's, if
+    any are. Long lists are in lines for this many columns, if that is known."""
+    return [*_contents(pair, setup, paint, columns, part), *(_by_kernel(setup, paint) if setup else ())]
+
+
+def _by_kernel(setup: Setup, paint: Paint) -> List[str]:
+    return [] if setup.kernel.is_profile else [paint.note(f"{setup.kernel.by}: not the profile (see: help {KERNEL.word})")]
+
+
+def _contents(pair: Pair, setup: Optional[Setup], paint: Paint, columns: Optional[int], part: str) -> List[str]:
     undone = pair.events - pair.cursor
     rest = f", {undone} undone" if undone else ""
     lines = [paint.head(f"branch {pair.branch}") + f"  {counted(pair.cursor, 'event')}{rest}"]

@@ -28,7 +28,8 @@ Step = Tuple[Explanation, Optional[Flight]]
 def chart(lab: Laboratory, branch: Branch, notes: Texts = NO_TEXTS, forks: Texts = NO_TEXTS, window: Window = WHOLE) -> Chart:
     """The chart of the events of a branch that stand, or of some of them."""
     window.within(branch.name, branch.cursor)
-    return drawn(branch.name, [*explained(lab, branch)], len(branch.events) - branch.cursor, notes, forks, window)
+    its = drawn(branch.name, [*explained(lab, branch)], len(branch.events) - branch.cursor, notes, forks, window)
+    return its if lab.setup.kernel.is_profile else replace(its, by=lab.setup.kernel.by)
 
 
 def drawn(

@@ -41,6 +41,8 @@ class Chart:
     events: int
     undone: int
     window: Window
+    # Which rules are the kernel's; nothing where all are the profile's.
+    by: str = ""
     rows: List[Row] = field(default_factory=list)
     # For each event the place of its row, from 0 on.
     places: Dict[int, int] = field(default_factory=dict)
@@ -108,7 +110,8 @@ class Chart:
         undone = f", {self.undone} undone and not drawn" if self.undone else ""
         # Frames are named by their tickets alone: 80 columns have no room for the word.
         legend = "; #N is frame N" if self.flights else ""
-        return f"{self.branch}, {events}{about}{undone}{legend}"
+        by = f", {self.by}" if self.by else ""
+        return f"{self.branch}, {events}{about}{by}{undone}{legend}"
 
 
 def _span(first: int, last: int) -> str:

@@ -7,7 +7,7 @@ from typing import Optional, Sequence, Tuple
 from . import forms as form
 from .events import EVENTS
 from .forms import Form, choice
-from .setups import LIMITS, RULE_FORM, TIMEOUT
+from .setups import EVERY_SWITCH, LIMITS, RULE_FORM, SWITCHES, TIMEOUT
 
 MOST_BRANCHES = 16
 
@@ -80,8 +80,18 @@ RULE = Line(
     "wire, on a rule that is `out`; `rdr` replaces it on the stack, on one that is `in`. If no rule matches, the packet passes "
     "without a state.",
 )
+# Any number of words, at least one, each of which is one of these.
+KERNEL_WORD = choice("WORD..", (*SWITCHES, EVERY_SWITCH))
+KERNEL = Line(
+    "kernel", (KERNEL_WORD,), "puts rules of FreeBSD's kernel, as far as we know them, in the place of the profile's, at both nodes",
+    "Several lines add up, in any order, and a word may come twice. Here `kernel` alone says which rules are the kernel's.\n"
+    + "\n".join(f"{it.word}: {it.what} ({it.sure})" for it in SWITCHES.values())
+    + f"\n{EVERY_SWITCH}: all of these\nThe numbers say how sure we are: these rules are FreeBSD 13's as far as we know its sources; nobody could "
+    "look them up here. A kernel before 13.2-RELEASE-p7 has `window` without `reset`: there a reset passes with any number. `reset` without "
+    "`window` is no kernel that we know, and is for comparing. docs/KERNEL.md says more.",
+)
 OPEN = Line("open", (), "ends the setup; events and commands follow", "The branch main is there, with no events.")
-SETUP = {it.word: it for it in (SET, RULE, OPEN)}
+SETUP = {it.word: it for it in (SET, RULE, KERNEL, OPEN)}
 
 _BRANCH, _BRANCH_N, _BRANCH_K = (form.BRANCH,), (form.BRANCH, form.N), (form.BRANCH, form.K)
 STEP = Line(

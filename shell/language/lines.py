@@ -4,7 +4,7 @@ from __future__ import annotations
 from typing import List, Sequence
 
 from . import forms as form
-from .commands import COMMANDS, EVENT, OPEN, RULE, SET, SETUP, STEP, WHY
+from .commands import COMMANDS, EVENT, KERNEL, KERNEL_WORD, OPEN, RULE, SET, SETUP, STEP, WHY
 from .events import CUT, CUT_LENGTH, EVENTS, OF_FRAME, OF_NODE, PACKET, read_packet
 from .forms import nearest, number
 from .packets import PacketEvent
@@ -80,6 +80,8 @@ def _check_setup(reader: Reader) -> None:
         _check_set(reader)
     elif word == RULE.word:
         _check_rule(reader)
+    elif word == KERNEL.word:
+        _check_kernel(reader)
     reader.finish()
 
 
@@ -87,6 +89,12 @@ def _check_set(reader: Reader) -> None:
     word = reader.known("setting", (*LIMITS, TIMEOUT.word))
     for wanted in TIMEOUT.values if word == TIMEOUT.word else (number("N", 1 if LIMITS[word].is_switch else form.GREATEST),):
         reader.take(wanted)
+
+
+def _check_kernel(reader: Reader) -> None:
+    reader.known("rule of the kernel", KERNEL_WORD.words)
+    while reader.next is not None:
+        reader.known("rule of the kernel", KERNEL_WORD.words)
 
 
 # ---- rules

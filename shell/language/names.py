@@ -9,8 +9,11 @@ TCP_LEVELS = (
     *("CLOSED", "LISTEN", "SYN_SENT", "SYN_RCVD", "ESTABLISHED", "CLOSE_WAIT", "FIN_WAIT_1", "CLOSING", "LAST_ACK"),
     *("FIN_WAIT_2", "TIME_WAIT"),
 )
-SYN_SENT, CLOSING, FIN_WAIT_2 = (TCP_LEVELS.index(it) for it in ("SYN_SENT", "CLOSING", "FIN_WAIT_2"))
+SYN_SENT, ESTABLISHED, CLOSING, FIN_WAIT_2, TIME_WAIT = (
+    TCP_LEVELS.index(it) for it in ("SYN_SENT", "ESTABLISHED", "CLOSING", "FIN_WAIT_2", "TIME_WAIT")
+)
 OTHER_LEVELS = ("NO_TRAFFIC", "SINGLE", "MULTIPLE")
+SINGLE, MULTIPLE = (OTHER_LEVELS.index(it) for it in ("SINGLE", "MULTIPLE"))
 
 
 def level_name(protocol: str, level: int) -> str:

@@ -1,4 +1,4 @@
-"""What a setup can say: the limits, the classes of timeouts and the options of rules, each as a row."""
+"""What a setup can say: the limits, the classes of timeouts, the options of rules and the rules of the kernel, each as a row."""
 from __future__ import annotations
 
 from dataclasses import dataclass
@@ -98,3 +98,35 @@ _OPTIONS = (QUICK, PROTO, FROM, FROM_PORT, TO, TO_PORT, FLAGS_ANY, NO_SYNC, MAX,
 OPTIONS = {it.word: it for it in _OPTIONS}
 RULE_FORM = f"pass|block in|out|any {' '.join(it.form for it in OPTIONS.values())}..."
 MOST_RULES = 256
+
+
+@dataclass(frozen=True)
+class Switch:
+    """A rule of FreeBSD's kernel that can take the place of the profile's: its word, what it says, and how sure we are of it."""
+
+    word: str
+    what: str
+    sure: str
+
+
+WINDOW = Switch(
+    "window",
+    "a segment without data is judged by what it acknowledges alone, and an end that was never heard begins with its first packet, "
+    "whatever its level",
+    "95%",
+)
+LOOSE = Switch(
+    "loose",
+    "where the other end was not heard, or an end has closed, a packet up to 67035 bytes outside what is known passes, and does not renew "
+    "the state",
+    "95%; that it moves the other end's hi: 85%",
+)
+MERGE = Switch("merge", "unless both ends of an update are stale, its destination is taken, stale or not", "85%")
+RESET = Switch(
+    "reset",
+    "a reset needs the next number, or one beside it",
+    "85% from 13.2-RELEASE-p7 and 13.3 on; before, only for packets that `scrub` has reassembled, 50%",
+)
+# In the order in which they are written.
+SWITCHES = {it.word: it for it in (WINDOW, LOOSE, MERGE, RESET)}
+EVERY_SWITCH = "all"

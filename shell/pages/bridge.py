@@ -168,8 +168,7 @@ class Bridge:
     def _all(self, may: str) -> Data:
         live = {"may": may, "watch": self._watching, "version": self.news.version, "people": self.news.people}
         branches = [dict(self._records[name].as_data(), offers=it.offers) for name, it in self._shown.items()]
-        its: Data = {"title": self._run.title, "intro": self._run.intro, "setup": self._run.setup.lines}
-        return {**its, "branches": [*branches, *self._former.data], "live": live}
+        return {**self._run.head, "branches": [*branches, *self._former.data], "live": live}
 
     def _publish(self, who: str, line: str, reply: Sequence[str]) -> None:
         """Makes news of what changed, if something did."""

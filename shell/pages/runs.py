@@ -26,7 +26,12 @@ class Run:
 
     def as_data(self) -> Dict[str, object]:
         branches = [it.as_data() for it in self.records]
-        return {"title": self.title, "intro": self.intro, "setup": self.setup.lines, "branches": branches, "live": None}
+        return {**self.head, "branches": branches, "live": None}
+
+    @property
+    def head(self) -> Dict[str, object]:
+        """What a page has of it besides its branches."""
+        return {"title": self.title, "intro": self.intro, "setup": self.setup.lines, "by": self.setup.kernel.by}
 
     def close(self) -> None:
         for it in self.records:

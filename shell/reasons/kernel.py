@@ -3,87 +3,68 @@
 Each line is about one packet or one record, and about the numbers that the node has here: it is there only where these decide it."""
 from __future__ import annotations
 
-from typing import List, NamedTuple, Sequence
+from typing import List, Sequence
 
-from ..language.names import FIN_WAIT_2, SYN_SENT, Name
-from ..language.packets import CIRCLE, PacketEvent, reaches
+from ..kernels import PROFILE, Kernel
+from ..language.commands import KERNEL
+from ..language.names import SYN_SENT, Name
+from ..language.packets import PacketEvent
+from ..language.setups import LOOSE, MERGE, RESET, WINDOW, Switch
 from ..pair import Node
-from ..states import End, Flow, is_closed
+from ..states import Flow, State, is_closed
+from ..tracking import MOST_APART, ends_of, judged
 
-# How far an acknowledged number may be from what is known, and how far a segment where the kernel is lenient (MAXACKWINDOW of pf.c).
-MOST_APART = 65535 + 1500
-PAGE = "(docs/REAL.md)"
+PAGE = "docs/REAL.md"
 _KERNEL = "FreeBSD's kernel, as far as we know its sources,"
+# Its rules for packets, as they are now, and before a reset was asked for its number.
+_NOW, _BEFORE = Kernel((WINDOW, LOOSE, RESET)), Kernel((WINDOW, LOOSE))
 
 
 # ---- packets
 
 
-def explain_kernel_window(packet: PacketEvent, sender: End, receiver: End) -> List[str]:
+def explain_kernel_window(kernel: Kernel, state: State, packet: PacketEvent) -> List[str]:
     """That the kernel passes a TCP packet of a state that is dropped here for its window, and why; nothing if it drops it as well."""
-    segment = _segment(packet, sender, receiver)
-    is_inside = _is_inside(segment, packet, sender, receiver)
-    if is_inside and not _is_refused_reset(segment, packet):
-        return [f"{_KERNEL} passes this packet: {_why_inside(segment, packet, sender, receiver)} {PAGE}"]
-    if _is_loose(segment, sender, receiver):
-        why = "the other end was not heard" if receiver.level < SYN_SENT else "an end has closed"
-        further = f"a packet may begin {MOST_APART} before lo, and end {MOST_APART} after hi"
-        return [f"{_KERNEL} passes this packet: where {why}, {further} {PAGE}"]
-    if is_inside:
-        return [f"{_KERNEL} may pass this packet: before 13.2-RELEASE-p7 it does not test the number of a reset {PAGE}"]
+    its = judged(_NOW, state, packet)
+    if its.is_inside:
+        return [f"{_KERNEL} passes this packet: {why_inside(state, packet, True)} {_words_for(kernel, state, packet)}"]
+    if its.passes_loosely:
+        return [f"{_KERNEL} passes this packet: {where_loose(state, packet)} {_words_for(kernel, state, packet)}"]
+    if judged(_BEFORE, state, packet).is_inside:
+        way = f"({_by(WINDOW)} without {RESET.word}; {PAGE})"
+        return [f"{_KERNEL} may pass this packet: before 13.2-RELEASE-p7 it does not test the number of a reset {way}"]
     return []
 
 
-class _Segment(NamedTuple):
-    """What the kernel judges a packet by: whether it is the first that it hears of the sender, the sender's next and greatest number,
-    what the packet covers, and what it acknowledges."""
-
-    is_first: bool
-    is_bare: bool
-    lo: int
-    hi: int
-    seq: int
-    end: int
-    ack: int
+def _words_for(kernel: Kernel, state: State, packet: PacketEvent) -> str:
+    """With which words besides a packet would pass here, and the page about them."""
+    for words in ((WINDOW,), (LOOSE,), (WINDOW, LOOSE)):
+        it = judged(kernel.with_words([one.word for one in words]), state, packet)
+        if it.is_inside or it.passes_loosely:
+            return f"({_by(*words)}; {PAGE})"
+    return f"({PAGE})"
 
 
-def _segment(packet: PacketEvent, sender: End, receiver: End) -> _Segment:
-    # (an end is heard for the first time whatever its level; then the packet itself is allowed)
-    is_first = sender.lo == 0 and sender.window == 0
-    lo, hi = (packet.seq, packet.end) if is_first else (sender.lo, sender.hi)
-    is_bare = packet.end == packet.seq
-    seq, end = (lo, lo) if is_bare else (packet.seq, packet.end)
-    acknowledges = "A" in packet.flags and receiver.level >= SYN_SENT and not ("R" in packet.flags and packet.ack == 0)
-    return _Segment(is_first, is_bare, lo, hi, seq, end, packet.ack if acknowledges else receiver.lo)
+def _by(*switches: Switch) -> str:
+    return Kernel(switches).by
 
 
-def _is_inside(it: _Segment, packet: PacketEvent, sender: End, receiver: End) -> bool:
-    is_scaled = sender.scale is not None and receiver.scale is not None and "S" not in packet.flags
-    ours, theirs = (sender.scale or 0, receiver.scale or 0) if is_scaled else (0, 0)
-    behind = (receiver.lo - it.ack) % CIRCLE
-    is_near = behind <= MOST_APART << ours or behind >= CIRCLE - MOST_APART
-    return reaches(it.hi, it.end) and reaches(it.seq, it.lo - (receiver.window << theirs)) and is_near
+def where_loose(state: State, packet: PacketEvent) -> str:
+    """Where a packet may pass loosely, and how far it may be from what is known."""
+    where = "the other end was not heard" if ends_of(state, packet)[1].level < SYN_SENT else "an end has closed"
+    return f"where {where}, a packet may begin {MOST_APART} before lo, and end {MOST_APART} after hi"
 
 
-def _is_refused_reset(it: _Segment, packet: PacketEvent) -> bool:
-    """Whether it is a reset whose number is not the next one, or one beside it."""
-    return "R" in packet.flags and (packet.seq - it.lo + 1) % CIRCLE > 2
-
-
-def _is_loose(it: _Segment, sender: End, receiver: End) -> bool:
-    """Whether the kernel is lenient, since an end has closed or the other one was not heard, and the packet is near enough."""
-    is_lenient = receiver.level < SYN_SENT or max(receiver.level, sender.level) >= FIN_WAIT_2
-    return is_lenient and reaches(it.hi + MOST_APART, it.end) and reaches(it.seq, it.lo - MOST_APART)
-
-
-def _why_inside(it: _Segment, packet: PacketEvent, sender: End, receiver: End) -> str:
-    if it.is_first and sender.level:
-        return "an end that it has not heard begins with its first packet, whatever its level"
-    if _is_inside(it._replace(seq=packet.seq, end=packet.end), packet, sender, receiver):
-        return "it does not look at the acknowledged number 0 of a reset"
-    if "R" in packet.flags:
+def why_inside(state: State, packet: PacketEvent, asks_resets: bool) -> str:
+    """Why a packet is inside the window by the kernel's rule, and is not by the profile; the number of a reset may be asked for."""
+    sender, _ = ends_of(state, packet)
+    if sender.level and sender.lo == 0 and sender.window == 0:
+        return "an end that was not heard begins with its first packet, whatever its level"
+    if all(it.missed is None for which, it in judged(PROFILE, state, packet).edges.items() if which != "ack"):
+        return "the acknowledged number 0 of a reset says nothing"
+    if asks_resets and "R" in packet.flags:
         return "a reset may have the next number, or one beside it"
-    return "it judges a packet without data by what it acknowledges alone"
+    return "a packet without data is judged by what it acknowledges alone"
 
 
 # ---- records
@@ -93,7 +74,7 @@ def explain_takeover(names: Sequence[Name]) -> List[str]:
     """That the kernel takes over states that are bad here."""
     if not names:
         return []
-    return [f"{_KERNEL} takes over {_list(names)}, since what has the key is closed at both ends {PAGE}"]
+    return [f"{_KERNEL} takes over {_list(names)}, since what has the key is closed at both ends ({PAGE})"]
 
 
 def gives_way(new: Flow, node: Node) -> bool:
@@ -107,7 +88,7 @@ def explain_destinations(names: Sequence[Name]) -> List[str]:
     """That the kernel takes destination ends that are stale here."""
     if not names:
         return []
-    return [f"{_KERNEL} takes the destination end of {_list(names)} too, since the source end is not stale {PAGE}"]
+    return [f"{_KERNEL} takes the destination end of {_list(names)} too, since the source end is not stale ({_by(MERGE)}; {PAGE})"]
 
 
 def _list(names: Sequence[Name]) -> str:

@@ -17,7 +17,7 @@ from ..states import State, is_closed
 from ..words import counted, levels
 from .elsewhere import explain_drop_elsewhere, explain_elsewhere
 from .expiry import explain_overdue
-from .windows import explain_window
+from .windows import explain_way, explain_window
 
 
 def explain_packet(question: Question) -> List[str]:
@@ -39,6 +39,7 @@ def _passed(question: Question, reason: OfState) -> List[str]:
     by_key = f"{state_words(state)} of {node.id} matches it by its {key} key"
     return [
         f"{by_key}; a packet of a state is not tested against rules",
+        *(explain_way(question.lab.setup.kernel, reason, state, question.packet) if question.packet.is_tcp else []),
         *["it also let the held packet of the state go"] * (reason.name in [it.name for it in node.held]),
         *(_closing(state, question.after.nodes[node.id].states[reason.name]) if question.packet.is_tcp else []),
         *explain_overdue(question, node, state),

@@ -10,13 +10,13 @@ from ..flights import Flight
 from ..frames import Carried, Record
 from ..histories import History
 from ..laboratory import Laboratory
+from ..language.commands import KERNEL
 from ..language.events import RESTART, RETRY, SERVED
-from ..language.names import ALL_STATES, BULK_END, BULK_START, SYN_SENT, Name, level_name
-from ..language.packets import reaches
+from ..language.names import ALL_STATES, BULK_END, BULK_START, Name, level_name
 from ..language.records import BULK_STATUS, CLEAR, INSERT, INSERT_ACK, QUEUES, UPDATE_REQUEST
-from ..language.setups import STATES
+from ..language.setups import MERGE, STATES
+from ..merging import is_stale_destination
 from ..pair import Node, other
-from ..states import End
 from ..words import bulk_status, counted
 from .kernel import PAGE, explain_destinations, explain_takeover, gives_way
 from .questions import Question, name_list
@@ -102,15 +102,17 @@ def _imported(it: Came) -> str:
 
 def _merged(it: Came) -> str:
     """An update of a known state: each end is taken unless it is stale."""
-    stale, last = it.taken.stale, f"last used at {it.taken.fate[2]} ms"
+    stale, taken, last = it.taken.stale, it.taken.taken, f"last used at {it.taken.fate[2]} ms"
     why = "; ".join(_staleness(it, end) for end in stale)
     if not stale:
         return f"merged: neither end is behind the one here; {last}"
     answer = _answer(it)
-    if len(stale) == 2:
+    if not taken:
         return f"stale: {why}{answer}"
-    taken = "destination" if stale == ("source",) else "source"
-    return f"merged in part, counted as stale: the {taken} end is taken; {why}; {last}{answer}"
+    if len(taken) == 2:
+        together = f"by {KERNEL.word} {MERGE.word} the destination end is taken with the source end"
+        return f"merged, counted as stale: {together}, although {why}; {last}{answer}"
+    return f"merged in part, counted as stale: the {taken[0]} end is taken; {why}; {last}{answer}"
 
 
 def _answer(it: Came) -> str:
@@ -177,12 +179,14 @@ def explain_taken(question: Question) -> List[str]:
 def _endless(came: List[Came]) -> List[str]:
     """States whose updates two nodes go on answering: the one has a destination end of a higher level, and the other one of a later
     number, so that each keeps its own."""
-    names = [it.name for it in came if "destination" in it.taken.stale and _is_crossed(it)]
+    kept = (it for it in came if "destination" in it.taken.stale and not it.taken.goes_together)
+    names = [it.name for it in kept if _is_crossed(it)]
     if not names:
         return []
     node = came[0].node.id
     answered = f"{other(node)} would find {node}'s own {name_list(names)} stale in turn, unless it has heard more since"
-    return [f"{answered}: by this project's profile the two can go on so without end {PAGE}"]
+    rest = f"by {KERNEL.word} {MERGE.word} they come to rest, unless their frames keep crossing"
+    return [f"{answered}: by this project's profile the two can go on so without end; {rest} ({PAGE})"]
 
 
 def _is_crossed(it: Came) -> bool:
@@ -191,17 +195,12 @@ def _is_crossed(it: Came) -> bool:
     if known is None or carried is None or known.protocol != "tcp":
         return False
     came, here = carried.destination, known.destination
-    return _is_behind(came, here) and _is_behind(here, came)
-
-
-def _is_behind(one: End, two: End) -> bool:
-    """Whether a destination end of TCP is stale where the node has the other one: behind in level, or in number once that has begun."""
-    return one.level < two.level or two.level >= SYN_SENT and one.lo != two.lo and reaches(two.lo, one.lo)
+    return is_stale_destination(here, came, True) and is_stale_destination(came, here, True)
 
 
 def _in_the_kernel(question: Question, came: List[Came]) -> List[str]:
     """Where the kernel does otherwise than the profile with these records."""
-    stale = [it.name for it in came if it.taken.stale == ("destination",)]
+    stale = [it.name for it in came if it.taken.stale == ("destination",) and not it.taken.goes_together]
     return [*explain_takeover(_in_the_place_of_closed(question.lab, came)), *explain_destinations(stale)]
 
 

@@ -15,7 +15,7 @@ from ..shell import Shell
 from . import program
 
 MARK = "<!-- dialogue -->\n```text\n"
-PROMPT = re.compile(r"(?:setup|[a-z][a-z0-9-]* \d+/\d+)> ")
+PROMPT = re.compile(r"(?:setup|[a-z][a-z0-9-]* \d+/\d+(?: \(kernel [a-z ]+\))?)> ")
 
 
 def dialogues(page: str) -> List[str]:

@@ -4,7 +4,7 @@ from __future__ import annotations
 import unittest
 from typing import List, Optional
 
-from ..explanations import Against, Edge, Expiry, Judged, NotExplained, OfState, Purge, Reason, TakenRecord, read_explanation
+from ..explanations import Against, Edge, Expiry, Judged, Loose, NotExplained, OfState, Purge, Reason, TakenRecord, read_explanation
 from ..branches import Happened
 from ..language.events import read_packet
 from ..language.names import Name
@@ -35,9 +35,29 @@ class Replies(unittest.TestCase):
         edges = {"right": Edge(127001, (65001,), 62000), "ack": Edge(9001, (8000, 9500), None)}
         self.assertEqual(reason("state 1.1", "right 127001 65001 62000", "ack 9001 8000 9500 -"), OfState(Name(1, 1), edges))
         self.assertEqual(reason("state 1.1"), OfState(Name(1, 1), {}))
+        self.assertTrue(OfState(Name(1, 1), {}).is_inside)
         self.assertEqual(reason("rule -"), Judged(None, None, "", ()))
         self.assertEqual(reason("rule 2 block"), Judged(None, 2, "block", ()))
         self.assertEqual(reason("closed 1.2", "rule 0 pass", "max 1 3"), Judged(Name(1, 2), 0, "max", ("1", "3")))
+
+    def test_packets_by_rules_of_the_kernel(self) -> None:
+        lines = ("state 1.1", "eased", "right 501 1501 -", "left 501 4294966797 -", "ack 101 4294900362 67136 -")
+        edges = {
+            "right": Edge(501, (1501,), None),
+            "left": Edge(501, (4294966797,), None),
+            "ack": Edge(101, (4294900362, 67136), None),
+        }
+        it = reason(*lines)
+        self.assertEqual(it, OfState(Name(1, 1), edges, is_eased=True))
+        its_reset, its_loose = "reset 503 500 502 1", "loose - -"
+        asked = reason(*lines, its_reset)
+        self.assertEqual(asked, OfState(Name(1, 1), edges, True, Edge(503, (500, 502), 1)))
+        near = reason(*lines, its_reset, its_loose)
+        self.assertEqual(near, OfState(Name(1, 1), edges, True, Edge(503, (500, 502), 1), Loose(None, None)))
+        far = reason("state 1.1", "right 501 102 399", "left 101 100 -", "loose 7 -")
+        self.assertEqual(far, OfState(Name(1, 1), {"right": Edge(501, (102,), 399), "left": Edge(101, (100,), None)}, loose=Loose(7, None)))
+        found = [(one.is_inside, one.passes_loosely) for one in (it, asked, near, far) if isinstance(one, OfState)]
+        self.assertEqual(found, [(True, False), (False, False), (False, True), (False, False)])
 
     def test_records(self) -> None:
         bad, clear = TakenRecord(INSERT, ("1.2",), ("bad", "wire", "2.1")), TakenRecord(CLEAR, ("1", "2"), ("cleared", "2"))
@@ -45,7 +65,24 @@ class Replies(unittest.TestCase):
         self.assertEqual((bad.is_bad, clear.is_bad, bad.takes(Name(1, 2))), (True, False, False))
         self.assertEqual([clear.takes(Name(*it)) for it in ((1, 2), (1, 3), (2, 1))], [True, False, False])
         ends = [TakenRecord(UPDATE, ("1.1",), ("merged", it, "0")).stale for it in ("-", "src", "dst", "both")]
-        self.assertEqual(ends, [(), ("source",), ("destination",), ("source", "destination")])
+        both = "source", "destination"
+        self.assertEqual(ends, [(), ("source",), ("destination",), both])
+        self.assertEqual((bad.taken, bad.goes_together, clear.taken), ((), False, ()))
+
+    def test_ends_that_are_taken(self) -> None:
+        both = "source", "destination"
+        for fate, stale, taken, is_by_kernel in (
+            ("- 0", (), both, False),
+            ("src 0", ("source",), ("destination",), False),
+            ("dst 0", ("destination",), ("source",), False),
+            ("both 0", both, (), False),
+            ("- 0 both", (), both, True),
+            ("src 0 dst", ("source",), ("destination",), True),
+            ("dst 0 both", ("destination",), both, True),
+            ("both 0 -", both, (), True),
+        ):
+            (it,) = read_explanation([*HEAD, f"record updc 1.1 merged {fate}", "end"]).records
+            self.assertEqual((it.stale, it.taken, it.goes_together), (stale, taken, is_by_kernel), fate)
 
     def test_purges(self) -> None:
         due, left = Expiry(Name(1, 1), "udp.first", 5, 2, 3000), Expiry(Name(1, 2), "udp.first", 60, 30, 31000)
@@ -54,7 +91,9 @@ class Replies(unittest.TestCase):
         self.assertEqual((reason(*lines), purge.due, due.last), (purge, [due], 1000))
 
     def test_other_lines_are_refused(self) -> None:
-        for lines in (["names main"], [*HEAD, "rule x block", "end"], [*HEAD, "clock 1", "end"]):
+        packets = ("loose -", "loose 1 2 3", "loose x -", "reset", "right")
+        of_packets = [[*HEAD, "state 1.1", it, "end"] for it in packets]
+        for lines in (["names main"], [*HEAD, "rule x block", "end"], [*HEAD, "clock 1", "end"], *of_packets):
             self.assertRaises(NotExplained, read_explanation, lines)
 
 

@@ -12,14 +12,15 @@ from unittest import mock
 
 from fuzzing import mutator, trials
 from fuzzing.corpora import Script, corpus
-from fuzzing.lines import with_few_runs
+from fuzzing.lines import kernel as kernel_line, with_few_runs
 from fuzzing.mutations import mutated
 from fuzzing.readings import fault_of, read
 from fuzzing.timelines import replies_to
 from fuzzing.trials import Trial, minimised
 from fuzzing.wholes import pieces
+from oracle.events import event
 from oracle.orders import Tries
-from oracle.setups import setup as small_setup
+from oracle.setups import setup as small_setup, with_kernel
 from oracle.subject import Differs, Subject
 from oracle.searches import Search, compare_search, is_allowed, line_of, pair_of
 from oracle.tallies import Seen
@@ -58,6 +59,53 @@ drop other
 search main 3 90 apart; 1 tick a 2; 1 packet b out udp 10.0.0.1:01000 192.0.2.9:53 40; 1 any lose
 search main 2 90 apart; 1 flush a; 1 tick a 5
 """
+# A pair with all rules of the kernel: an acknowledgement far off, an update whose destination is stale, a reset with another number than the
+# next; and after a close a FIN that passes loosely, and one that does not.
+KERNEL_SCRIPT = """kernel all
+rule a pass any flags any
+rule b pass any flags any
+open
+step main packet a out tcp 10.0.0.1:1000 192.0.2.9:80 S 100 0 60000 0
+step main flush a
+step main deliver 1
+step main packet a in tcp 192.0.2.9:80 10.0.0.1:1000 SA 500 101 60000 0
+step main flush a
+step main deliver 2
+step main packet a in tcp 192.0.2.9:80 10.0.0.1:1000 A 200000 101 60000 0
+step main packet b in tcp 192.0.2.9:80 10.0.0.1:1000 A 501 101 60000 1000
+step main packet a out tcp 10.0.0.1:1000 192.0.2.9:80 A 101 501 60000 10
+step main flush a
+step main deliver 3
+step main packet a in tcp 192.0.2.9:80 10.0.0.1:1000 R 600 0 0 0
+step main packet a out tcp 10.0.0.1:1000 192.0.2.9:80 FA 111 501 60000 0
+step main packet a in tcp 192.0.2.9:80 10.0.0.1:1000 A 501 112 60000 0
+step main packet a in tcp 192.0.2.9:80 10.0.0.1:1000 FA 501 112 60000 61000
+step main packet a in tcp 192.0.2.9:80 10.0.0.1:1000 FA 129000 112 60000 1000
+show main
+"""
+# The same of it.
+KERNEL_LIES = (
+    ("eased", "right 501 60501 -", 0),
+    ("right 501 60501 -", "right 200000 60501 -", 1),
+    ("ack 101 4294900361 67135 -", "ack 101 4294900361 67136 -", 0),
+    ("reset 600 500 502 98", "reset 600 500 502 -", 0),
+    ("reset 600 500 502 98", "reset 600 499 502 98", 0),
+    ("loose - -", "loose 1 -", 0),
+    ("loose 2465 -", "loose 2466 -", 0),
+    ("loose 2465 -", "loose - -", 0),
+    ("merged dst 0 both", "merged dst 0 src", 0),
+    ("merged dst 0 both", "merged dst 0", 0),
+    ("merged dst 0 both", "merged - 0 both", 0),
+    # What is shown of a state is not what the update, or a packet, makes of it.
+    ("4 - 60000 501 60501 tcp.established", "4 - 60000 501 60502 tcp.established", 0),
+    ("step pass 1.1", "step drop window", 2),
+    ("step drop window", "step pass 1.1", 0),
+)
+# The first events of a chance, where packets are near their connections.
+FIRST_EVENTS = [
+    *("deliver 3", "packet a in icmp 192.0.2.9:7 10.0.0.1:7 76", "lose 3", "packet b in tcp 192.0.2.9:80 10.0.0.1:1000 SA 501 101 1000 0"),
+    *("repeat 3", "flush b", "flush b", "purge a", "kill b 1.99", "packet a in tcp 192.0.2.9:80 10.0.0.2:1001 SA 501 101 0 0"),
+]
 # Of a right answer the text that is changed, what it becomes, and how often it stands as it is before.
 LIES = (
     ("step pass 1.1 dropped 0", "step drop max dropped 0", 0),
@@ -150,6 +198,14 @@ class WrongAnswers(unittest.TestCase):
             with self.subTest(lie), contextlib.closing(Lying(*lie)) as lab:
                 with self.assertRaises(Differs):
                     replies_to(lab, read(SCRIPT), Seen())
+                self.assertLess(lab.left, 0, "the text was there")
+
+    def test_by_rules_of_the_kernel_too(self) -> None:
+        self.assertEqual(Trial(program(), 1).difference(KERNEL_SCRIPT, Seen()), "")
+        for lie in KERNEL_LIES:
+            with self.subTest(lie), contextlib.closing(Lying(*lie)) as lab:
+                with self.assertRaises(Differs):
+                    replies_to(lab, read(KERNEL_SCRIPT), Seen())
                 self.assertLess(lab.left, 0, "the text was there")
 
     def test_what_whole_runs_do_wrong_is_noticed(self) -> None:
@@ -326,6 +382,37 @@ class Setups(unittest.TestCase):
         for form in ("set timeout udp", " nat 203.0.113.1:7000$", " nat 203.0.113.1:7000:70", " rdr 10.0.0.1:1000:1", "port 5[34]:"):
             self.assertTrue(any(re.search(form, it) for it in lines), form)
 
+    def test_rules_of_the_kernel_by_chance(self) -> None:
+        """In every other setup, between its lines, in each form."""
+        lines = [*small_setup(random.Random(1))]
+        setups = [with_kernel(random.Random(f"kernel {seed}"), lines) for seed in range(400)]
+        self.assertEqual({read("".join(f"{line}\n" for line in (*it, "open"))).fault for it in setups}, {""})
+        self.assertEqual([[line for line in it if not line.startswith("kernel")] for it in setups], [lines] * 400)
+        kernels = [Setup.of(it).kernel for it in setups]
+        self.assertTrue(150 < sum(it.is_profile for it in kernels) < 250)
+        self.assertGreater(len({*kernels}), 12)
+        said = [line for it in setups for line in it if line.startswith("kernel")]
+        for form in ("kernel all$", r"kernel \w+$", r"kernel \w+ \w+ \w+$", r"kernel .*\b(\w+)\b.* \1\b"):
+            self.assertTrue(any(re.match(form, it) for it in said), form)
+        self.assertTrue(any(sum(line.startswith("kernel") for line in it) == 2 for it in setups))
+
+    def test_a_seed_without_them_is_what_it_was(self) -> None:
+        """A pair by the profile gets packets near its connections, from the same chance as ever."""
+        chance = random.Random(11)
+        found = [event(chance, ["frame 3 b -", "state a 1.1"]) for _ in range(200)]
+        self.assertEqual(found[: len(FIRST_EVENTS)], FIRST_EVENTS)
+        self.assertFalse(any(re.search(r" tcp .* S \d+ 0 \d+ \d+ \d+$", it) for it in found))
+        far = [event(chance, [], True) for _ in range(400)]
+        self.assertEqual({fault_of(f"step main {it}", False) for it in (*found, *far)}, {""})
+        for form in (r" S \d+ 0 \d+ \d+ 7$", r" RA \d+ 0 ", r" A 4294\d{6} ", r" A 13\d{4} "):
+            self.assertTrue(any(re.search(form, it) for it in far), form)
+
+    def test_lines_of_them_by_chance(self) -> None:
+        lines = [kernel_line(random.Random(seed)) for seed in range(400)]
+        faults = [fault_of(it, True) for it in lines]
+        self.assertEqual({*faults}, {"", "1 Long", "3 Unknown", "4 Missing"})
+        self.assertGreater(faults.count(""), 150)
+
     def test_the_fault_that_is_looked_for_first(self) -> None:
         nat, rdr = "nat 198.51.100.1:4:5", "rdr 10.0.0.80:8080"
         for lines, fault in (
@@ -339,6 +426,10 @@ class Setups(unittest.TestCase):
             (f"rule a pass in {rdr} {nat}", "line 6"),
             ("set timeout udp.x 3", "line 5"),
             ("set timeout udp.first", "line 4"),
+            ("kernel", "line 4"),
+            ("kernel loose\nkernel all reset", ""),
+            ("kernel loose scale", "line 3"),
+            (f"rule a pass out {rdr}\nkernel windows", "line 3"),
         ):
             self.assertEqual(read(f"{lines}\nopen\n").fault, fault, lines)
 

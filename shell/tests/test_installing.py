@@ -94,6 +94,7 @@ class Installing(Room):
         for it in (self.prefix / "share/pfl_lab/examples").iterdir():
             self.assertNotIn("./lab", it.read_text(), it.name)
             self.assertNotIn("](..", it.read_text(), it.name)
+            self.assertNotIn("docs/", it.read_text(), it.name)
 
     def test_the_list_has_what_is_there(self) -> None:
         self.install()

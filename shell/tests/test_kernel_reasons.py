@@ -17,10 +17,12 @@ UNHEARD = OPEN + SYN
 HIGH = OPEN + PACKET + "S 5000 0 60000 0\n" + FAR_PACKET + "SA 500000 5001 60000 0\n"
 
 LEAST, MOST = (5000 - 67035) % 2**32, 5002 + 67035
-NO_DATA = "it judges a packet without data by what it acknowledges alone"
-UNHEARD_END = "where the other end was not heard, a packet may begin 67035 before lo, and end 67035 after hi"
-CLOSED_END = "where an end has closed, a packet may begin 67035 before lo, and end 67035 after hi"
-FIRST = "an end that it has not heard begins with its first packet, whatever its level"
+# Why, and by which words of a line `kernel` it passes here.
+NO_DATA = "a packet without data is judged by what it acknowledges alone (by kernel window"
+ACK_0 = "the acknowledged number 0 of a reset says nothing (by kernel window"
+UNHEARD_END = "where the other end was not heard, a packet may begin 67035 before lo, and end 67035 after hi (by kernel loose"
+CLOSED_END = "where an end has closed, a packet may begin 67035 before lo, and end 67035 after hi (by kernel loose"
+FIRST = "an end that was not heard begins with its first packet, whatever its level (by kernel window"
 
 # Of each packet that is dropped here: a script, and why the kernel passes it, if it does.
 CASES: Dict[str, Tuple[str, str]] = {
@@ -29,12 +31,15 @@ CASES: Dict[str, Tuple[str, str]] = {
     "a FIN is like a byte": (KNOWN + PACKET + "FA 200000 9001 100 0", ""),
     "no data, and a far acknowledgement": (KNOWN + PACKET + f"A 200000 {9001 + 67036} 100 0", ""),
     "no data, and an acknowledgement just near": (KNOWN + PACKET + f"A 200000 {9001 + 67035} 100 0", NO_DATA),
-    "the acknowledgement 0 of a reset": (HIGH + PACKET + "RA 5001 0 0 0", "it does not look at the acknowledged number 0 of a reset"),
+    "the acknowledgement 0 of a reset": (HIGH + PACKET + "RA 5001 0 0 0", ACK_0),
     "the same of an end that was not heard": (
         OPEN + PACKET + "S 500000 0 60000 0\n" + FAR_PACKET + "RA 7 0 0 0",
-        "it does not look at the acknowledged number 0 of a reset",
+        ACK_0,
     ),
-    "a reset one before the next number": (UNHEARD + PACKET + "R 4999 0 0 0", "a reset may have the next number, or one beside it"),
+    "a reset one before the next number": (
+        UNHEARD + PACKET + "R 4999 0 0 0",
+        "a reset may have the next number, or one beside it (by kernel window",
+    ),
     "the acknowledgement 0 of another packet": (HIGH + PACKET + "A 5001 0 0 0", ""),
     "the first packet of an end that a reset closed": (UNHEARD + PACKET + "R 5001 0 0 0\n" + SYN_ACK, FIRST),
     "the other end was not heard": (UNHEARD + PACKET + "PA 5001 1 100 1000", UNHEARD_END),
@@ -58,13 +63,13 @@ class KernelReasons(unittest.TestCase):
     def test_packets_that_the_kernel_passes(self) -> None:
         for name, (script, why) in CASES.items():
             with self.subTest(name):
-                lines = [f"FreeBSD's kernel, as far as we know its sources, passes this packet: {why} (docs/REAL.md)"]
+                lines = [f"FreeBSD's kernel, as far as we know its sources, passes this packet: {why}; docs/REAL.md)"]
                 self.assertEqual(of_kernel(script), lines if why else [])
 
     def test_resets(self) -> None:
         """A kernel before 13.2-RELEASE-p7 judged them like any packet without data."""
-        old = "may pass this packet: before 13.2-RELEASE-p7 it does not test the number of a reset"
-        self.assertEqual(of_kernel(KNOWN + PACKET + "R 200000 0 0 0"), [f"FreeBSD's kernel, as far as we know its sources, {old} (docs/REAL.md)"])
+        old = "may pass this packet: before 13.2-RELEASE-p7 it does not test the number of a reset (by kernel window without reset"
+        self.assertEqual(of_kernel(KNOWN + PACKET + "R 200000 0 0 0"), [f"FreeBSD's kernel, as far as we know its sources, {old}; docs/REAL.md)"])
 
 
 if __name__ == "__main__":

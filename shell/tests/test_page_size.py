@@ -106,7 +106,7 @@ def crowded() -> Dict[str, object]:
     sheet = {"top": 0, "height": 20 * STEPS + 60, "rows": rows, "elements": [], "ways": []}
     chart = {"width": 600, "height": sheet["height"], "lanes": {"a": 150, "b": 450}, "heads": {"a": "a", "b": "b"}, "sheets": [sheet]}
     branch = {"name": "main", "former": False, "undone": 0, "opening": opening, "notes": [], "moments": moments, "chart": chart}
-    return {"title": "A crowd", "intro": [], "setup": ["open"], "branches": [branch], "live": None}
+    return {"title": "A crowd", "intro": [], "setup": ["open"], "by": "by the profile", "branches": [branch], "live": None}
 
 
 def written(run: Mapping[str, object]) -> str:

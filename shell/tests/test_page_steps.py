@@ -33,6 +33,7 @@ class Opens(PageCase):
         self.open()
         self.assertIn("A query and its answer", self.browser.title)
         self.assertIn("A query and its answer", self.browser.text("#title"))
+        self.assertEqual(self.browser.text("#by"), "by the profile")
         names = "Array.from(document.querySelectorAll('#branches button'), it => it.dataset.branch)"
         self.assertEqual(self.browser.evaluate(names), BRANCHES)
         self.assertEqual(self.place()[1], 4)

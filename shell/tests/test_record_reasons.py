@@ -14,7 +14,7 @@ ANSWER = "step main packet b in udp 192.0.2.9:53 10.0.0.1:1000 80\n"
 # A's update of the SYN and ACK: the source ESTABLISHED at 5000, the destination SYN_SENT at 9001.
 ANSWERED = OPEN + SYN + SYNC + SYN_ACK + FLUSH
 # What the kernel does with a record instead.
-TAKES = "FreeBSD's kernel, as far as we know its sources, takes {} (docs/REAL.md)"
+TAKES = "FreeBSD's kernel, as far as we know its sources, takes {}"
 # A connection is closed at both nodes, and the next one has its ports: a frame inserts the new state, and deletes the old one.
 CLOSED_THEN_NEW = OPEN + SYN + SYN_ACK + RESET + SYNC + SYN + FLUSH + "step main deliver 2"
 # B restarts and asks; the start comes with 1.1 in frame 3, which is lost, and the end with 1.2 in frame 4, which is in flight.
@@ -66,8 +66,9 @@ CASES: Cases = {
             "b has its own state queued for a already (short update)",
             # By its level b's destination end is the older one.
             "a would find b's own 1.1 stale in turn, unless it has heard more since: "
-            "by this project's profile the two can go on so without end (docs/REAL.md)",
-            TAKES.format("the destination end of 1.1 too, since the source end is not stale"),
+            "by this project's profile the two can go on so without end; "
+            "by kernel merge they come to rest, unless their frames keep crossing (docs/REAL.md)",
+            TAKES.format("the destination end of 1.1 too, since the source end is not stale (by kernel merge; docs/REAL.md)"),
         ],
     ),
     "merged in part, and at rest after an answer": (
@@ -80,7 +81,7 @@ CASES: Cases = {
             "1. short update 1.1: merged in part, counted as stale: the source end is taken; "
             "the destination end's lo 10001 here is after the 9001 that came; last used at 0 ms; "
             "b queues its own state for a, as a short update",
-            TAKES.format("the destination end of 1.1 too, since the source end is not stale"),
+            TAKES.format("the destination end of 1.1 too, since the source end is not stale (by kernel merge; docs/REAL.md)"),
         ],
     ),
     "stale by level, of UDP": (
@@ -119,7 +120,7 @@ CASES: Cases = {
         [
             "1. insert 1.2: bad: its wire key is in use: b has state 1.1 for 10.0.0.1:1000 and 192.0.2.9:80",
             "2. short delete 1.1: deleted",
-            TAKES.format("over 1.2, since what has the key is closed at both ends"),
+            TAKES.format("over 1.2, since what has the key is closed at both ends (docs/REAL.md)"),
         ],
     ),
     "bad, the deletion is to be told": (
