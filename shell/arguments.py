@@ -4,10 +4,12 @@ from __future__ import annotations
 import argparse
 import ipaddress
 import os
+import re
 from typing import Callable, List, Optional, Tuple
 
 from .charts.windows import read_flow, read_place
 from .dumps.comparing import Tolerance
+from .importing.about import ENDS, Wanted
 from .importing.firewall import Own
 from .laboratory import Unknown
 from .language.names import Name
@@ -44,6 +46,7 @@ class Words(Options):
     conf: str
     on: str
     address: Optional[List[Tuple[str, Own]]]
+    about: Optional[Wanted]
     group: Optional[List[Tuple[str, str]]]
     node: str
     rc: Optional[str]
@@ -210,6 +213,12 @@ def _import(words: argparse.ArgumentParser) -> None:
         metavar="[IF=]ADDRESS/LENGTH",
         help="an address of the interface, or of IF; may be given several times",
     )
+    words.add_argument(
+        "--about",
+        type=wanted,
+        metavar="[END=]ADDRESS[:PORT]",
+        help="writes only the rules for packets with this address, and this port, at an end: near, far or either",
+    )
     words.add_argument("--group", action="append", type=group, metavar="GROUP=IF", help="IF is in this group, such as egress=em0")
     words.add_argument("--node", default="both", choices=("a", "b", "both"), help="the node that gets the rules; the default is both")
     words.add_argument("--rc", metavar="FILE", help="an rc.conf(5), from which `maxupd` and `defer` of pfsync0 are taken in")
@@ -234,6 +243,23 @@ def own_address(word: str) -> Tuple[str, Own]:
         return name, ipaddress.ip_interface(address)
     except ValueError as error:
         raise argparse.ArgumentTypeError(f"{word} is not [IF=]ADDRESS/LENGTH, such as 192.0.2.1/24 or em1=10.0.0.1/8") from error
+
+
+def wanted(word: str) -> Wanted:
+    """An address, with a port if one is named, of IPv6 in brackets then; and the end that has it."""
+    end, _, text = word.rpartition("=")
+    found = re.fullmatch(r"\[(?P<v6>[^\]]*)\](?::(?P<port6>[0-9]{1,5}))?|(?P<v4>[^:]*):(?P<port4>[0-9]{1,5})|(?P<alone>.*)", text)
+    try:
+        if not found or end not in ("", *ENDS):
+            raise ValueError
+        number = found["port6"] or found["port4"]
+        address = ipaddress.ip_address(found["v6"] or found["v4"] or found["alone"] or "")
+        if number and int(number) > 65535 or found["v6"] and address.version == 4:
+            raise ValueError
+        return Wanted(address, int(number) if number else None, end)
+    except ValueError as error:
+        what = "[END=]ADDRESS[:PORT], such as 192.0.2.80, near=192.0.2.80:443 or [2001:db8::80]:443; END is near, far or either"
+        raise argparse.ArgumentTypeError(f"{word} is not {what}") from error
 
 
 def group(word: str) -> Tuple[str, str]:

@@ -45,6 +45,11 @@ class Two(NamedTuple):
     a: Dumped
     b: Dumped
 
+    @property
+    def harm(self) -> Tuple[bool, int]:
+        """What sorts it, by the node at which it is worth more."""
+        return min(self.a.harm, self.b.harm)
+
 
 @dataclass
 class Compared:
@@ -56,8 +61,10 @@ class Compared:
     again: Dict[str, int] = field(default_factory=lambda: {it: 0 for it in NODES})
     only: Dict[str, List[Dumped]] = field(default_factory=lambda: {it: [] for it in NODES})
     unsynchronised: Dict[str, List[Dumped]] = field(default_factory=lambda: {it: [] for it in NODES})
-    # Flows with a different name at each node; their states count as states of one node only.
+    # Flows with a different name at each node.
     twice: List[Two] = field(default_factory=list)
+    # States that agree, but have a rule at one node and none at the other.
+    without_rule: List[Two] = field(default_factory=list)
     differing: Dict[Kind, List[Two]] = field(default_factory=lambda: {it: [] for it in Kind})
     agreeing: int = 0
     # How many of the states that agree differ in their windows by less than a window.
@@ -70,7 +77,7 @@ class Compared:
     @property
     def is_same(self) -> bool:
         """Whether nothing differs except what is never sent to the peer, or what packets between the dumps explain."""
-        return not (self.differ or any(self.only.values()))
+        return not (self.differ or self.twice or any(self.only.values()))
 
 
 def compare(a: Iterable[Dumped], b: Iterable[Dumped], tolerance: Tolerance) -> Compared:
@@ -161,17 +168,20 @@ def _keys(state: Dumped) -> Tuple[object, object]:
 def _pair_by_flows(left: List[Dumped], rest: List[Dumped], found: Compared, tolerance: Tolerance) -> None:
     """Pairs states that have no name at one of the nodes by their flows, and finds the flows with two names."""
     flows = Flows(left if rest else ())
-    judged: Dict[str, Set[int]] = {it: set() for it in NODES}
+    met: Dict[str, Set[int]] = {it: set() for it in NODES}
     for state in rest:
         partner = flows.take(state)
-        if partner and (partner.name is None or state.name is None):
-            judged["a"].add(partner.line)
-            judged["b"].add(state.line)
-            _judge(Two(partner, state), found, tolerance)
-        elif partner:
+        has_names = bool(partner and partner.name is not None and state.name is not None)
+        if not partner or (has_names and not (partner.is_synchronised and state.is_synchronised)):
+            continue
+        met["a"].add(partner.line)
+        met["b"].add(state.line)
+        if has_names:
             found.twice.append(Two(partner, state))
-    _stand_alone("a", (it for it in left if it.line not in judged["a"]), found)
-    _stand_alone("b", (it for it in rest if it.line not in judged["b"]), found)
+        else:
+            _judge(Two(partner, state), found, tolerance)
+    _stand_alone("a", (it for it in left if it.line not in met["a"]), found)
+    _stand_alone("b", (it for it in rest if it.line not in met["b"]), found)
 
 
 def _stand_alone(node: str, states: Iterable[Dumped], found: Compared) -> None:
@@ -190,6 +200,7 @@ def _judge(two: Two, found: Compared, tolerance: Tolerance) -> None:
     else:
         found.agreeing += 1
         found.moved += has_windows(two) and two.a.windows != two.b.windows
+        found.without_rule += [two] * (has_details(two) and two.a.marks.rule != two.b.marks.rule)
 
 
 def kind_of(two: Two, tolerance: Tolerance) -> Optional[Kind]:
@@ -199,13 +210,13 @@ def kind_of(two: Two, tolerance: Tolerance) -> Optional[Kind]:
         return Kind.FLOWS
     if a.levels != b.levels:
         return Kind.LEVELS
-    if has_details(two) and a.marks.rule != b.marks.rule:
+    if has_details(two) and a.marks.rule != b.marks.rule and None not in (a.marks.rule, b.marks.rule):
         return Kind.RULES
     if has_windows(two) and a.windows != b.windows and _are_windows_apart(two):
         return Kind.WINDOWS
     if tolerance.is_apart(a.expires, b.expires) or tolerance.is_of_ages and tolerance.is_apart(a.age, b.age):
         return Kind.TIMES
-    is_alike = (a.interface, a.marks, a.routes) == (b.interface, b.marks, b.routes)
+    is_alike = (a.interface, a.marks.words, a.routes) == (b.interface, b.marks.words, b.routes)
     return Kind.REST if not is_alike and _rest(two) else None
 
 

@@ -16,7 +16,8 @@ _END = rf"\[(\d{{1,10}}) ?\+ ?(\d{{1,10}})\](?:\(\+(\d{{1,10}})\))?(?:{_GAP}wsca
 _TIME = r"(\d{1,9}:[0-5]\d:[0-5]\d)"
 _PACKETS, _BYTES = (rf"\d{{1,20}}:\d{{1,20}} {it}" for it in ("pkts", "bytes"))
 _TIMES = rf"age{_GAP}{_TIME},[ \t]*expires{_GAP}in{_GAP}{_TIME}(?:, {_PACKETS}, {_BYTES}(?=[,\s]|$))?"
-_NAME = rf"id:{_GAP}([0-9a-f]{{1,16}}){_GAP}creatorid:{_GAP}([0-9a-f]{{1,8}})(?!\S)"
+# (all digits are printed: with fewer a name was cut)
+_NAME = rf"id:{_GAP}([0-9a-f]{{16}}){_GAP}creatorid:{_GAP}([0-9a-f]{{8}})(?!\S)"
 _ROUTE = r"(?:gateway|origif|route-to|rt): "
 
 _ARROW = r"[^\n]*? (?:->|<-) "
@@ -133,7 +134,7 @@ def named(text: str) -> Optional[Named]:
 
 def name_of(identity: str, creator: str) -> str:
     """A name in the form that `pfctl -k id -k ID/CREATOR` takes."""
-    return f"{identity:0>16}/{creator:0>8}"
+    return f"{identity}/{creator}"
 
 
 @lru_cache(1 << 14)

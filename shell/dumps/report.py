@@ -4,10 +4,9 @@ from __future__ import annotations
 from collections import Counter
 from functools import partial
 from itertools import chain
-from typing import Callable, Dict, Hashable, Iterable, List, NamedTuple, Optional, Sequence, TypeVar
+from typing import Callable, Dict, Hashable, Iterable, List, NamedTuple, Optional, Protocol, Sequence, Tuple, TypeVar
 
 from ..colours import Paint
-from ..diffs import Counts
 from ..language.names import NODES
 from ..words import counted
 from .comparing import Compared, Kind, Tolerance, Two, fields
@@ -20,6 +19,9 @@ MOST_STATES = 3
 
 _WHY_ALONE = "an insertion or a deletion was lost, or is on its way: lessons lost-insertion.pfl, lost-bulk-frame.pfl"
 _WHY_TWICE = "each node let a packet of the flow make a state of its own: lessons split-brain.pfl, lost-bulk-frame.pfl"
+_WHY_WITHOUT_RULE = (
+    "they came by a bulk update or a request, or while the rule sets were not the same: FreeBSD gives these no rule, as far as we know"
+)
 _WHY: Dict[Kind, str] = {
     Kind.LEVELS: "an update was lost, or is on its way: lesson asymmetric-routing.pfl",
     Kind.RULES: "a node keeps the number of the peer's rule only if both have the same rules: compare `pfctl -sr` of both",
@@ -30,7 +32,14 @@ _WHY: Dict[Kind, str] = {
 }
 
 
-Item = TypeVar("Item")
+class _Sorted(Protocol):
+    """What is sorted by what its loss does."""
+
+    @property
+    def harm(self) -> Tuple[bool, int]: ...
+
+
+Item = TypeVar("Item", bound=_Sorted)
 Key = TypeVar("Key", bound=Hashable)
 
 
@@ -44,17 +53,34 @@ class Shown(NamedTuple):
 
 def report(found: Compared, files: Dict[str, str], how: Shown) -> List[str]:
     """The whole report on two files."""
-    counts = Counts(len(found.only["a"]), len(found.only["b"]), found.differ, found.agreeing, len(found.twice))
     parts = [
-        [counts.answer(how.paint)],
+        [_verdict(found, how.paint)],
         _files(found, files, how),
         *(_alone(node, found, how) for node in NODES),
-        *(_differing(kind, those, how) for kind, those in found.differing.items()),
         _twice(found.twice, how),
+        *(_differing(kind, those, how) for kind, those in found.differing.items()),
+        _without_rule(found.without_rule, how),
         _unsynchronised(found),
         _moved(found),
     ]
     return [*chain.from_iterable(parts)]
+
+
+def _verdict(found: Compared, paint: Paint) -> str:
+    """Whether the nodes agree, and how many states of each part there are."""
+    if found.is_same:
+        return paint.good("a and b agree") + f" in {counted(found.agreeing, 'state')}" * (found.agreeing > 0)
+    parts = [f"{len(states)} only on {node}{_established(states, ' ({})')}" for node, states in found.only.items()]
+    parts += [f"{len(found.twice)} under two names"] * bool(found.twice)
+    parts += [f"{counted(len(those), 'differs', 'differ')} in {kind.value}" for kind, those in found.differing.items() if those]
+    count = sum(map(len, found.only.values())) + len(found.twice) + found.differ
+    return paint.bad(f"a and b differ in {counted(count, 'state')}") + f": {', '.join(parts)}"
+
+
+def _established(states: Sequence[Dumped], form: str) -> str:
+    """How many of some states are established connections; empty if none is."""
+    number = sum(it.is_established for it in states)
+    return form.format(f"{number} established TCP") if number else ""
 
 
 def _files(found: Compared, files: Dict[str, str], how: Shown) -> List[str]:
@@ -97,14 +123,12 @@ class Group(NamedTuple):
     rule: Optional[int]
     creator: str
     when: str
-    is_twice: bool
 
     def __str__(self) -> str:
         words = [f"{self.protocol} {self.direction}" + (f" to port {self.service}" if self.service else "")]
         words += [] if self.rule is None else [f"rule {self.rule}"]
         words += [f"made by {self.creator}"] if self.creator else []
-        words += [self.when] if self.when else []
-        return ", ".join([*words, "its flow has another name at the other node"] if self.is_twice else words)
+        return ", ".join([*words, self.when] if self.when else words)
 
 
 def _alone(node: str, found: Compared, how: Shown) -> List[str]:
@@ -112,10 +136,14 @@ def _alone(node: str, found: Compared, how: Shown) -> List[str]:
     states = found.only[node]
     if not states:
         return []
-    twice = {(it.a if node == "a" else it.b).line for it in found.twice}
-    groups = _grouped(states, lambda it: _group(it, it.line in twice, how.tolerance))
-    head = how.paint.bad(f"only on {node}: ") + f"{counted(len(states), 'state')}{_of_them(groups)}; {_WHY_ALONE}"
-    return [head, *_largest(groups, lambda group, its: f"{group}{_ranges(its)}", _state, how)]
+    groups = _grouped(states, lambda it: _group(it, how.tolerance))
+    of_them = _established(states, ", {}") + _of_them(groups)
+    head = how.paint.bad(f"only on {node}: ") + f"{counted(len(states), 'state')}{of_them}; {_WHY_ALONE}"
+    # (what the time between the dumps may explain comes last)
+    explained = {group: its for group, its in groups.items() if group.when}
+    others = {group: its for group, its in groups.items() if not group.when}
+    ordered = {**_ordered(others), **_ordered(explained)}
+    return [head, *_first_groups(ordered, lambda group, its: f"{group}{_ranges(its)}", _state, how)]
 
 
 def _of_them(groups: Dict[Group, List[Dumped]]) -> str:
@@ -127,13 +155,13 @@ def _of_them(groups: Dict[Group, List[Dumped]]) -> str:
     return "".join(f", {it}" for it in said)
 
 
-def _group(state: Dumped, is_twice: bool, tolerance: Tolerance) -> Group:
+def _group(state: Dumped, tolerance: Tolerance) -> Group:
     its, when = ends(state.flow), ""
     if state.age is not None and state.age <= tolerance.seconds:
         when = f"not older than {clock(tolerance.seconds)}"
     elif state.expires is not None and state.expires <= tolerance.seconds:
         when = f"about to expire in {clock(tolerance.seconds)}"
-    return Group(its.protocol, its.direction, its.service, state.marks.rule, state.creator, when, is_twice)
+    return Group(its.protocol, its.direction, its.service, state.marks.rule, state.creator, when)
 
 
 def _ranges(states: Sequence[Dumped]) -> str:
@@ -161,7 +189,7 @@ def _differing(kind: Kind, those: Sequence[Two], how: Shown) -> List[str]:
         return []
     head = how.paint.bad(f"differ in {kind.value}: ") + f"{counted(len(those), 'state')}; {_WHY[kind]}"
     groups = _grouped(those, partial(_both, kind))
-    return [head, *_largest(groups, lambda both, _: both, lambda it: _fields(it, how.tolerance), how)]
+    return [head, *_first_groups(_ordered(groups), lambda both, _: both, lambda it: _fields(it, how.tolerance), how)]
 
 
 def _fields(it: Two, tolerance: Tolerance) -> str:
@@ -172,12 +200,7 @@ def _both(kind: Kind, two: Two) -> str:
     """What a kind of difference amounts to at each node, if few states have each."""
     if kind is Kind.LEVELS:
         return f"{two.a.levels} | {two.b.levels}"
-    if kind is Kind.RULES:
-        first, second = two.a.marks.rule, two.b.marks.rule
-        if first is None or second is None:
-            return "no rule | a rule" if first is None else "a rule | no rule"
-        return f"rule {first} | rule {second}"
-    return ""
+    return f"rule {two.a.marks.rule} | rule {two.b.marks.rule}" if kind is Kind.RULES else ""
 
 
 def _twice(those: Sequence[Two], how: Shown) -> List[str]:
@@ -186,7 +209,21 @@ def _twice(those: Sequence[Two], how: Shown) -> List[str]:
         return []
     head = how.paint.bad("under two names: ") + f"{counted(len(those), 'flow')}; {_WHY_TWICE}"
     groups = _grouped(those, lambda it: f"made by {it.a.creator} | {it.b.creator}")
-    return [head, *_largest(groups, lambda made, _: made, lambda it: f"{it.a.named()} | {it.b.named()}  {it.a.flow}", how)]
+    return [head, *_first_groups(_ordered(groups), lambda made, _: made, lambda it: f"{it.a.named()} | {it.b.named()}  {it.a.flow}", how)]
+
+
+def _without_rule(those: Sequence[Two], how: Shown) -> List[str]:
+    """The states that agree, but have a rule at one node alone; each only where all are asked for."""
+    if not those:
+        return []
+    groups = _grouped(those, lambda it: f"rule {_rule(it.a)} | {_rule(it.b)}")
+    lines = _first_groups(_ordered(groups), lambda rules, _: rules, lambda it: f"{it.a.named()}  {it.a.flow}", how)
+    heads = lines if how.lists_all else [it for it in lines if not it.startswith("    ")]
+    return [f"with a rule at one node alone: {counted(len(those), 'state')}, which agree; {_WHY_WITHOUT_RULE}", *heads]
+
+
+def _rule(state: Dumped) -> str:
+    return "none" if state.marks.rule is None else str(state.marks.rule)
 
 
 # ---- groups
@@ -200,11 +237,17 @@ def _grouped(items: Iterable[Item], of: Callable[[Item], Key]) -> Dict[Key, List
     return groups
 
 
-def _largest(
+def _ordered(groups: Dict[Key, List[Item]]) -> Dict[Key, List[Item]]:
+    """The groups by the harm of their worst items, which come first in each, and then by their size."""
+    those = {key: sorted(its, key=lambda it: it.harm) for key, its in groups.items()}
+    return dict(sorted(those.items(), key=lambda it: (it[1][0].harm, -len(it[1]))))
+
+
+def _first_groups(
     groups: Dict[Key, List[Item]], head: Callable[[Key, Sequence[Item]], str], text: Callable[[Item], str], how: Shown
 ) -> List[str]:
-    """The largest groups, each with its head, which may be empty, and the texts of its first items; or all of them."""
-    ordered = sorted(groups.items(), key=lambda it: -len(it[1]))
+    """The first groups, each with its head, which may be empty, and the texts of its first items; or all of them."""
+    ordered = [*groups.items()]
     shown = ordered if how.lists_all else ordered[:MOST_GROUPS]
     lines: List[str] = []
     for key, its in shown:

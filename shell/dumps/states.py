@@ -31,6 +31,16 @@ class Dumped(NamedTuple):
     routes: Tuple[str, ...] = ()
 
     @property
+    def is_established(self) -> bool:
+        """Whether it is a TCP connection that both ends use."""
+        return self.levels == "ESTABLISHED:ESTABLISHED" and self.flow.startswith("tcp ")
+
+    @property
+    def harm(self) -> Tuple[bool, int]:
+        """What sorts states by what their loss does: established TCP first, and of it the oldest."""
+        return not self.is_established, -(self.age or 0) if self.is_established else 0
+
+    @property
     def is_synchronised(self) -> bool:
         return NO_SYNC not in self.marks.words and NO_SYNC not in self.routes
 

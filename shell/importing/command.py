@@ -10,7 +10,8 @@ from ..language.names import NODES
 from ..shell import STRICT_STATUS
 from ..stories import legible
 from .firewall import Firewall
-from .importer import Import, Verdict
+from .importer import imported
+from .judged import Verdict
 from .rc import Rc, of_rc
 from .sources import Sources
 from .writing import first_too_many, report, setup_lines
@@ -19,7 +20,7 @@ from .writing import first_too_many, report, setup_lines
 def carry_out(words: Words) -> int:
     """Writes the setup, and reports on standard error what is not exact; returns the status."""
     rc = of_rc(words.rc) if words.rc else Rc()
-    its = Import(firewall_of(words), list(Sources().lines(words.conf)))
+    its = imported(firewall_of(words), list(Sources().lines(words.conf)), words.about)
     too_many = first_too_many(its)
     if too_many:
         say([too_many])

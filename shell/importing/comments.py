@@ -8,11 +8,13 @@ LONGEST_TEXT = 100
 _KIND = "(?:no )?(?:nat|rdr|binat)"
 _TRANSLATED = rf"(?:, {_KIND} \S+:[0-9]+:)?"
 _STATEMENT = r"(?:pass|block|antispoof)\b"
-_ORIGIN = re.compile(rf"# (?P<place>\S+:[0-9]+ @[0-9]+{_TRANSLATED}) {_STATEMENT}")
+# In an anchor the number is after those of the rules that the anchor is.
+_NUMBER = r"@[0-9]+(?:\.[0-9]+)*"
+_ORIGIN = re.compile(rf"# (?P<place>\S+:[0-9]+ {_NUMBER}{_TRANSLATED}) {_STATEMENT}")
 _OF_NO_RULE = "where no rule matches: "
-_ORIGIN_OF_TRANSLATION = re.compile(rf"# (?P<place>\S+:[0-9]+) (?:{_OF_NO_RULE})?{_KIND}\b")
-_OF_RULE = rf"@[0-9]+{_TRANSLATED} (?:matches nothing: )?{_STATEMENT}"
-_OTHERS = rf"set |approximated: |out: |ifconfig_pfsync0=|pfsync_ifconfig=|{_OF_NO_RULE}|{_KIND}\b"
+_ORIGIN_OF_TRANSLATION = re.compile(rf"# (?P<place>\S+:[0-9]+) (?:{_OF_NO_RULE})?(?:{_KIND}|match)\b")
+_OF_RULE = rf"{_NUMBER}{_TRANSLATED} (?:matches nothing: )?{_STATEMENT}"
+_OTHERS = rf"set |approximated: |out: |ifconfig_pfsync0=|pfsync_ifconfig=|{_OF_NO_RULE}|match\b|{_KIND}\b"
 _OURS = re.compile(rf"# \S+:[0-9]+ (?:{_OF_RULE}|{_OTHERS})")
 
 
@@ -28,12 +30,12 @@ def is_of_import(line: str) -> bool:
     return _OURS.match(line) is not None
 
 
-def of_rule(where: str, number: int, text: str, matches: bool = True) -> str:
+def of_rule(where: str, number: str, text: str, matches: bool = True) -> str:
     """The comment above the lines of one of pf's rules, or instead of them if it matches nothing."""
     return f"# {where} @{number} {'' if matches else 'matches nothing: '}{short(text)}"
 
 
-def of_translated(where: str, number: int, text: str, kind: str, translation: str) -> str:
+def of_translated(where: str, number: str, text: str, kind: str, translation: str) -> str:
     """The comment above the lines of one of pf's rules for the packets of a translation."""
     return f"# {where} @{number}, {kind} {translation}: {short(text)}"
 

@@ -34,6 +34,10 @@ class PfRule(NamedTuple):
     # 4 or 6, and 0 for both.
     family: int = 0
 
+    @property
+    def has_ports(self) -> bool:
+        return self.source_port is not None or self.destination_port is not None
+
 
 def expanded(firewall: Firewall, words: Filter) -> List[PfRule]:
     """The rules of a statement, for all interfaces. Addresses of two families make no rule."""

@@ -4,7 +4,7 @@ from __future__ import annotations
 import ipaddress
 import re
 from dataclasses import dataclass, field
-from typing import Dict, List, Optional, Set, Union
+from typing import Dict, List, Optional, Set, Tuple, Union
 
 from .addresses import Addresses
 from .grammar import Interface
@@ -33,11 +33,20 @@ class Firewall:
     on: str
     addresses: Dict[str, List[Own]] = field(default_factory=lambda: {"lo0": [ipaddress.ip_interface(it) for it in _LOOPBACK]})
     groups: Dict[str, Set[str]] = field(default_factory=dict)
-    tables: Dict[str, TableContent] = field(default_factory=dict)
+    # The tables by the anchor from whose file they are, and by name; and the anchor whose rules are looked at.
+    _tables: Dict[Tuple[str, str], TableContent] = field(default_factory=dict)
+    file: str = ""
 
     def add_address(self, interface: str, address: Own) -> None:
         own = self.addresses.setdefault(interface, [])
         own += [address] * (address not in own)
+
+    def add_table(self, file: str, name: str, content: TableContent) -> None:
+        self._tables[file, name] = content
+
+    def table(self, name: str) -> Optional[TableContent]:
+        """The table of this name: that of the anchor, if it has one, else that of the main file."""
+        return self._tables.get((self.file, name)) or self._tables.get(("", name))
 
     def is_on(self, name: str) -> bool:
         """Whether this is the name of the interface, or of a group that it is in."""

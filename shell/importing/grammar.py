@@ -3,7 +3,13 @@ from __future__ import annotations
 
 from dataclasses import dataclass, field
 from enum import Enum
-from typing import List, NamedTuple, Optional, Tuple, Union
+from typing import List, NamedTuple, Optional, Sequence, Tuple, Union
+
+from ..stories import legible
+
+
+# Words with the number that pflog(4) has of a rule: FreeBSD's, and pfSense's own until then.
+NUMBERING = ("ridentifier", "tracker")
 
 
 class HostKind(Enum):
@@ -89,7 +95,7 @@ class Match:
 
 @dataclass
 class Filter:
-    """A rule of the filter: `pass` or `block`, or an anchor, which is a rule as well."""
+    """A rule of the filter: `pass` or `block`, `match` of later versions, or an anchor, which is a rule as well."""
 
     action: str
     match: Match = field(default_factory=Match)
@@ -106,6 +112,15 @@ class Filter:
     state: str = ""
     state_options: List[Option] = field(default_factory=list)
     options: List[Option] = field(default_factory=list)
+    # What follows `nat-to` and the like of later versions.
+    to: Optional["Translation"] = None
+    # The name of an anchor, and the rules in its braces, if it has any.
+    name: str = ""
+    inner: Optional[List["Line"]] = None
+
+    @property
+    def is_anchor(self) -> bool:
+        return self.action.endswith("anchor")
 
 
 @dataclass
@@ -128,6 +143,8 @@ class Translation:
     targets: Tuple[Host, ...] = ()
     port: str = ""
     options: List[Option] = field(default_factory=list)
+    # (of a `match` of later versions)
+    is_match: bool = False
 
 
 @dataclass
@@ -166,8 +183,18 @@ class Include:
 
 
 @dataclass
+class Load:
+    """The rules of an anchor in a file: its statements, or why they cannot be read."""
+
+    name: str
+    path: str
+    lines: Optional[List["Line"]] = None
+    why: str = ""
+
+
+@dataclass
 class Other:
-    """A statement of which only the kind is needed: `scrub`, `altq`, `queue`, `load` and the anchors of translations."""
+    """A statement of which only the kind is needed: `scrub`, `altq` and `queue`."""
 
     kind: str
     interfaces: List[Interface] = field(default_factory=list)
@@ -181,7 +208,7 @@ class Faulty:
     why: str
 
 
-Content = Union[Filter, Antispoof, Translation, Table, Setting, Macro, Include, Other, Faulty]
+Content = Union[Filter, Antispoof, Translation, Table, Setting, Macro, Include, Load, Other, Faulty]
 
 
 class Line(NamedTuple):
@@ -191,3 +218,14 @@ class Line(NamedTuple):
     number: int
     text: str
     content: Content
+
+
+class Source(NamedTuple):
+    """A file as it was named, and its lines."""
+
+    path: str
+    lines: Sequence[str]
+
+    def line(self, first: int, last: int, content: Content) -> Line:
+        """A statement between two of its lines."""
+        return Line(self.path, first, legible(" ".join(self.lines[first - 1 : last])), content)

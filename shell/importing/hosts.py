@@ -70,15 +70,16 @@ def networks_of(firewall: Firewall, host: Host) -> List[Network]:
 
 def targets_of(firewall: Firewall, host: Host) -> List[Network]:
     """The nets to which a translation may go, in pf's order as far as it is known."""
-    if host.kind is HostKind.TABLE and host.text in firewall.tables:
-        return firewall.tables[host.text].addresses.networks()
+    table = firewall.table(host.text) if host.kind is HostKind.TABLE else None
+    if table is not None:
+        return table.addresses.networks()
     if host.kind not in (HostKind.ADDRESS, HostKind.DYNAMIC) or host.is_not:
         raise NotKnown("what follows `->` is neither an address nor a table of the file")
     return networks_of(firewall, host)
 
 
 def _of_table(firewall: Firewall, host: Host) -> Resolved:
-    table = firewall.tables.get(host.text)
+    table = firewall.table(host.text)
     if table is None:
         return _both(NONE, host.is_not)._replace(lost=f"no table <{host.text}> is in the file: it is empty here")
     return _both(table.addresses, host.is_not)._replace(lost=table.lost)

@@ -3,7 +3,9 @@ from __future__ import annotations
 
 from typing import Callable, Dict, List, Optional
 
+from ..language.forms import GREATEST
 from .grammar import (
+    NUMBERING,
     Antispoof,
     Content,
     Faulty,
@@ -13,15 +15,19 @@ from .grammar import (
     IcmpType,
     Include,
     Interface,
+    Line,
+    Load,
     Macro,
     Option,
     Other,
     Setting,
+    Source,
     Table,
     Translation,
 )
-from .reader import FAMILIES, Reader
-from .tokens import Kind, NotRead, Statement
+from .names import number_of
+from .reader import FAMILIES, MOST_IN_ONE_ANOTHER, Reader
+from .tokens import Kind, NotRead, Statement, Token
 
 LONGEST_MACRO = 65536
 _RETURNS = ("return", "return-rst", "return-icmp", "return-icmp6")
@@ -29,26 +35,24 @@ _ROUTES = ("route-to", "reply-to", "dup-to")
 _POOLS = ("bitmask", "random", "source-hash", "round-robin", "static-port", "sticky-address")
 _TRANSLATIONS = ("nat", "rdr", "binat")
 _BEFORE_OPTIONS = ("in", "out", "log", "quick", "on", "inet", "inet6", "proto", "all", "from", "os", "to")
+_FIRST_OF_OPTIONS = ("user", "group", "flags", "icmp-type", "icmp6-type", "keep", "modulate", "synproxy", "no", "!")
 _OF_LISTS = ("timeout", "limit")
 # What is in the manual of later versions, or of OpenBSD.
 _LATER = {
-    "match": "FreeBSD 13's pf has no `match`",
     "ether": "FreeBSD 13's pf has no rules for Ethernet",
     "received-on": "FreeBSD 13's pf has no `received-on`",
-    "ridentifier": "FreeBSD 13's pf has no `ridentifier`",
     "af-to": "FreeBSD 13's pf has no `af-to`",
-    "nat-to": "FreeBSD 13's pf translates by `nat`, and has no `nat-to`",
-    "rdr-to": "FreeBSD 13's pf translates by `rdr`, and has no `rdr-to`",
-    "binat-to": "FreeBSD 13's pf translates by `binat`, and has no `binat-to`",
 }
+# The translations of later versions, which are options of a rule.
+_TO = {"nat-to": "nat", "rdr-to": "rdr", "binat-to": "binat"}
 
 
-def parse(statement: Statement) -> Content:
-    """What a statement says, or why it is not understood."""
+def parse(statement: Statement, source: Source, depth: int = 0) -> Content:
+    """What a statement of a file says, or why it is not understood."""
     first = statement.tokens[0].text if statement.tokens else ""
     if statement.fault:
         return Faulty(first, statement.fault)
-    reader = Reader(statement.tokens)
+    reader = Reader(statement.tokens, source, depth)
     try:
         content = _content(reader)
         reader.finish()
@@ -152,7 +156,10 @@ def _option(reader: Reader, rule: Filter) -> None:
     elif word in ("keep", "modulate", "synproxy", "no"):
         reader.expect("state")
         rule.state = word
-        rule.state_options = reader.until(")", lambda: _state_option(reader)) if reader.accept("(") else []
+        has_options = word != "no" and reader.accept("(")
+        rule.state_options = reader.until(")", lambda: _state_option(reader)) if has_options else []
+    elif word in _TO and rule.to is None and not rule.is_anchor:
+        rule.to = _translated(reader, Translation(_TO[word], rule.match))
     elif word in _OPTIONS:
         rule.options.append(Option(f"! {word}" if is_not else word, tuple(_OPTIONS[word](reader))))
     else:
@@ -206,6 +213,13 @@ def _a_word(reader: Reader) -> List[str]:
     return [reader.word("a word")]
 
 
+def _a_number(reader: Reader) -> List[str]:
+    word = reader.word("a number")
+    if number_of(word, GREATEST) is None:
+        raise NotRead(f"`{word}` is not a number up to {GREATEST}")
+    return [word]
+
+
 def _queues(reader: Reader) -> List[str]:
     return [it.word for it in _in_parentheses(reader)] if reader.is_next("(") else _a_word(reader)
 
@@ -216,39 +230,81 @@ def _divert(reader: Reader) -> List[str]:
 
 
 def _set_priority(reader: Reader) -> List[str]:
-    reader.expect("prio")
-    return _queues(reader)
+    if reader.accept("prio"):
+        return _queues(reader)
+    return _listed(reader)
+
+
+def _listed(reader: Reader) -> List[str]:
+    """The words in parentheses, with or without commas between them."""
+    reader.expect("(")
+    return [it for words in reader.until(")", lambda: _queues(reader)) for it in words]
 
 
 _OPTIONS: Dict[str, Callable[[Reader], List[str]]] = {
     **{it: _a_word for it in ("label", "tag", "tagged", "tos", "dscp", "probability", "rtable", "prio")},
+    **{it: _a_number for it in NUMBERING},
     **{it: lambda reader: [] for it in ("fragment", "allow-opts", "divert-reply")},
     **{it: _queues for it in ("queue", "dnpipe", "dnqueue")},
     "set": _set_priority,
+    "scrub": _listed,
     "divert-to": _divert,
 }
 
 
 def _anchor(reader: Reader, word: str) -> Filter:
-    """An anchor of the filter, with the packets that it is for; rules in its braces are passed over."""
+    """An anchor of the filter, with the packets that it is for, and the rules in its braces."""
     rule = Filter(word)
-    name = reader.take().text if reader.next.kind is Kind.QUOTED or not reader.is_next("in", "out", "on", "quick", "{") else ""
-    rule.options.append(Option("anchor", (name,)))
+    rule.name = "" if reader.is_next(*_BEFORE_OPTIONS, *_FIRST_OF_OPTIONS, *_OPTIONS, "{") or reader.is_done else reader.word("a name")
     _begin(reader, rule)
     rule.match = reader.match()
     while not reader.is_done and not reader.is_next("{"):
         _option(reader, rule)
     if reader.accept("{"):
-        rule.options.append(Option("rules"))
-        _pass_over_braces(reader)
+        rule.inner = _inner(reader)
     return rule
 
 
-def _pass_over_braces(reader: Reader) -> None:
+def _inner(reader: Reader) -> List[Line]:
+    """The rules in the braces of an anchor, each of which ends with its line."""
+    found: List[Line] = []
+    tokens: List[Token] = []
     depth = 1
     while depth and not reader.is_done:
         token = reader.take()
         depth += {"{": 1, "}": -1}.get(token.text, 0) if token.kind is Kind.MARK else 0
+        if depth and (token.kind is not Kind.LINE_END or depth > 1):
+            tokens.append(token)
+        elif tokens:
+            found.append(_inner_line(reader, tokens))
+            tokens = []
+    return found
+
+
+def _inner_line(reader: Reader, tokens: List[Token]) -> Line:
+    if reader.depth >= MOST_IN_ONE_ANOTHER:
+        content: Content = Faulty(tokens[0].text, f"anchors are nested more than {MOST_IN_ONE_ANOTHER} deep")
+    elif tokens[0].kind is Kind.WORD and tokens[0].text in _IN_BRACES:
+        content = parse(Statement(tokens, tokens[0].line, tokens[-1].line), reader.source, reader.depth + 1)
+    else:
+        content = Faulty(tokens[0].text, f"pfctl takes only rules and anchors in the braces of an anchor, found {tokens[0]}")
+    return reader.source.line(tokens[0].line, tokens[-1].line, content)
+
+
+def _translation_anchor(reader: Reader, word: str) -> Filter:
+    """An anchor of translations, with the packets that it is for."""
+    rule = Filter(word, name=reader.word("the name of an anchor"))
+    rule.match = reader.match()
+    while reader.accept("rtable"):
+        rule.options.append(Option("rtable", (reader.word("a number"),)))
+    return rule
+
+
+def _load(reader: Reader, _: str) -> Load:
+    reader.expect("anchor")
+    name = reader.word("the name of an anchor")
+    reader.expect("from")
+    return Load(name, reader.word("the name of a file"))
 
 
 def _antispoof(reader: Reader, _: str) -> Antispoof:
@@ -257,9 +313,8 @@ def _antispoof(reader: Reader, _: str) -> Antispoof:
     reader.expect("for")
     interfaces = reader.several(reader.host)
     family = FAMILIES.get(reader.one_of(*FAMILIES), 0)
-    while reader.is_next("label", "rtable"):
-        reader.take()
-        reader.word("a word")
+    while reader.is_next("label", "rtable", *NUMBERING):
+        _OPTIONS[reader.take().text](reader)
     return Antispoof(interfaces, family, it.is_quick)
 
 
@@ -275,12 +330,18 @@ def _translation(reader: Reader, word: str, is_no: bool = False) -> Translation:
         mark = "! " * reader.accept("!")
         found.options.append(Option(mark + reader.take().text, (reader.word("a word"),)))
     if reader.accept("->"):
-        found.targets = tuple(reader.several(reader.host))
-        found.port = reader.word("a port") if reader.accept("port") else ""
-        found.options += _pool(reader)
-    elif not is_no:
+        return _translated(reader, found)
+    if not is_no:
         raise NotRead(f"expected `->` and an address, found {reader.next}")
     return found
+
+
+def _translated(reader: Reader, it: Translation) -> Translation:
+    """Where a translation goes."""
+    it.targets = tuple(reader.several(reader.host))
+    it.port = reader.word("a port") if reader.accept("port") else ""
+    it.options += _pool(reader)
+    return it
 
 
 def _no(reader: Reader, word: str) -> Content:
@@ -342,17 +403,20 @@ def _others(reader: Reader, word: str) -> Other:
     return Other(word, interfaces)
 
 
+# What may stand in the braces of an anchor.
+_IN_BRACES = ("pass", "block", "match", "anchor")
 _STATEMENTS: Dict[str, Callable[[Reader, str], Content]] = {
-    "pass": _rule,
-    "block": _rule,
+    **{it: _rule for it in ("pass", "block", "match")},
     "anchor": _anchor,
+    **{f"{it}-anchor": _translation_anchor for it in _TRANSLATIONS},
+    "load": _load,
     "antispoof": _antispoof,
     **{it: _translation for it in _TRANSLATIONS},
     "no": _no,
     "table": _table,
     "set": _set,
     "include": _include,
-    **{it: _others for it in ("scrub", "altq", "queue", "load", "nat-anchor", "rdr-anchor", "binat-anchor")},
+    **{it: _others for it in ("scrub", "altq", "queue")},
 }
 
 

@@ -3,7 +3,7 @@ from __future__ import annotations
 
 from typing import Callable, List, Optional, Sequence, TypeVar
 
-from .grammar import End, Host, HostKind, Interface, Match, Operation, Option
+from .grammar import End, Host, HostKind, Interface, Match, Operation, Option, Source
 from .tokens import Kind, NotRead, Token
 
 _END = Token(Kind.LINE_END, "\n")
@@ -17,9 +17,10 @@ Item = TypeVar("Item")
 
 
 class Reader:
-    """What is left of a statement."""
+    """What is left of a statement, which stands in so many anchors of a file."""
 
-    def __init__(self, tokens: Sequence[Token]):
+    def __init__(self, tokens: Sequence[Token], source: Source, depth: int):
+        self.source, self.depth = source, depth
         self._tokens, self._at, self._depth = tokens, 0, 0
 
     @property

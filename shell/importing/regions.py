@@ -5,7 +5,7 @@ from typing import List, NamedTuple, Optional, Sequence, Tuple
 
 from ..language.setups import MOST_RULES
 from .addresses import FAMILIES, NONE, Addresses, Span, common
-from .names import GREATEST_PORT
+from .names import GREATEST_PORT, WITH_PORTS
 
 Ports = Tuple[Span, ...]
 EVERY_PORT: Ports = ((0, GREATEST_PORT),)
@@ -41,6 +41,11 @@ class Region(NamedTuple):
     destination: Side = Side()
 
     @property
+    def has_ports(self) -> bool:
+        """Whether they are those of some ports alone."""
+        return self.source.ports is not None or self.destination.ports is not None
+
+    @property
     def families(self) -> List[int]:
         """The families that have packets."""
         ends = [it.addresses for it in (self.source, self.destination) if it.addresses is not None]
@@ -54,7 +59,9 @@ class Region(NamedTuple):
             return None
         ends = self.source.common(other.source), self.destination.common(other.destination)
         found = Region(max(self.family, other.family), self.protocol if other.protocol is None else other.protocol, *ends)
-        return found if found.families else None
+        # (ports without a protocol are those of TCP and UDP)
+        is_without = found.has_ports and found.protocol not in (None, *WITH_PORTS)
+        return found if found.families and not is_without else None
 
     def holds(self, other: "Region") -> bool:
         """Whether every packet of the other is in this one, as far as one rule can say so."""

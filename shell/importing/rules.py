@@ -3,26 +3,29 @@ from __future__ import annotations
 
 from dataclasses import dataclass, field
 from itertools import islice, product
-from typing import Dict, Iterator, List, NamedTuple, Optional, Sequence, Set
+from typing import Dict, Iterator, List, NamedTuple, Optional, Sequence, Set, Tuple
 
 from ..language.forms import GREATEST
 from ..language.lines import LONGEST_LINE
 from ..language.setups import CLASSES, MOST_RULES
-from .addresses import NETS, Network, Span, merged, rest
+from .about import About
+from .addresses import NETS, Address, Addresses, Network, Span, merged, rest
 from .expansion import PfRule
-from .grammar import IcmpType, Operation, Option
+from .grammar import NUMBERING, IcmpType, Operation, Option
 from .names import GREATEST_PORT, ICMP, ICMP6, TCP, UDP, WITH_PORTS, icmp_number, number_of, port_number, protocol_number
 from .regions import EVERY_PORT, Ports, Region, Side
 
 CLASS_WORDS = tuple(it.word for it in CLASSES)
+# The kind of translation of which pfctl does not ask whether its protocol has ports.
+NAT = "nat"
 # The greatest length of a line without `rule a `.
 LONGEST_TEXT = LONGEST_LINE - len("rule a ")
 _NAMED = {TCP: "tcp", UDP: "udp", ICMP: "icmp"}
 _ECHO = (0, 8)
 _NO_SOCKETS = "packets of the laboratory belong to no local socket, like forwarded ones"
 # What has no effect on the verdict of a rule.
-_WITHOUT_EFFECT = ("label", "tag", "queue", "dnpipe", "dnqueue", "prio", "set", "allow-opts")
-_ROUTES = {
+_WITHOUT_EFFECT = ("label", *NUMBERING, "tag", "queue", "dnpipe", "dnqueue", "prio", "set", "allow-opts")
+ROUTES = {
     "route-to": "`route-to` is left out: packets go where they would go without it",
     "reply-to": "`reply-to` is left out: answers go where they would go without it",
     "dup-to": "`dup-to` is left out: no copies are sent",
@@ -47,6 +50,8 @@ class Context:
     state_defaults: List[Option] = field(default_factory=list)
     tags: Set[str] = field(default_factory=set)
     has_anchors: bool = False
+    # The packets that are asked about, if these are not all.
+    about: Optional[About] = None
 
 
 class RuleLine(NamedTuple):
@@ -85,15 +90,20 @@ class Taken:
     lines: List[RuleLine] = field(default_factory=list)
     lost: List[str] = field(default_factory=list)
     out: str = ""
+    # What it translates, as later versions can say: directions, packets, addresses and ports.
+    translated: List[Tuple[str, Region, Optional[Address], Optional[Span]]] = field(default_factory=list)
 
 
-def taken(rule: PfRule, context: Context) -> Taken:
-    """What a rule of pf is here."""
-    its = Taken(RuleLine(rule.words.action, rule.words.direction))
+def taken(rule: PfRule, context: Context, direction: str, within: Region, is_quick: bool) -> Taken:
+    """What a rule of pf is here, for the packets that come to it in one direction or in any."""
+    its = Taken(RuleLine(rule.words.action, common_direction(direction, rule.words.direction), is_quick))
     try:
-        region = matched(rule, context, its.lost)
-        its.base = _base(rule, region.protocol, context, its.lost)
-        its.lines, its.region = lines_of(region, its.base), region
+        region = matched(rule, context, its.lost).common(within)
+        if region is None or not its.base.direction:
+            return its
+        its.region = region
+        its.base = _base(its.base, rule, region.protocol, context, its.lost)
+        its.lines = lines_of(region, its.base, context.about)
     except Out as why:
         its.out, its.lines = str(why), []
     except Never as why:
@@ -129,7 +139,7 @@ def protocol_text(number: Optional[int]) -> str:
 def _refused(rule: PfRule, number: Optional[int]) -> None:
     """Raises what pfctl refuses in rules that can be read."""
     words = rule.words
-    has_ports, has_users = rule.source_port or rule.destination_port, rule.user or rule.group
+    has_ports, has_users = rule.has_ports and not words.action.startswith(NAT), rule.user or rule.group
     if (has_ports or has_users) and number not in WITH_PORTS:
         raise Out(f"pfctl takes a {'port' if has_ports else 'user or a group'} only with `proto tcp` or `proto udp`")
     if (words.flags or words.match.systems) and words.match.protocols and TCP not in map(protocol_number, words.match.protocols):
@@ -138,7 +148,7 @@ def _refused(rule: PfRule, number: Optional[int]) -> None:
         raise Out("pfctl takes a type of ICMP only with `proto icmp`, and one of ICMPv6 with `proto icmp6`")
     if (number, rule.family) in ((ICMP, 6), (ICMP6, 4)):
         raise Out(f"pfctl takes no `proto {rule.protocol}` with {'inet6' if rule.family == 6 else 'inet'}")
-    if words.action == "block" and words.state:
+    if words.action == "block" and words.state not in ("", "no"):
         raise Out("pfctl keeps no state by a block rule")
     for it in (rule.source, rule.destination):
         if it.out:
@@ -151,7 +161,7 @@ def _refused(rule: PfRule, number: Optional[int]) -> None:
 def _of_options(rule: PfRule, context: Context) -> Iterator[str]:
     """What is lost by the options of a rule and by its routes."""
     if rule.words.route:
-        yield _ROUTES[rule.words.route]
+        yield ROUTES[rule.words.route]
     for option in rule.words.options:
         if option.word.endswith("tagged"):
             yield from _tagged(option, context)
@@ -213,10 +223,14 @@ def _of_icmp(action: str, it: IcmpType) -> str:
 # ---- the lines
 
 
-def _base(rule: PfRule, number: Optional[int], context: Context, lost: List[str]) -> RuleLine:
+def common_direction(one: str, other: str) -> str:
+    """The direction of packets that go both ways; empty if none does."""
+    return one if other in ("any", one) else other if one == "any" else ""
+
+
+def _base(begun: RuleLine, rule: PfRule, number: Optional[int], context: Context, lost: List[str]) -> RuleLine:
     """The line of a rule without addresses and ports; what is lost is added to the list."""
-    words = rule.words
-    line = RuleLine(words.action, words.direction, words.is_quick, protocol_text(number))
+    words, line = rule.words, begun._replace(protocol=protocol_text(number))
     if words.action == "block":
         if words.flags not in ("", "any") and number in (None, TCP):
             raise Out(f"`flags {words.flags}`: a block rule of the laboratory takes any flags")
@@ -278,30 +292,39 @@ def _of_timeout(word: str) -> str:
     raise Out(f"`{word}` is not an option of a state with its number")
 
 
-def lines_of(region: Region, base: RuleLine) -> List[RuleLine]:
-    """The lines for packets, one for each pair of nets and of spans of ports. A table can expand to any number of nets, and if there are
-    more rules than a node may have, none is written: so at most one more than that is made."""
-    found = list(islice(_lines(region, base), MOST_RULES + 1))
+def lines_of(region: Region, base: RuleLine, about: Optional[About] = None) -> List[RuleLine]:
+    """The lines for packets, one for each pair of nets and of spans of ports; of these only what is asked about, if not all is. A table
+    can expand to any number of nets, and if there are more rules than a node may have, none is written: so at most one more than that is
+    made."""
+    found = list(islice(_lines(region, base, about), MOST_RULES + 1))
     if any(len(it.text) > LONGEST_TEXT for it in found):
         raise Out(f"a rule here would have more than {LONGEST_TEXT} characters")
     return found
 
 
-def _lines(region: Region, base: RuleLine) -> Iterator[RuleLine]:
-    ports = [*product(_port_texts(region.source.ports), _port_texts(region.destination.ports))]
-    for source, destination in product(_nets(region.source), _nets(region.destination)):
+def _lines(region: Region, base: RuleLine, about: Optional[About]) -> Iterator[RuleLine]:
+    ports = [*product(_spans_of(region.source.ports), _spans_of(region.destination.ports))]
+    sources, others = _nets(region.source, about), _nets(region.destination, about)
+    pairs = product(sources, others) if about is None else about.pairs(base.direction, region, sources, others)
+    for source, destination in pairs:
         families: Set[int] = {it.version for it in (source, destination) if it is not None}
         if len(families) > 1 or (region.family and families - {region.family}):
             continue
         # (a translation is only for packets of its own family)
         is_said = families or not region.family or base.translation
-        source = source if is_said else NETS[region.family]
-        line = base._replace(source=_net_text(source), destination=_net_text(destination))
-        yield from (line._replace(source_port=its[0], destination_port=its[1]) for its in ports)
+        line = base._replace(source=_net_text(source if is_said else NETS[region.family]), destination=_net_text(destination))
+        for one, other in ports:
+            part = region._replace(source=_side(source, one), destination=_side(destination, other))
+            if about is None or about.has(base.direction, part):
+                yield line._replace(source_port=_span_text(one), destination_port=_span_text(other))
 
 
-def _nets(it: Side) -> Sequence[Optional[Network]]:
-    return [None] if it.addresses is None else [*it.addresses.networks(MOST_RULES + 1)]
+def _nets(it: Side, about: Optional[About]) -> Sequence[Optional[Network]]:
+    return [None] if it.addresses is None else [*it.addresses.networks(None if about else MOST_RULES + 1)]
+
+
+def _side(net: Optional[Network], span: Optional[Span]) -> Side:
+    return Side(None if net is None else Addresses.of([net]), None if span is None else (span,))
 
 
 def _net_text(net: Optional[Network]) -> str:
@@ -316,9 +339,13 @@ def _ports(it: Optional[Operation]) -> Optional[Ports]:
     return None if spans == EVERY_PORT else spans
 
 
-def _port_texts(ports: Optional[Ports]) -> List[str]:
-    """Spans of ports, each in the form of a rule; empty for every port."""
-    return [""] if ports is None else [port_text(it) for it in ports]
+def _spans_of(ports: Optional[Ports]) -> Sequence[Optional[Span]]:
+    """Spans of ports, one by one; None for every port."""
+    return [None] if ports is None else ports
+
+
+def _span_text(span: Optional[Span]) -> str:
+    return "" if span is None else port_text(span)
 
 
 def port_text(span: Span) -> str:

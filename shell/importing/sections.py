@@ -10,11 +10,12 @@ from dataclasses import dataclass, field
 from typing import Iterable, Iterator, List, NamedTuple, Optional, Sequence, Tuple
 
 from ..language.setups import MOST_RULES
+from .about import About
 from .addresses import Span
 from .names import ICMP, TCP, UDP
 from .regions import Region, Side, holds
-from .rules import Out, RuleLine, lines_of, port_text, protocol_text
-from .translations import BINAT, IN, NAT, OUT, POOL, RDR, Piece, few_of
+from .rules import NAT, Out, RuleLine, lines_of, port_text, protocol_text
+from .translations import BINAT, IN, OUT, POOL, RDR, Piece, few_of
 
 _EVERY_ECHO: Span = (1, 65535)
 _WITHOUT: Span = (0, 0)
@@ -24,7 +25,7 @@ _STAYS = "a port that stays as it is has no form here"
 class Asked(NamedTuple):
     """A rule of the filter: its number in pf and its place, which packets it is for, and its line without addresses and ports."""
 
-    number: int
+    number: str
     place: str
     text: str
     region: Region
@@ -44,6 +45,8 @@ class Section:
 
     owner: int
     piece: Piece
+    # The packets that are asked about, if these are not all.
+    about: Optional[About] = None
     entries: List[Entry] = field(default_factory=list)
     lost: List[str] = field(default_factory=list)
     # The places whose packets are passed but not translated.
@@ -66,13 +69,13 @@ class Section:
 Owned = Tuple[int, Piece]
 
 
-def sections(owned: Sequence[Owned], filters: Sequence[Asked], room: int) -> List[Section]:
+def sections(owned: Sequence[Owned], filters: Sequence[Asked], room: int, about: Optional[About] = None) -> List[Section]:
     """The sections of translations, in the order in which pf looks at them. They are filled in the order of the list, until there is
     no more room for rules."""
     ways = _ordered(owned, OUT, (BINAT, NAT)), _ordered(owned, IN, (RDR, BINAT))
     ordered = [it for way in ways for it in _needed(_in_few_nets(way))]
     asked = [*(it for it in filters if it.base.is_quick), *reversed([it for it in filters if not it.base.is_quick])]
-    found = [Section(owner, piece) for owner, piece in ordered]
+    found = [Section(owner, piece, about) for owner, piece in ordered]
     for section in sorted(found, key=lambda it: it.owner):
         if room < 0:
             break
@@ -175,10 +178,17 @@ def _before(piece: Piece, asked: Asked, lost: List[str]) -> Optional[Region]:
     return region if holds(near.ports, ((piece.ports[0],) * 2,)) else None
 
 
+def is_seen_otherwise(piece: Piece, asked: Asked) -> bool:
+    """Whether a rule of the filter matches other packets of a translation once they are translated."""
+    return asked.base.direction in ("any", piece.direction) and _before(piece, asked, []) != piece.region.common(asked.region)
+
+
 def _of_no_rule(section: Section) -> List[RuleLine]:
     """The lines for what no rule of the filter matches: pf passes it, and keeps a state if it is translated."""
     piece = section.piece
-    if piece.target is None:
+    if piece.is_match:
+        section.lost.append("what no rule of the filter matches is translated, and makes a state here")
+    elif piece.target is None:
         section.lost.append("what no rule of the filter matches makes a state here")
     base = RuleLine("pass", piece.direction, any_flags=piece.region.protocol in (None, TCP))
     return _written(section, piece.region, base, "pf's default rule")
@@ -192,9 +202,30 @@ def _written(section: Section, region: Region, base: RuleLine, place: str) -> Li
     piece = section.piece
     base = base._replace(direction=piece.direction, is_quick=True)
     if base.action == "block" or piece.target is None:
-        return lines_of(region, _narrowed(base, region))
+        return lines_of(region, _narrowed(base, region), section.about)
+    return _translated(section, region, base, place)
+
+
+def _translated(section: Section, region: Region, base: RuleLine, place: str) -> List[RuleLine]:
     pools = _pools(section, region, place)
-    return [line for part, ports in pools for line in lines_of(part, _narrowed(base, part)._replace(translation=_text(piece, ports)))]
+    texts = ((part, _text(section.piece, ports)) for part, ports in pools)
+    bases = ((part, _narrowed(base, part)._replace(translation=text)) for part, text in texts)
+    return [line for part, one in bases for line in lines_of(part, one, section.about)]
+
+
+def as_passed(piece: Piece, base: RuleLine, place: str, lost: List[str], about: Optional[About]) -> List[RuleLine]:
+    """The lines of a rule that translates what it passes, as rules here do; what is lost is added to the list."""
+    section = Section(0, piece, about)
+    if piece.target is None:
+        return lines_of(piece.region, _narrowed(base, piece.region), about)
+    lines = _translated(section, piece.region, base, place)
+    lost += section.reasons
+    return lines
+
+
+def is_asked(piece: Piece, asked: Asked) -> bool:
+    """Whether a rule of the filter matches packets of a translation once they are translated."""
+    return _before(piece, asked, []) is not None
 
 
 def _narrowed(base: RuleLine, region: Region) -> RuleLine:
@@ -219,22 +250,31 @@ def _pools(section: Section, region: Region, place: str) -> List[Tuple[Region, O
     if piece.kind == NAT and protocol == ICMP:
         # (pf chooses among all identifiers, whatever ports there are)
         return [(region, _EVERY_ECHO)]
-    if piece.kind == NAT and protocol is None and piece.ports not in (None, POOL) and region.family == 4:
+    is_with_echoes = piece.kind == NAT and protocol is None and region.family == 4 and not region.has_ports
+    if is_with_echoes and piece.ports not in (None, POOL):
         return [(region._replace(protocol=ICMP), _EVERY_ECHO), (region, piece.ports)]
     if piece.ports is not None:
         return [(region, piece.ports)]
     few = few_of(near.ports)
     if few:
-        parts = ((it, Side(near.addresses, ((it, it),))) for it in few)
-        return [(piece.with_near(side, region), (it, it)) for it, side in parts]
-    return [(region, _instead(section, near, place))]
-
-
-def _instead(section: Section, near: Side, place: str) -> Optional[Span]:
-    """The ports used instead of the packet's own, for which a rule here has no form."""
-    if section.piece.direction == IN:
+        return [_of_port(piece, region, near, it) for it in few]
+    if piece.direction == IN:
         section.untranslated.append(place)
-        return None
+        return [(region, None)]
+    return _instead(section, region, near)
+
+
+def _of_port(piece: Piece, region: Region, near: Side, port: int) -> Tuple[Region, Optional[Span]]:
+    """The packets from a port, and that port, which they keep."""
+    return piece.with_near(Side(near.addresses, ((port, port),)), region), (port, port)
+
+
+def _instead(section: Section, region: Region, near: Side) -> List[Tuple[Region, Optional[Span]]]:
+    """The ports used instead of the packets' own, for which a rule here has no form. What goes to a port from the same port, as ISAKMP
+    does, keeps it."""
     ports = near.ports[0] if near.ports and len(near.ports) == 1 else _EVERY_ECHO
-    section.lost.append(f"{_STAYS}: the first free one of {port_text(ports)} is taken")
-    return ports
+    same = few_of(region.destination.ports) if near.ports is None else []
+    kept = "".join(f", except from port {it} to port {it}" for it in same)
+    section.lost.append(f"{_STAYS}: the first free one of {port_text(ports)} is taken{kept}")
+    parts = [(region._replace(destination=Side(region.destination.addresses, ((it, it),))), it) for it in same]
+    return [*(_of_port(section.piece, part, near, it) for part, it in parts), (region, ports)]

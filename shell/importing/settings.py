@@ -29,6 +29,7 @@ _LEFT_OUT = {
     "src.track": "`src.track`: sources are not counted",
     "tcp.tsdiff": "`tcp.tsdiff`: packets of the laboratory have no timestamps",
 }
+_NOT_SENT = "nothing is sent back where a pass rule can make no state: no RST, no ICMP error"
 _OTHER_LIMITS = ("frags", "src-nodes", "tables", "table-entries")
 # What does not affect the states of an interface.
 _WITHOUT_EFFECT = (
@@ -54,6 +55,11 @@ class Settings:
     start: Optional[int] = None
     end: Optional[int] = None
 
+    @property
+    def limits(self) -> Tuple[Optional[int], Optional[int], Optional[int]]:
+        """The limit of states, and between which numbers of them timeouts shrink, as far as they are set."""
+        return self.limit, self.start, self.end
+
     def take(self, it: Setting) -> Set:
         if it.word in ("timeout", "limit"):
             return self._pairs(it)
@@ -67,6 +73,8 @@ class Settings:
             return Set()
         if it.word == "hostid":
             return Set(lost=["`hostid`: a state's creator is the number of its node's boot"])
+        if it.word == "fail-policy":
+            return Set(lost=[_NOT_SENT] if it.values[:1] == ["return"] else [])
         if it.word == "syncookies":
             return Set(lost=["`syncookies`: the ends shake hands with one another"])
         return Set(out=f"FreeBSD 13's pf has no `set {it.word}`")
@@ -105,15 +113,25 @@ class Settings:
     def lines(self) -> List[str]:
         """The limits of states, and between which numbers timeouts shrink: pfctl's 60% and 120% of a limit that is set, unless either
         is set, too."""
+        start, end = self._adaptive()
+        numbers = {STATES: (DEFAULT_LIMIT if self.limit is None else self.limit) or STATES.most, ASTART: start, AEND: end}
+        return [f"set {limit.word} {min(number, limit.most)}" for limit, number in numbers.items()]
+
+    def _adaptive(self) -> Tuple[int, int]:
+        """Between which numbers of states timeouts shrink in pf."""
         start, end = DEFAULT_START, DEFAULT_END
         if self.limit is not None and self.start is None and self.end is None:
             start, end = self.limit // 10 * 6, self.limit // 10 * 12
-        numbers = {
-            STATES: (DEFAULT_LIMIT if self.limit is None else self.limit) or STATES.most,
-            ASTART: start if self.start is None else self.start,
-            AEND: end if self.end is None else self.end,
-        }
-        return [f"set {limit.word} {min(number, limit.most)}" for limit, number in numbers.items()]
+        return start if self.start is None else self.start, end if self.end is None else self.end
+
+    def lost(self) -> List[str]:
+        """What is lost by all limits together: with as many states as there are here, timeouts are those of pf; but pf may begin to
+        shorten them only with more."""
+        start, end = self._adaptive()
+        is_reached = start < end and (not self.limit or start < self.limit)
+        if start < STATES.most or not is_reached:
+            return []
+        return [f"timeouts never shrink here: pf shortens them with more than {start} states, and there are at most {STATES.most} here"]
 
 
 def _profile(values: Sequence[str]) -> Set:

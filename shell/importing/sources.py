@@ -2,12 +2,12 @@
 from __future__ import annotations
 
 import os
-from typing import Dict, Iterator, List, Optional, Sequence
+from typing import Dict, Iterator, List, Optional
 
 from ..stories import legible
-from .grammar import Content, Faulty, Host, Include, Line, Macro
+from .grammar import Content, Faulty, Host, Include, Line, Load, Macro, Source
 from .parser import host_of, parse
-from .tokens import Lexer, Statement
+from .tokens import Lexer
 
 MOST_INCLUDED = 16
 MOST_FILES = 256
@@ -30,20 +30,21 @@ def place(path: str, number: int) -> str:
 
 
 class Sources:
-    """Reads a file with the files that it includes."""
+    """Reads a file with the files that it includes, and those of anchors."""
 
-    def __init__(self) -> None:
+    def __init__(self, files: int = 0, is_of_anchor: bool = False) -> None:
         self._macros: Dict[str, str] = {}
-        self._files = 0
+        self._files = files
+        self._is_of_anchor = is_of_anchor
 
     def lines(self, path: str, depth: int = 0) -> Iterator[Line]:
         """The statements of a file. Those of an included file follow the statement that includes it."""
         self._files += 1
         text = read(path)
-        lexer, lines = Lexer(text, self._macros), text.split("\n")
+        lexer, source = Lexer(text, self._macros), Source(path, text.split("\n"))
         for statement in iter(lexer.statement, None):
-            content = self._checked(path, parse(statement), depth)
-            yield Line(path, statement.first, _text(lines, statement), content)
+            content = self._checked(path, parse(statement, source), depth)
+            yield source.line(statement.first, statement.last, content)
             if isinstance(content, Macro):
                 self._macros[content.name] = content.value
             elif isinstance(content, Include):
@@ -51,6 +52,8 @@ class Sources:
 
     def _checked(self, path: str, content: Content, depth: int) -> Content:
         """A statement; an include that cannot be followed becomes a faulty one."""
+        if isinstance(content, Load):
+            return self._loaded(path, content)
         if not isinstance(content, Include):
             return content
         if depth >= MOST_INCLUDED or self._files >= MOST_FILES:
@@ -62,9 +65,17 @@ class Sources:
             return Faulty("include", f"{error.filename}: {error.strerror}")
 
 
-def _text(lines: Sequence[str], statement: Statement) -> str:
-    """The text of a statement in one line."""
-    return legible(" ".join(lines[statement.first - 1 : statement.last]))
+    def _loaded(self, path: str, it: Load) -> Content:
+        """The statements of the file of an anchor, which is read after the whole pf.conf, without its macros."""
+        if self._is_of_anchor or self._files >= MOST_FILES:
+            return Faulty("load", f"`load anchor` is not followed from the file of an anchor, nor into more than {MOST_FILES} files")
+        its = Sources(self._files, is_of_anchor=True)
+        try:
+            it.lines = list(its.lines(_relative(path, it.path)))
+        except OSError as error:
+            it.why = f"{error.filename}: {error.strerror}"
+        self._files = its._files
+        return it
 
 
 def _relative(path: str, named: str) -> str:

@@ -24,10 +24,11 @@ class Kind(Enum):
 
 
 class Token(NamedTuple):
-    """A token, by its text."""
+    """A token, by its text, and the line where it begins."""
 
     kind: Kind
     text: str
+    line: int = 0
 
     def __str__(self) -> str:
         return "the end of the line" if self.kind is Kind.LINE_END else f"`{self.text[:40]}`"
@@ -124,18 +125,18 @@ class Lexer:
                 self._begin_macro()
             elif self._take() == "$":
                 raise NotRead("a macro has `$` in its quotes, where pfctl expands no macro: end the quotes before it")
-        character = self._take()
+        line, character = self._line, self._take()
         if character == "\n":
-            return Token(Kind.LINE_END, "\n")
+            return Token(Kind.LINE_END, "\n", line)
         if character and character in "\"'":
-            return Token(Kind.QUOTED, self._quoted(character))
+            return Token(Kind.QUOTED, self._quoted(character), line)
         if character and character in _BEGINS_WORD:
-            return Token(Kind.WORD, self._word(character))
+            return Token(Kind.WORD, self._word(character), line)
         if not character:
             return None
         if character + self._peek() in _PAIRS:
             character += self._take()
-        return Token(Kind.MARK, character)
+        return Token(Kind.MARK, character, line)
 
     def _word(self, word: str) -> str:
         while "!" <= self._peek() <= "~" and self._peek() not in _NOT_IN_WORDS:

@@ -2,7 +2,7 @@
 from __future__ import annotations
 
 from dataclasses import dataclass, field, replace
-from typing import Dict, Iterator, List, NamedTuple, Optional, Tuple
+from typing import Dict, Iterable, Iterator, List, NamedTuple, Optional, Sequence, Tuple
 
 from ..language.setups import MOST_RULES
 from .addresses import NONE, Address, Addresses, Network, Span
@@ -10,12 +10,12 @@ from .expansion import PfRule, expanded
 from .firewall import Firewall
 from .grammar import Filter, HostKind, Operation, Translation
 from .hosts import SELF, NotKnown, targets_of
-from .names import WITH_PORTS
-from .regions import Ports, Region, Side
-from .rules import Context, Never, Out, matched, port_of
+from .names import ICMP, ICMP6, WITH_PORTS
+from .regions import Ports, Region, Side, holds
+from .rules import NAT, Context, Never, Out, matched, port_of
 from .tokens import NotRead
 
-NAT, RDR, BINAT = "nat", "rdr", "binat"
+RDR, BINAT = "rdr", "binat"
 OUT, IN = "out", "in"
 # The ports of a `nat` that names none (PF_NAT_PROXY_PORT_LOW and _HIGH).
 POOL: Span = (50001, 65535)
@@ -39,11 +39,20 @@ class Piece(NamedTuple):
     is_no: bool = False
     # (`nat pass` and the like: no rule of the filter is asked)
     passes: bool = False
+    # (of a `match` of later versions)
+    is_match: bool = False
 
     @property
     def near(self) -> Side:
         """The end that is translated, as it comes."""
         return self.region.source if self.direction == OUT else self.region.destination
+
+    def is_again(self, other: "Piece") -> bool:
+        """Whether packets that this piece has translated are some of those that the other one is for."""
+        if self.target is None or self.direction != other.direction:
+            return False
+        near = Side(Addresses.between(self.target, self.target))
+        return self.with_near(near, self.region).common(other.region) is not None
 
     def with_near(self, near: Side, region: Region) -> Region:
         """A region with another end instead of the translated one."""
@@ -79,6 +88,7 @@ def translated(firewall: Firewall, words: Translation, context: Context) -> Piec
             its.pieces += _of_rule(words, rule, target, context, its.lost)
             if len(its.pieces) > MOST_RULES:
                 raise Out(TOO_MANY)
+        its.lost += drawn(its.pieces)
     except (Out, NotRead, NotKnown) as why:
         its.out, its.pieces = str(why), []
     return its
@@ -86,21 +96,36 @@ def translated(firewall: Firewall, words: Translation, context: Context) -> Piec
 
 def _of_rule(words: Translation, rule: PfRule, target: Target, context: Context, lost: List[str]) -> List[Piece]:
     """What one of pf's rules does; what is lost is added to the list."""
+    if words.kind == BINAT and rule.has_ports:
+        raise Out("pfctl takes no ports with `binat`")
     try:
         region = matched(rule, context, lost)
+        region = _of_ports(region, lost) if words.kind == NAT and region.has_ports else region
     except Never as why:
         lost.append(str(why))
         return []
     if words.is_no:
         ways = {NAT: (OUT,), RDR: (IN,), BINAT: (OUT, IN)}[words.kind]
         return [Piece(words.kind, it, region, is_no=True) for it in ways if region.families]
-    of_families = [(region._replace(family=it), target.addresses.get(it)) for it in region.families]
-    return [it for part, address in of_families for it in _of_family(words, rule, part, address)]
+    return [it for family in region.families for it in _of_family(words, rule, region._replace(family=family), target)]
 
 
-def _of_family(words: Translation, rule: PfRule, region: Region, target: Optional[Address]) -> Iterator[Piece]:
-    direction = IN if words.kind == RDR else OUT
-    piece = Piece(words.kind, direction, region, target, passes=words.passes)
+def pieces_of(firewall: Firewall, words: Translation, rule: PfRule, region: Region, lost: List[str]) -> List[Piece]:
+    """What a translation does with the packets of a rule that has it as an option."""
+    target = _target(firewall, words, lost)
+    families = [it for it in region.families if target.family in (0, it)]
+    return [it for family in families for it in _of_family(words, rule, region._replace(family=family), target)]
+
+
+def within_anchor(pieces: Iterable[Piece], regions: Sequence[Region]) -> List[Piece]:
+    """The pieces for the packets that come to an anchor."""
+    parts = ((it, it.region.common(region)) for it in pieces for region in regions)
+    return [it._replace(region=part) for it, part in parts if part is not None]
+
+
+def _of_family(words: Translation, rule: PfRule, region: Region, targets: Target) -> Iterator[Piece]:
+    direction, target = IN if words.kind == RDR else OUT, targets.addresses.get(region.family)
+    piece = Piece(words.kind, direction, region, target, passes=words.passes, is_match=words.is_match)
     if target is None:
         # (an interface without an address of the family: pf looks no further, and translates nothing)
         yield piece._replace(passes=False)
@@ -148,6 +173,32 @@ def _single(side: Side, family: int) -> Optional[Address]:
 
 
 # ---- ports
+
+
+def _of_ports(region: Region, lost: List[str]) -> Region:
+    """The packets of a `nat` with ports, which pfctl takes with any protocol. What is not TCP or UDP has port 0 in pf, and an echo its
+    identifier."""
+    if region.protocol in WITH_PORTS:
+        return region
+    has_none = all(holds(it.ports, ((0, 0),)) for it in (region.source, region.destination))
+    if region.protocol in (None, ICMP, ICMP6):
+        lost.append("pf also takes echoes whose identifier is such a port, and here they are left out")
+    elif has_none:
+        return region._replace(source=Side(region.source.addresses), destination=Side(region.destination.addresses))
+    if region.protocol is not None:
+        raise Never("packets of its protocol have no such ports")
+    if has_none:
+        lost.append("pf also takes packets of protocols without ports, and here they are left out")
+    return region
+
+
+def drawn(pieces: Iterable[Piece]) -> List[str]:
+    """What is lost of translations whose ports pf draws at random."""
+    nats = [it for it in pieces if it.kind == NAT and it.target is not None]
+    ranges = [it for it in nats if it.ports is not None and it.ports[0] < it.ports[1] and it.region.protocol in (None, *WITH_PORTS)]
+    echoes = [it for it in nats if it.region.protocol in (None, ICMP) and it.region.family == 4 and not it.region.has_ports]
+    what = "the port" if ranges else "the identifier of an echo" if echoes else ""
+    return [f"pf draws {what} at random, and here the first free one is taken"] if what else []
 
 
 def _pool(words: Translation) -> Optional[Span]:

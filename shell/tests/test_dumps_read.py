@@ -102,6 +102,15 @@ class WithoutNames(DumpCase):
         self.assertEqual(said.out[2], self.NOTE.format("b", "1 state without a name"))
         self.assertEqual(said.err[0], "lab: b:4: not understood: ix: 5f00a1b200000003 creatorid: 8a1b2c3d gateway: 192.0.2.1")
 
+    def test_a_dump_that_is_cut_within_a_name(self) -> None:
+        # Each has all 16 digits of an id and all 8 of a creator, or is no name.
+        text = WEB[: WEB.index("   id:")]
+        for name in ("   id: 5f00a1b2", "   id: 5f00a1b200000003", "   id: 5f00a1b200000003 creatorid: 8a1b2"):
+            said = self.compared(WEB, text + name)
+            self.assertEqual((said.status, said.out[0]), (0, "a and b agree in 1 state"), name)
+            self.assertEqual(said.out[2:], [self.NOTE.format("b", "1 state without a name")])
+            self.assertEqual(said.err[0], f"lab: b:4: not understood: {name.strip()}")
+
     def test_a_state_without_a_name_is_called_by_its_line(self) -> None:
         said = self.compared(self.brief(QUERY) + self.brief(WEB), self.brief(QUERY))
         self.assertEqual(said.status, 1)
@@ -145,6 +154,8 @@ class NotUnderstood(DumpCase):
             "   age 00:01:40, expires in 23:59:57 rule 1",
             "   id: 5f00a1b200000003",
             "   id: 5f00a1b2000000030 creatorid: 8a1b2c3d",
+            "   id: 5f00a1b20000000 creatorid: 8a1b2c3d",
+            "   id: 5f00a1b200000003 creatorid: 8a1b2c3",
             "   id: 5f00a1b200000003 creatorid: 8a1b2c3dx",
             "   id: xyz creatorid: 8a1b2c3d",
             "   gateway: ",
@@ -205,7 +216,7 @@ class NotUnderstood(DumpCase):
 
     def test_states_that_come_again(self) -> None:
         said = self.compared(WEB + QUERY + WEB, WEB + QUERY + WEB + NAT + NAT)
-        self.assertEqual(said.out[0], "a and b differ in 1 state: 0 only on a, 1 only on b, 0 differ")
+        self.assertEqual(said.out[0], "a and b differ in 1 state: 0 only on a, 1 only on b (1 established TCP)")
         self.assertIn("a: 1 state comes again; the first of each counts", said.out)
         self.assertIn("b: 2 states come again; the first of each counts", said.out)
 
@@ -245,7 +256,7 @@ class Files(DumpCase):
     def test_an_empty_file_has_no_states(self) -> None:
         said = self.compared(WEB, "")
         self.assertEqual((said.status, said.err), (1, []))
-        self.assertEqual(said.out[0], "a and b differ in 1 state: 1 only on a, 0 only on b, 0 differ")
+        self.assertEqual(said.out[0], "a and b differ in 1 state: 1 only on a (1 established TCP), 0 only on b")
         self.assertEqual(said.out[1], "a: 1 state in a; b: 0 states in b")
 
     def test_two_files_without_anything(self) -> None:
@@ -269,7 +280,7 @@ class Command(DumpCase):
         a, b = self.file("a", WEB), self.file("b", WEB + ECHO)
         ran = self.lab(a, b)
         self.assertEqual((ran.returncode, ran.stderr), (1, ""))
-        self.assertTrue(ran.stdout.startswith("a and b differ in 1 state: 0 only on a, 1 only on b, 0 differ\n"))
+        self.assertTrue(ran.stdout.startswith("a and b differ in 1 state: 0 only on a, 1 only on b\n"))
 
     def test_the_installed_shell_needs_none_either(self) -> None:
         shell = self.room / "pfl_shell"

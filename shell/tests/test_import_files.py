@@ -47,7 +47,7 @@ class Files(unittest.TestCase):
             [
                 # 17 of them for what is translated: of lines 25, 28, 32, 33, 34 and 21.
                 "16 rules of xl0: 10 exact, 6 approximated, 0 out; 79 rule lines a node",
-                "1 translation of xl0: 1 exact, 0 approximated, 0 out; 1 for other interfaces",
+                "1 translation of xl0: 0 exact, 1 approximated, 0 out; 1 for other interfaces",
                 "7 other lines: 2 exact, 3 approximated, 2 out",
             ],
         )
@@ -55,7 +55,8 @@ class Files(unittest.TestCase):
             self.sums("man"),
             [
                 "37 rules of kue0: 16 exact, 18 approximated, 3 out; 4 for other interfaces; 119 rule lines a node",
-                "8 translations of kue0: 6 exact, 2 approximated, 0 out",
+                # (pf draws the ports of three of them at random)
+                "8 translations of kue0: 3 exact, 5 approximated, 0 out",
                 "20 other lines: 13 exact, 4 approximated, 3 out",
             ],
         )
@@ -122,6 +123,12 @@ class Command(unittest.TestCase):
         self.assertEqual(its.rules(), ["block any"])
         self.assertEqual(len(taken_in("block all", "--on", "em7").said), 1)
 
+    def test_the_default_deny_of_fwbuilder_is_taken_in(self) -> None:
+        # pfctl keeps no state by a block rule, which may say so.
+        its = taken_in("pass in quick proto tcp to port 22\nblock log quick all no state label \"RULE 9\"")
+        self.assertEqual(its.rules(), ["pass in quick proto tcp tport 22", "block any quick"])
+        self.assertEqual(its.said[0], "pf.conf: 2 rules of em0: 2 exact, 0 approximated, 0 out; 2 rule lines a node")
+
     def test_a_missing_rule_has_a_comment_in_its_place(self) -> None:
         its = taken_in("pass in\nblock in quick probability 5%\npass out")
         self.assertEqual(
@@ -148,7 +155,8 @@ class Command(unittest.TestCase):
         ports = " ".join(str(it) for it in range(1, 257))
         self.assertEqual(len(taken_in(f"pass in proto tcp to port {{ {ports} }}").rules()), 256)
         its = taken_in(f"pass out\npass in proto tcp to port {{ {ports} }}\npass in")
-        why = "pf.conf:2: with its rules a node has more than 256, so nothing is written: leave statements out, or give fewer nets"
+        why = "pf.conf:2: with its rules a node has more than 256, so nothing is written: leave statements out, give fewer nets, or"
+        why += " ask with --about for an address"
         self.assertEqual((its.status, its.setup, its.said), (1, [], [why]))
 
     def test_very_many_rules_are_no_trouble(self) -> None:

@@ -255,7 +255,9 @@ class Case(NamedTuple):
 
     @property
     def lost(self) -> List[str]:
-        return [why for it in self.its.said if "approximated: " in it for why in it.partition("approximated: ")[2].split("; ")]
+        """What is lost, but for how one of several ports is chosen: both take the first."""
+        reasons = [why for it in self.its.said if "approximated: " in it for why in it.partition("approximated: ")[2].split("; ")]
+        return [it for it in reasons if not it.endswith("at random, and here the first free one is taken")]
 
     @property
     def is_legible(self) -> bool:

@@ -8,6 +8,8 @@ from typing import List
 from ..importing.comments import is_of_import, origin
 from .imports import taken_in
 
+# pf draws one of the ports of a `nat` at random, so none with several ports is exact.
+DRAWN = "pf draws the port at random, and here the first free one is taken"
 NAT = "nat on em0 inet from 10.0.0.0/24 to any -> (em0)"
 POOL = "nat 192.0.2.1:50001:65535"
 FROM = "from 10.0.0.0/24"
@@ -16,11 +18,12 @@ TO = "proto tcp to 192.0.2.1/32 tport 80"
 
 
 class Exact(unittest.TestCase):
-    """Translations of which nothing is to be said."""
+    """Translations of which nothing is to be said, but for how a port is chosen."""
 
     def exact(self, text: str, *rules: str) -> None:
         its = taken_in(text)
-        self.assertEqual([it for it in its.said if "approximated: " in it or ": out: " in it], [], text)
+        lost = [it for it in its.said if "approximated: " in it or ": out: " in it]
+        self.assertEqual([it for it in lost if not it.endswith(f": approximated: {DRAWN}")], [], text)
         self.assertEqual(its.rules(), list(rules), text)
 
     def test_a_gateway(self) -> None:
@@ -116,10 +119,6 @@ class Exact(unittest.TestCase):
         translated("port 4000", "4000")
         translated("port 1024:65535", "1024:65535")
         translated("port 9:7", "7:9")
-        # An echo gets any identifier, whatever ports there are.
-        echo = f"pass out quick proto icmp {FROM} nat 192.0.2.1:1:65535"
-        text = "nat pass on em0 inet from 10.0.0.0/24 to any -> 192.0.2.1 port 7"
-        self.exact(text, echo, f"pass out quick {FROM} flags any nat 192.0.2.1:7")
 
     def test_a_port_that_stays_is_that_of_the_rule(self) -> None:
         text = "nat pass on em0 proto udp from 10.0.0.0/24 port 500 to any -> (em0) static-port"
@@ -178,6 +177,102 @@ class Exact(unittest.TestCase):
         self.assertEqual(its.said[1], "pf.conf: 1 translation of em0: 1 exact, 0 approximated, 0 out; 1 for other interfaces")
 
 
+class Drawn(unittest.TestCase):
+    """Which of several ports a flow gets: pf draws one at random."""
+
+    def lost(self, text: str) -> List[str]:
+        return [it.partition("approximated: ")[2] for it in taken_in(text).said if "approximated: " in it]
+
+    def test_where_there_are_several_ports(self) -> None:
+        for ends in ("inet", "proto tcp", "proto { tcp udp }", "inet6 from fd00::1 to any"):
+            self.assertEqual(self.lost(f"nat on em0 {ends} -> {'::1' if 'inet6' in ends else '192.0.2.1'}"), [DRAWN])
+        self.assertEqual(self.lost("nat on em0 proto udp -> 192.0.2.1 port 1024:65535"), [DRAWN])
+        its = taken_in("nat on em0 proto udp -> 192.0.2.1")
+        self.assertIn(f"# pf.conf:1 approximated: {DRAWN}", its.setup)
+
+    def test_where_there_is_one_or_none(self) -> None:
+        for text in (
+            "nat on em0 proto udp -> 192.0.2.1 port 4000",
+            "nat on em0 proto esp -> 192.0.2.1",
+            "nat on em0 proto udp from any port 500 -> 192.0.2.1 static-port",
+            "no nat on em0 proto esp",
+            "rdr pass on em0 proto tcp to port 80:99 -> 10.0.0.8 port 8080",
+            "binat on em0 proto esp from 10.0.0.4 to any -> 192.0.2.4",
+        ):
+            self.assertEqual(self.lost(text), [], text)
+
+    def test_an_echo_gets_any_identifier_whatever_ports_there_are(self) -> None:
+        its = taken_in("nat pass on em0 inet from 10.0.0.0/24 to any -> 192.0.2.1 port 7")
+        echo = f"pass out quick proto icmp {FROM} nat 192.0.2.1:1:65535"
+        self.assertEqual(its.rules(), [echo, f"pass out quick {FROM} flags any nat 192.0.2.1:7"])
+        why = "approximated: pf draws the identifier of an echo at random, and here the first free one is taken"
+        self.assertEqual(its.said[0], f"pf.conf:1: {why}")
+        self.assertEqual(self.lost("nat on em0 proto icmp -> 192.0.2.1"), [why.partition(": ")[2]])
+
+
+class WithoutProtocol(unittest.TestCase):
+    """`nat` with a port and any protocol, as pfctl takes it: nat_consistent() of its parse.y tests nothing."""
+
+    ECHOES = "pf also takes echoes whose identifier is such a port, and here they are left out"
+
+    def test_the_line_for_isakmp_of_pfsense_and_opnsense(self) -> None:
+        first, second = (f"nat on em0 inet from (em1:network) to any {it}" for it in ("port 500 -> (em0:0) static-port", "-> (em0)"))
+        its = taken_in(f"{first}\n{second}\npass out", "--address", "em1=10.0.0.1/24")
+        isakmp = f"pass out quick {FROM} fport 500 tport 500"
+        self.assertEqual(
+            its.rules(),
+            [
+                f"{isakmp} nat 192.0.2.1:500",
+                f"pass out quick {FROM} tport 500 nat 192.0.2.1:1:65535",
+                f"{isakmp} flags any nat 192.0.2.1:500",
+                f"pass out quick {FROM} tport 500 flags any nat 192.0.2.1:1:65535",
+                f"pass out quick {FROM} {POOL}",
+                f"pass out quick {FROM} flags any {POOL}",
+                "pass out",
+            ],
+        )
+        stays = "a port that stays as it is has no form here: the first free one of 1:65535 is taken, except from port 500 to port 500"
+        self.assertEqual(its.said[0], f"pf.conf:1: approximated: {self.ECHOES}; {stays}")
+
+    def test_each_protocol(self) -> None:
+        def judged(ends: str, verdict: str, *rules: str) -> None:
+            its = taken_in(f"nat pass on em0 {ends} -> 192.0.2.1 port 7")
+            self.assertEqual(its.rules(), [f"pass out quick {it} nat 192.0.2.1:7" for it in rules], ends)
+            self.assertEqual(its.said[0], f"pf.conf:1: approximated: {verdict}" if verdict else its.said[0])
+
+        judged("inet from any to any port 500", self.ECHOES, "tport 500 flags any")
+        judged("inet proto udp from any port 500 to any", "", "proto udp fport 500")
+        # What has no ports has port 0 in pf.
+        zero = "pf also takes packets of protocols without ports, and here they are left out"
+        judged("inet from any to any port < 1024", f"{self.ECHOES}; {zero}", "tport 0:1023 flags any")
+        judged("inet proto icmp from any to any port 500", f"{self.ECHOES}; packets of its protocol have no such ports")
+        judged("inet proto esp from any to any port 500", "packets of its protocol have no such ports")
+        its = taken_in("nat pass on em0 inet proto esp to any port < 9 -> 192.0.2.1")
+        self.assertEqual(its.rules(), ["pass out quick proto 50 nat 192.0.2.1:0"])
+
+    def test_an_exception(self) -> None:
+        its = taken_in(f"no nat on em0 inet from any to any port 500\n{NAT}\nblock all\npass out")
+        # (the block rule is for all that passes out without SYN)
+        rules = [f"{it} out quick from 0.0.0.0/0 tport 500" for it in ("pass", "block")]
+        self.assertEqual(its.rules()[:2], rules)
+        self.assertEqual(its.said[0], f"pf.conf:1: approximated: {self.ECHOES}")
+
+    def test_a_rule_of_the_filter_for_another_protocol_is_not_asked(self) -> None:
+        its = taken_in("nat on em0 inet to any port 500 -> 192.0.2.1 port 7\nblock all\npass out proto { icmp esp udp }")
+        rules = ["pass out quick proto udp tport 500 nat 192.0.2.1:7", "block out quick from 0.0.0.0/0 tport 500"]
+        self.assertEqual(its.rules()[:3], [*rules, "block any"])
+
+    def test_what_pfctl_refuses(self) -> None:
+        port = "pfctl takes a port only with `proto tcp` or `proto udp`"
+        for text, why in (
+            ("rdr on em0 from any to any port 80 -> 10.0.0.1", port),
+            ("rdr on em0 from any port 80 to any -> 10.0.0.1", port),
+            ("no rdr on em0 from any to any port 80", port),
+            ("binat on em0 proto tcp from 10.0.0.4 to any port 80 -> 192.0.2.4", "pfctl takes no ports with `binat`"),
+        ):
+            self.assertEqual(taken_in(text).said[0], f"pf.conf:1: out: {why}; the rules see addresses as they are without it")
+
+
 class NotExact(unittest.TestCase):
     """Translations of which something is lost, or that are out."""
 
@@ -194,7 +289,8 @@ class NotExact(unittest.TestCase):
 
     def test_a_port_that_stays(self) -> None:
         stays = "a port that stays as it is has no form here"
-        why = f"{stays}: the first free one of 1:65535 is taken"
+        echo = "pf draws the identifier of an echo at random, and here the first free one is taken"
+        why = f"{echo}; {stays}: the first free one of 1:65535 is taken"
         text = "nat pass on em0 inet from 10.0.0.0/24 to any -> (em0) static-port"
         self.judged(text, "approximated", why, f"pass out quick {FROM} flags any nat 192.0.2.1:1:65535")
         text = "nat pass on em0 proto udp from 10.0.0.0/24 port > 1023 to any -> (em0) static-port"
@@ -206,7 +302,7 @@ class NotExact(unittest.TestCase):
 
     def test_some_of_the_ports(self) -> None:
         text = "nat on em0 proto udp from 10.0.0.0/24 to any -> (em0) port 1000:2000\nblock all\npass out proto udp from any port"
-        why = "pf.conf:3 is for only some of its ports: the first one decides"
+        why = f"{DRAWN}; pf.conf:3 is for only some of its ports: the first one decides"
         rule = f"pass out quick proto udp {FROM} nat 192.0.2.1:1000:2000"
         self.judged(f"{text} < 1024", "approximated", why, rule, "block any", "pass out proto udp fport 0:1023")
         rules = (f"block out quick proto udp {FROM}", "block any", "pass out proto udp fport 1024:65535")
@@ -230,7 +326,6 @@ class NotExact(unittest.TestCase):
             ("nat on em0 from any to any -> <none>", "what follows `->` is neither an address nor a table of the file"),
             ("nat on em0 from any to any -> em0 port 7 static-port", "pfctl takes no `static-port` with a port"),
             ("nat on em0 from any to any -> em0 port x", "the port `x` is neither a number up to 65535 nor a name known here"),
-            ("nat on em0 from any port 7 to any -> em0", "pfctl takes a port only with `proto tcp` or `proto udp`"),
             ("rdr on em0 from any to any -> 10.0.0.1 port 7", "pfctl takes a port only with `proto tcp` or `proto udp`"),
             ("rdr on em0 proto tcp to any -> 10.0.0.1 static-port", "pfctl takes `static-port` only with `nat`"),
             (
@@ -264,7 +359,7 @@ class NotExact(unittest.TestCase):
 
     def test_each_rule_has_a_max_of_its_own(self) -> None:
         its = taken_in(f"{NAT}\nblock all\npass out keep state (max 5)")
-        self.assertEqual(its.said[0], "pf.conf:3: approximated: each of its 2 rules here has a `max` of its own")
+        self.assertEqual(its.said[1], "pf.conf:3: approximated: each of its 2 rules here has a `max` of its own")
 
 
 class Said(unittest.TestCase):
@@ -274,15 +369,16 @@ class Said(unittest.TestCase):
         its = taken_in(f"{NAT}\n{RDR}\nnat on em0 from any to any -> em9\nnat on em1 from any to any -> em9\nblock all\nset debug loud")
         wanted = [
             "pf.conf: 1 rule of em0: 1 exact, 0 approximated, 0 out; 3 rule lines a node",
-            "pf.conf: 3 translations of em0: 2 exact, 0 approximated, 1 out; 1 for other interfaces",
+            "pf.conf: 3 translations of em0: 1 exact, 1 approximated, 1 out; 1 for other interfaces",
             "pf.conf: 1 other line: 1 exact, 0 approximated, 0 out",
         ]
-        self.assertEqual(its.said[1:], wanted)
+        self.assertEqual(its.said[2:], wanted)
 
     def test_the_comments_say_which_rule_and_which_translation(self) -> None:
         its = taken_in(f"no nat on em0 to 10.9.0.0/16\n{NAT}\nblock out quick on em1\npass out", "--node", "a")
         wanted = [
             "# pf.conf:1 approximated: what no rule of the filter matches makes a state here",
+            f"# pf.conf:2 approximated: {DRAWN}",
             "# pf.conf:1 no nat on em0 to 10.9.0.0/16",
             "# pf.conf:4 @1, no nat pf.conf:1: pass out",
             "# pf.conf:1 where no rule matches: no nat on em0 to 10.9.0.0/16",
@@ -292,8 +388,9 @@ class Said(unittest.TestCase):
             "# pf.conf:4 @1 pass out",
         ]
         self.assertEqual(its.comments, wanted)
-        origins = ["", "pf.conf:1", "pf.conf:4 @1, no nat pf.conf:1", "pf.conf:1", "pf.conf:2", "pf.conf:4 @1, nat pf.conf:2", "pf.conf:2"]
-        self.assertEqual([origin(it) for it in its.comments], [*origins, "pf.conf:4 @1"])
+        first = ["pf.conf:1", "pf.conf:4 @1, no nat pf.conf:1", "pf.conf:1"]
+        second = ["pf.conf:2", "pf.conf:4 @1, nat pf.conf:2", "pf.conf:2"]
+        self.assertEqual([origin(it) for it in its.comments], ["", "", *first, *second, "pf.conf:4 @1"])
         self.assertTrue(all(is_of_import(it) for it in its.comments))
 
     def test_other_comments_are_of_nobody(self) -> None:

@@ -7,6 +7,7 @@ from typing import Dict, List
 from .imports import taken_in
 
 ALL_V6 = ":".join(["0000"] * 8) + "/0"
+SSH = "pass in quick proto tcp to 192.0.2.1/32 tport 22"
 LOOPBACK_V6 = ":".join(["0000"] * 7) + ":0001/128"
 
 
@@ -30,6 +31,18 @@ class Rules(unittest.TestCase):
         self.exact('pass out quick on em0 all label "a b" keep state', "pass out quick")
         self.exact("pass in allow-opts tag X queue (q, p) prio 3 set prio (1, 2) keep state (if-bound)", "pass in")
         self.exact("pass", "pass any")
+
+    def test_numbers_of_the_log_choose_no_packets(self) -> None:
+        # As pfSense writes them, before 2.6 and since.
+        self.exact('pass in quick on em0 inet proto tcp to 192.0.2.1 port 22 tracker 1000000101 flags S/SA keep state label "U"', SSH)
+        self.exact("pass in quick on em0 inet proto tcp to 192.0.2.1 port 22 flags S/SA keep state ridentifier 1000000101", SSH)
+        self.exact("block in log inet all tracker 1000000103 label \"Default deny\"", "block in from 0.0.0.0/0")
+        self.exact("antispoof log for em0 tracker 1000001570", "block in from 192.0.2.1/32")
+        self.exact("antispoof for em0 ridentifier 1 label x", "block in from 192.0.2.1/32")
+
+    def test_a_block_rule_that_keeps_no_state(self) -> None:
+        self.exact("block quick inet from any to any no state", "block any quick from 0.0.0.0/0")
+        self.exact("set state-defaults no-sync\nblock in no state", "block in")
 
     def test_interfaces(self) -> None:
         self.exact("pass in on { em1 em0 em2 }", "pass in")
@@ -284,7 +297,7 @@ class Reading(unittest.TestCase):
         its = taken_in('anchor "x/*"\nanchor in on em1 {\n pass in\n block out\n}\npass in')
         self.assertEqual(its.rules(), ["pass in"])
         self.assertEqual(its.comments[-1], "# pf.conf:6 @2 pass in")
-        self.assertEqual(its.said[0], "pf.conf:1: out: the rules of anchors are not taken in: pfctl can load them while pf runs")
+        self.assertEqual(its.said[0], "pf.conf:1: out: the rules of this anchor are not in the file: pfctl can load them while pf runs")
 
 
 class Settings(unittest.TestCase):
@@ -305,7 +318,25 @@ class Settings(unittest.TestCase):
     def test_what_is_above_the_limits_here(self) -> None:
         its = taken_in("set limit states 1000000")
         self.assertEqual(its.settings, ["set states 65536", "set astart 131072", "set aend 131072"])
-        self.assertEqual(its.said[0], "pf.conf:1: approximated: `states 1000000` becomes 65536, the most that there is here")
+        most = "becomes 65536, the most that there is here"
+        never = "timeouts never shrink here: pf shortens them with more than {} states, and there are at most 65536 here"
+        self.assertEqual(its.said[0], f"pf.conf:1: approximated: `states 1000000` {most}; {never.format(600000)}")
+        # pfctl begins at 60% of a limit: 65400 states are still few enough, and 66000 are too many.
+        its = taken_in("set limit states 109000")
+        self.assertEqual(its.said[0], f"pf.conf:1: approximated: `states 109000` {most}")
+        self.assertEqual(its.settings, ["set states 65536", "set astart 65400", "set aend 130800"])
+        its = taken_in("set limit states 110000")
+        self.assertEqual(its.said[0], f"pf.conf:1: approximated: `states 110000` {most}; {never.format(66000)}")
+
+    def test_which_statement_makes_timeouts_never_shrink(self) -> None:
+        never = "timeouts never shrink here: pf shortens them with more than 70000 states, and there are at most 65536 here"
+        its = taken_in("set limit states 100000\nset timeout { adaptive.start 70000, adaptive.end 90000 }\nset timeout interval 9")
+        self.assertEqual(its.said[1], f"pf.conf:2: approximated: {never}")
+        # In pf itself none of these does: it begins beyond the limit, never ends, or is off.
+        for text in ("set limit states 60000\nset timeout { adaptive.start 70000, adaptive.end 90000 }",):
+            self.assertNotIn("never shrink", "".join(taken_in(text).said))
+        for text in ("{ adaptive.start 90000, adaptive.end 90000 }", "{ adaptive.start 0, adaptive.end 0 }"):
+            self.assertNotIn("never shrink", "".join(taken_in(f"set limit states 400000\nset timeout {text}").said))
 
     def test_timeouts(self) -> None:
         its = taken_in("set timeout { tcp.first 9, interval 10 other.single 8 }\nset timeout udp.multiple 7")
@@ -327,9 +358,13 @@ class Settings(unittest.TestCase):
             self.assertEqual(taken_in(f"set optimization {name}").settings[:6], wanted)
 
     def test_what_changes_nothing_here(self) -> None:
-        lines = ["loginterface em0", 'fingerprints "/etc/pf.os"', "state-policy if-bound", "require-order no", "skip on lo0", "debug loud"]
+        lines = ["fail-policy drop", "loginterface em0", 'fingerprints "/etc/pf.os"', "state-policy if-bound", "require-order no"]
+        lines += ["skip on lo0", "debug loud"]
         its = taken_in("\n".join(f"set {it}" for it in lines))
-        self.assertEqual(its.said[1], "pf.conf: 6 other lines: 6 exact, 0 approximated, 0 out")
+        self.assertEqual(its.said[1], "pf.conf: 7 other lines: 7 exact, 0 approximated, 0 out")
+        its = taken_in("set fail-policy return")
+        why = "nothing is sent back where a pass rule can make no state: no RST, no ICMP error"
+        self.assertEqual((its.rules(), its.said[0]), ([], f"pf.conf:1: approximated: {why}"))
 
 
 if __name__ == "__main__":
