@@ -1,21 +1,21 @@
 """What a reply to `why` must say: what follows from the pairs before and after the event, worked out without the program."""
 from __future__ import annotations
 
-from typing import Dict, Iterator, List, Sequence, Tuple
+from dataclasses import replace
+from typing import List, Sequence, Tuple
 
 from shell.explanations import Expiry, Explanation, Judged, OfState, Purge, TakenRecord, read_explanation
-from shell.frames import Carried, Changes, Frame, Record
-from shell.kernels import Kernel
+from shell.frames import Frame, Record
 from shell.language.events import DELIVER, PACKET, PURGE, read_packet
 from shell.language.names import Name
 from shell.language.packets import PacketEvent
 from shell.language.setups import DEFER, MERGE, NO_SYNC, STATES
-from shell.merging import merged
 from shell.pair import Node, read_shown
+from shell.receiving import Came, received
 from shell.rulings import deciding
 from shell.setups import Keys, Setup
-from shell.states import Flow, State
-from shell.tracking import judged, moved
+from shell.states import State
+from shell.tracking import judged, moved, started
 from shell.words import expires_at
 
 from .frames import contents
@@ -37,7 +37,7 @@ def compare_reason(setup: Setup, reply: Sequence[str], before: Sequence[str], af
         wanted, came = _packet(setup, it, was.nodes[about], now.nodes[about])
     elif kind == DELIVER.word:
         frame = was.frames[int(about)]
-        wanted, came = _delivery(setup.kernel, it, frame, was.nodes[frame.to], now.nodes[frame.to])
+        wanted, came = _delivery(setup, it, frame, was.nodes[frame.to], now.nodes[frame.to])
     elif kind == PURGE.word:
         wanted, came = _purge(setup, it, was.nodes[about], now.nodes[about])
     if wanted != came:
@@ -53,17 +53,17 @@ def _packet(setup: Setup, it: Explanation, was: Node, now: Node) -> Both:
     # (a closed connection is deleted when a new one begins)
     if state is None or state.name not in now.states:
         wanted = _judged(setup, was, packet)
-        return (wanted, _outcome(setup, packet, wanted)), (it.reason, it.event.came)
+        made = (*started(setup.kernel, packet), was.clock, wanted.rule) if wanted.how == "new" else None
+        there = now.states.get(wanted.name) if wanted.how == "new" else None
+        return (wanted, _outcome(setup, packet, wanted), made), (it.reason, it.event.came, there and _tracked(there))
     after = moved(setup.kernel, state, packet, was.clock)
-    outcome = f"pass {state.name}" if after else "drop window"
-    there = now.states[state.name]
-    wanted_now = [*_tracked(after or state), (after or state).last]
-    return (judged(setup.kernel, state, packet), outcome, wanted_now), (it.reason, it.event.came, [*_tracked(there), there.last])
+    outcome, there = f"pass {state.name}" if after else "drop window", now.states[state.name]
+    return (judged(setup.kernel, state, packet), outcome, _tracked(after or state)), (it.reason, it.event.came, _tracked(there))
 
 
-def _tracked(state: Flow) -> Tuple[object, ...]:
-    """What packets and updates change of a state, but for its times."""
-    return state.source, state.destination, state.timeout_class
+def _tracked(state: State) -> Tuple[object, ...]:
+    """What packets and updates change of a state; its rule, which they leave, decides its timeouts."""
+    return state.source, state.destination, state.timeout_class, state.last, state.rule
 
 
 def _outcome(setup: Setup, packet: PacketEvent, judged: Judged) -> str:
@@ -107,9 +107,9 @@ def _with_keys(states: Sequence[State], protocol: str, keys: Keys) -> List[Tuple
 # ---- a frame that comes
 
 
-def _delivery(kernel: Kernel, it: Explanation, frame: Frame, was: Node, now: Node) -> Both:
-    """Its records; as many of them must be bad and stale as are counted. What is merged must be merged by the rules, and what is tracked of
-    the states be what the records make of it."""
+def _delivery(setup: Setup, it: Explanation, frame: Frame, was: Node, now: Node) -> Both:
+    """Its records; as many of them must be bad and stale as are counted. What is made and merged must be so by the rules, and what is
+    tracked of the states be what the records make of it."""
     first, *_ = lines = contents(frame.data)
     if not first.startswith("record "):
         return (None, first), (it.reason, it.event.came)
@@ -118,24 +118,27 @@ def _delivery(kernel: Kernel, it: Explanation, frame: Frame, was: Node, now: Nod
         return records, it.records
     counted = [now.counters[name] - was.counters[name] for name in ("bad", "stale")]
     faulty = [sum(record.is_bad for record in it.records), sum(bool(record.stale) for record in it.records)]
-    states: Dict[Name, Flow] = {**was.states}
-    merges = [*_merges(kernel, zip(records, it.records), states)]
-    wanted = counted, f"taken {len(records)}", [one for one, _ in merges], {name: _tracked(one) for name, one in states.items()}
-    there = {name: _tracked(one) for name, one in now.states.items()}
-    return wanted, (faulty, it.event.came, [one for _, one in merges], there)
-
-
-def _merges(kernel: Kernel, both: Iterator[Tuple[Record, TakenRecord]], states: Dict[Name, Flow]) -> Iterator[Both]:
-    """Of each record that is merged into a state what must be said of it, and what is. The states become what the records make of them."""
-    for record, fate in both:
+    states = dict(was.states)
+    fates: List[Both] = []
+    for fate, came in zip(it.records, received(setup, setup.kernel, was, replace(frame, records=tuple(records)), it.records)):
         for name in [name for name in states if fate.takes(name)]:
             del states[name]
-        if fate.fate[0] == "imported" and isinstance(record.state, Carried):
-            states[record.name] = record.state
-        elif fate.fate[0] == "merged" and isinstance(record.state, (Carried, Changes)):
-            it = merged(kernel, states[record.name], record.state)
-            states[record.name] = it.state
-            yield (it.stale, it.taken, kernel.has(MERGE)), (fate.stale, fate.taken, fate.goes_together)
+        if came:
+            states[came.state.name] = came.state
+            fates.append((_fate(setup, came), _said(fate)))
+    wanted = counted, f"taken {len(records)}", [one for one, _ in fates], {name: _tracked(one) for name, one in states.items()}
+    there = {name: _tracked(one) for name, one in now.states.items()}
+    return wanted, (faulty, it.event.came, [one for _, one in fates], there)
+
+
+def _fate(setup: Setup, it: Came) -> Tuple[object, ...]:
+    """What must be said of a record: when its state was last used and, where it is merged, which ends are stale and which are taken."""
+    return (it.state.last, *((it.merged.stale, it.merged.taken, setup.kernel.has(MERGE)) if it.merged else ()))
+
+
+def _said(fate: TakenRecord) -> Tuple[object, ...]:
+    """The same as it is said."""
+    return (fate.last, *((fate.stale, fate.taken, fate.goes_together) if fate.fate[0] == "merged" else ()))
 
 
 # ---- a purge

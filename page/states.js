@@ -22,6 +22,11 @@ function secondsBetween(from, to) {
   return Math.floor((to - from) / 1000);
 }
 
+/** How long a time is past, in whole seconds; by rules of the kernel a state can count as used at one that is yet to come. */
+function ago(time, clock) {
+  return time <= clock ? `${secondsBetween(time, clock)} s ago` : `${secondsBetween(clock, time)} s ahead of the clock`;
+}
+
 /** When a state expires, by its node's clock; the number of states there scales its timeout. */
 function expiresAt(state, [part, whole]) {
   return state.last + 1000 * Math.floor((state.timeout * part) / whole);
@@ -31,10 +36,10 @@ function expiresAt(state, [part, whole]) {
 function details(state, { clock, scale }) {
   const expires = expiresAt(state, scale);
   const expiry = expires <= clock ? "expired" : `expires in ${secondsBetween(clock, expires)} s`;
-  const said = [expiry, `last used ${secondsBetween(state.last, clock)} s ago`, state.class];
+  const said = [expiry, `last used ${ago(state.last, clock)}`, state.class];
   if (state.flags) said.push(state.flags);
   if (state.updates) said.push(`update count ${state.updates}`);
-  if (state.peer !== null) said.push(`changed by the peer ${secondsBetween(state.peer, clock)} s ago`);
+  if (state.peer !== null) said.push(`changed by the peer ${ago(state.peer, clock)}`);
   return said;
 }
 

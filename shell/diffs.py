@@ -16,6 +16,7 @@ from .setups import Setup
 from .states import State
 from .words import (
     UNKNOWN_SETUP,
+    ago,
     bulk_client,
     bulk_server,
     counted,
@@ -110,7 +111,8 @@ def _times_apart(pair: Pair, name: Name, setup: Optional[Setup]) -> List[str]:
     """How long ago each node used a state, by its own clock, and when it expires at each, if these differ."""
     used_a, used_b = (node.clock - node.states[name].last for node in (pair.a, pair.b))
     left_a, left_b = (milliseconds_left(setup, node, node.states[name]) for node in (pair.a, pair.b))
-    said = [f"last used {seconds(used_a)} | {seconds(used_b)} ago"] if used_a != used_b else []
+    both = f"{seconds(used_a)} | {seconds(used_b)} ago" if min(used_a, used_b) >= 0 else f"{ago(used_a)} | {ago(used_b)}"
+    said = [f"last used {both}"] if used_a != used_b else []
     return said + ([expiries(left_a, left_b)] if expiry(left_a) != expiry(left_b) else [])
 
 

@@ -84,6 +84,12 @@ class TakenRecord(NamedTuple):
         return _ENDS[self.fate[1]] if self.fate[0] == "merged" else ()
 
     @property
+    def last(self) -> Optional[int]:
+        """When the state that it made, or that it is merged into, counts as last used."""
+        places = {"imported": 1, "merged": 2}
+        return int(self.fate[places[self.fate[0]]]) if self.fate[0] in places else None
+
+    @property
     def taken(self) -> Tuple[str, ...]:
         """The ends that were taken: by the profile those that are not stale. By the kernel's rule the program says which."""
         if self.fate[0] != "merged":

@@ -19,6 +19,10 @@ class Kernel:
         said = SWITCHES if EVERY_SWITCH in words else words
         return Kernel(tuple(it for it in SWITCHES.values() if it in self.switches or it.word in said))
 
+    def without(self, switch: Switch) -> "Kernel":
+        """With the profile's rule in the place of one of the kernel's."""
+        return Kernel(tuple(it for it in self.switches if it is not switch))
+
     def has(self, switch: Switch) -> bool:
         return switch in self.switches
 

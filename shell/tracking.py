@@ -9,23 +9,35 @@ from .explanations import Edge, Loose, OfState
 from .kernels import Kernel
 from .language.names import CLOSING, ESTABLISHED, FIN_WAIT_2, MULTIPLE, SINGLE, SYN_SENT, TIME_WAIT
 from .language.packets import CIRCLE, PacketEvent, reaches
-from .language.setups import LOOSE, RESET, WINDOW
+from .language.setups import LOOSE, RESET, SCALE, WINDOW
 from .states import End, State
 
 # How far an acknowledged number may be from what is known, and how far a packet that passes loosely: a packet of 65535 bytes, and one more
 # of 1500 (MAXACKWINDOW of pf.c).
 MOST_APART = 65535 + 1500
+# The greatest window that a packet can offer without a scale.
+MOST_OFFERED = 65535
+# An end that was not heard.
+SILENT = End(0, None, 0, 0, 0)
 
 
 class Segment(NamedTuple):
-    """What a packet of TCP is judged by: its sender's end once it has begun, where it begins and ends, and what it acknowledges if that
-    counts; and whether it is judged by its sender's lo, since it has no data."""
+    """What a packet of TCP is judged by: its sender's end once it has begun, the other end, of which the scale may be void, where the
+    packet begins and ends, and what it acknowledges if that counts; the window that it offers, and whether windows count at their scales;
+    and whether it is judged by its sender's lo, since it has no data."""
 
     sender: End
+    receiver: End
     seq: int
     end: int
     ack: Optional[int]
+    window: int
+    is_scaled: bool
     is_eased: bool
+
+    def at_scale(self, end: End, window: int) -> int:
+        """A window of an end in bytes."""
+        return window << (end.scale or 0) if self.is_scaled else window
 
 
 def ends_of(state: State, packet: PacketEvent) -> Tuple[End, End]:
@@ -33,48 +45,71 @@ def ends_of(state: State, packet: PacketEvent) -> Tuple[End, End]:
     return (state.source, state.destination) if packet.direction == state.direction else (state.destination, state.source)
 
 
-def _is_scaled(sender: End, receiver: End, packet: PacketEvent) -> bool:
-    return sender.scale is not None and receiver.scale is not None and "S" not in packet.flags
+# ---- how a state begins
 
 
-def _at_scale(is_scaled: bool, end: End, window: int) -> int:
-    return window << (end.scale or 0) if is_scaled else window
+def in_units(window: int, scale: int) -> int:
+    """A window in units of a scale, rounded up."""
+    return (window + (1 << scale) - 1) >> scale
 
 
-def _counts(receiver: End, packet: PacketEvent) -> bool:
-    """Whether what a packet acknowledges counts by the profile."""
-    return "A" in packet.flags and receiver.level >= SYN_SENT
+def void(end: End) -> End:
+    """An end whose offer of a scale is not answered: its window is in bytes again, as far as one can be offered without a scale."""
+    return replace(end, window=min(end.window << (end.scale or 0), MOST_OFFERED), scale=None)
+
+
+def started(kernel: Kernel, packet: PacketEvent) -> Tuple[End, End, str]:
+    """The source and the destination end, and the class, of the state that a packet makes."""
+    if not packet.is_tcp:
+        return replace(SILENT, level=SINGLE), SILENT, f"{packet.protocol if packet.protocol in ('udp', 'icmp') else 'other'}.first"
+    window = max(packet.window, 1)
+    if kernel.has(SCALE) and packet.scale is not None:
+        window = in_units(window, packet.scale)
+    return End(SYN_SENT, packet.scale, window, packet.seq, (packet.end + 1) % CIRCLE), SILENT, "tcp.first"
 
 
 # ---- how a packet is judged
 
 
+def is_first(kernel: Kernel, sender: End) -> bool:
+    """Whether a packet is the first of its sender: by the profile an end is not heard that has level 0. By the kernel its lo is 0. (That it
+    has no window is ours: a lo of 0 is met in scripts, whose numbers are small, and an end that has a window was heard.)"""
+    return sender.lo == 0 and sender.window == 0 if kernel.has(WINDOW) else sender.level == 0
+
+
+def answers(kernel: Kernel, sender: End, receiver: End, packet: PacketEvent) -> bool:
+    """Whether a packet says what becomes of the scale that the other end has offered, by the kernel's rule: the first SYN of its sender."""
+    return kernel.has(SCALE) and "S" in packet.flags and receiver.scale is not None and is_first(kernel, sender)
+
+
 def segment(kernel: Kernel, sender: End, receiver: End, packet: PacketEvent) -> Segment:
     """What a packet between two ends is judged by."""
+    does_answer = answers(kernel, sender, receiver, packet)
+    window = packet.window
+    if does_answer and packet.scale is None:
+        receiver = void(receiver)
+    elif does_answer and packet.scale is not None:
+        window = in_units(window, packet.scale)
+    is_begun = not is_first(kernel, sender)
+    scale = packet.scale if not is_begun and ("S" in packet.flags or not kernel.has(WINDOW)) else sender.scale
+    is_scaled = scale is not None and receiver.scale is not None and ("S" not in packet.flags or does_answer)
+    it = Segment(replace(sender, scale=scale), receiver, packet.seq, packet.end, None, window, is_scaled, False)
+    if not is_begun:
+        it = it._replace(sender=_begun(kernel, it))
+    counts = "A" in packet.flags and receiver.level >= SYN_SENT
     if not kernel.has(WINDOW):
-        return Segment(_begun(sender, receiver, packet), packet.seq, packet.end, packet.ack if _counts(receiver, packet) else None, False)
-    # (a lo of 0 is met in scripts, whose numbers are small: an end that has a window was heard)
-    is_heard = sender.lo != 0 or sender.window != 0
-    it = sender if is_heard else _met(sender, receiver, packet)
-    is_empty = packet.seq == packet.end
-    counts = _counts(receiver, packet) and not ("R" in packet.flags and packet.ack == 0)
-    seq, end = (it.lo, it.lo) if is_empty else (packet.seq, packet.end)
-    return Segment(it, seq, end, packet.ack if counts else receiver.lo, is_empty)
+        return it._replace(ack=packet.ack if counts else None)
+    ack = packet.ack if counts and not ("R" in packet.flags and packet.ack == 0) else receiver.lo
+    lo, is_empty = it.sender.lo, packet.seq == packet.end
+    return it._replace(seq=lo if is_empty else packet.seq, end=lo if is_empty else packet.end, ack=ack, is_eased=is_empty)
 
 
-def _begun(sender: End, receiver: End, packet: PacketEvent) -> End:
-    """By the profile an end begins that has sent nothing."""
-    if sender.level:
-        return sender
-    return End(SYN_SENT, packet.scale, 0, packet.seq, (packet.end + max(1, receiver.window)) % CIRCLE)
-
-
-def _met(sender: End, receiver: End, packet: PacketEvent) -> End:
-    """By the kernel an end begins that was never heard, and keeps its allowance where that is further on."""
-    window = _at_scale(_is_scaled(sender, receiver, packet), receiver, receiver.window)
-    first = (packet.end + max(window, 1)) % CIRCLE
-    hi = first if sender.hi <= 1 or reaches(first, sender.hi) else sender.hi
-    return End(max(sender.level, SYN_SENT), packet.scale if "S" in packet.flags else sender.scale, sender.window, packet.seq, hi)
+def _begun(kernel: Kernel, it: Segment) -> End:
+    """An end with its first packet. By the kernel it keeps its level and its allowance where these are further on."""
+    sender, hi = it.sender, (it.end + max(1, it.at_scale(it.receiver, it.receiver.window))) % CIRCLE
+    if kernel.has(WINDOW) and sender.hi > 1 and not reaches(hi, sender.hi):
+        hi = sender.hi
+    return replace(sender, level=max(sender.level, SYN_SENT), window=0, lo=it.seq, hi=hi)
 
 
 def judged(kernel: Kernel, state: State, packet: PacketEvent) -> OfState:
@@ -82,21 +117,20 @@ def judged(kernel: Kernel, state: State, packet: PacketEvent) -> OfState:
     if not packet.is_tcp:
         return OfState(state.name, {})
     sender, receiver = ends_of(state, packet)
-    return tested(kernel, state, segment(kernel, sender, receiver, packet), receiver, packet)
+    return tested(kernel, state, segment(kernel, sender, receiver, packet), packet)
 
 
-def tested(kernel: Kernel, state: State, it: Segment, receiver: End, packet: PacketEvent) -> OfState:
+def tested(kernel: Kernel, state: State, it: Segment, packet: PacketEvent) -> OfState:
     """What a packet of TCP is tested against, as it is judged."""
-    is_scaled = _is_scaled(it.sender, receiver, packet)
     edges = {
         "right": _up_to(it.sender.hi, it.end),
-        "left": _back_to((it.sender.lo - _at_scale(is_scaled, receiver, receiver.window)) % CIRCLE, it.seq),
+        "left": _back_to((it.sender.lo - it.at_scale(it.receiver, it.receiver.window)) % CIRCLE, it.seq),
     }
     if it.ack is not None:
-        edges["ack"] = _near(_at_scale(is_scaled, it.sender, MOST_APART), receiver.lo, it.ack)
+        edges["ack"] = _near(it.at_scale(it.sender, MOST_APART), it.receiver.lo, it.ack)
     reset = _beside(it.sender.lo, packet.seq) if kernel.has(RESET) and "R" in packet.flags else None
     inside = OfState(state.name, edges, it.is_eased, reset)
-    may_be_loose = kernel.has(LOOSE) and not inside.is_inside and is_lenient(it.sender, receiver)
+    may_be_loose = kernel.has(LOOSE) and not inside.is_inside and is_lenient(it.sender, it.receiver)
     return inside._replace(loose=_loose(it)) if may_be_loose else inside
 
 
@@ -143,10 +177,10 @@ def moved(kernel: Kernel, state: State, packet: PacketEvent, now: int) -> Option
         return _used(_with_ends(state, packet, *_heard(*ends_of(state, packet))), now)
     sender, receiver = ends_of(state, packet)
     it = segment(kernel, sender, receiver, packet)
-    tests = tested(kernel, state, it, receiver, packet)
+    tests = tested(kernel, state, it, packet)
     if tests.is_inside:
-        return _used(_with_ends(state, packet, *_after(it, receiver, packet, is_loose=False)), now)
-    return _with_ends(state, packet, *_after(it, receiver, packet, is_loose=True)) if tests.passes_loosely else None
+        return _used(_with_ends(state, packet, *_after(it, packet, is_loose=False)), now)
+    return _with_ends(state, packet, *_after(it, packet, is_loose=True)) if tests.passes_loosely else None
 
 
 def _with_ends(state: State, packet: PacketEvent, sender: End, receiver: End) -> State:
@@ -160,15 +194,14 @@ def _heard(sender: End, receiver: End) -> Tuple[End, End]:
     return replace(sender, level=max(sender.level, SINGLE)), answered
 
 
-def _after(it: Segment, receiver: End, packet: PacketEvent, is_loose: bool) -> Tuple[End, End]:
+def _after(it: Segment, packet: PacketEvent, is_loose: bool) -> Tuple[End, End]:
     """The ends after a packet of TCP that passes."""
-    level, other = (_loose_levels if is_loose else _levels)(packet, it.sender.level, receiver.level)
+    level, other = (_loose_levels if is_loose else _levels)(packet, it.sender.level, it.receiver.level)
     lo = it.end if it.end != it.sender.lo and reaches(it.end, it.sender.lo) else it.sender.lo
-    offered = _at_scale(_is_scaled(it.sender, receiver, packet), it.sender, packet.window)
-    hi = receiver.hi
+    offered, hi = it.at_scale(it.sender, it.window), it.receiver.hi
     if it.ack is not None and reaches(it.ack + offered, hi):
         hi = (it.ack + max(offered, 1)) % CIRCLE
-    return replace(it.sender, level=level, window=max(it.sender.window, packet.window, 1), lo=lo), replace(receiver, level=other, hi=hi)
+    return replace(it.sender, level=level, window=max(it.sender.window, it.window, 1), lo=lo), replace(it.receiver, level=other, hi=hi)
 
 
 def _levels(packet: PacketEvent, sender: int, receiver: int) -> Tuple[int, int]:

@@ -19,6 +19,7 @@ from .states import State
 from .words import (
     FLAGS,
     UNKNOWN_SETUP,
+    ago,
     bulk_client,
     bulk_server,
     counted,
@@ -100,7 +101,7 @@ def _state(state: State, node: Node, setup: Optional[Setup], paint: Paint) -> Li
 def _verbose(state: State, node: Node, setup: Optional[Setup], paint: Paint) -> List[str]:
     left = milliseconds_left(setup, node, state)
     said = [expiry(left) if left > 0 else paint.note(expiry(left)), state.timeout_class]
-    said.append(f"last used {seconds(node.clock - state.last)} ago")
+    said.append(f"last used {ago(node.clock - state.last)}")
     if state.flags != "-":
         said.append(FLAGS.get(state.flags, state.flags))
     if state.updates:

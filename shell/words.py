@@ -25,6 +25,11 @@ def seconds(milliseconds: int) -> str:
     return f"{whole}.{part:03}".rstrip("0").rstrip(".") + " s" if part else f"{whole} s"
 
 
+def ago(milliseconds: int) -> str:
+    """How long a time is past; by the kernel's rules a state can count as used at one that is yet to come."""
+    return f"{seconds(milliseconds)} ago" if milliseconds >= 0 else f"{seconds(-milliseconds)} ahead of the clock"
+
+
 # ---- flows and states
 
 

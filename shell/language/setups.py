@@ -122,11 +122,22 @@ LOOSE = Switch(
     "95%; that it moves the other end's hi: 85%",
 )
 MERGE = Switch("merge", "unless both ends of an update are stale, its destination is taken, stale or not", "85%")
+EXPIRY = Switch(
+    "expiry",
+    "a merge counts as a use now, and an imported state keeps the seconds that its record has left, counted by the unscaled timeout; 0 left "
+    "gives a whole one",
+    "90%; of an import: 85%",
+)
 RESET = Switch(
     "reset",
     "a reset needs the next number, or one beside it",
     "85% from 13.2-RELEASE-p7 and 13.3 on; before, only for packets that `scrub` has reassembled, 50%",
 )
+SCALE = Switch(
+    "scale",
+    "the window of an end's first SYN is kept in units of the scale that it offers, and an offer that is not answered is void",
+    "95%",
+)
 # In the order in which they are written.
-SWITCHES = {it.word: it for it in (WINDOW, LOOSE, MERGE, RESET)}
+SWITCHES = {it.word: it for it in (WINDOW, LOOSE, MERGE, EXPIRY, RESET, SCALE)}
 EVERY_SWITCH = "all"

@@ -5,44 +5,53 @@ from __future__ import annotations
 
 from typing import List, Sequence
 
+from ..explanations import OfState
 from ..kernels import PROFILE, Kernel
 from ..language.commands import KERNEL
 from ..language.names import SYN_SENT, Name
 from ..language.packets import PacketEvent
-from ..language.setups import LOOSE, MERGE, RESET, WINDOW, Switch
+from ..language.setups import LOOSE, MERGE, RESET, SCALE, WINDOW, Switch
 from ..pair import Node
 from ..states import Flow, State, is_closed
 from ..tracking import MOST_APART, ends_of, judged
 
 PAGE = "docs/REAL.md"
-_KERNEL = "FreeBSD's kernel, as far as we know its sources,"
+THE_KERNEL = "FreeBSD's kernel, as far as we know its sources,"
 # Its rules for packets, as they are now, and before a reset was asked for its number.
-_NOW, _BEFORE = Kernel((WINDOW, LOOSE, RESET)), Kernel((WINDOW, LOOSE))
+_NOW, _BEFORE = Kernel((WINDOW, LOOSE, RESET, SCALE)), Kernel((WINDOW, LOOSE, SCALE))
+# The rules that may pass a packet, the fewest first.
+_WAYS = ((WINDOW,), (LOOSE,), (SCALE,), (WINDOW, LOOSE), (WINDOW, SCALE), (LOOSE, SCALE))
 
 
 # ---- packets
+
+ANSWERING = "the answer to a scale, which offers one too, counts at both scales, although it has a SYN"
 
 
 def explain_kernel_window(kernel: Kernel, state: State, packet: PacketEvent) -> List[str]:
     """That the kernel passes a TCP packet of a state that is dropped here for its window, and why; nothing if it drops it as well."""
     its = judged(_NOW, state, packet)
     if its.is_inside:
-        return [f"{_KERNEL} passes this packet: {why_inside(state, packet, True)} {_words_for(kernel, state, packet)}"]
+        return [f"{THE_KERNEL} passes this packet: {why_inside(state, packet, True)} {_words_for(kernel, state, packet)}"]
     if its.passes_loosely:
-        return [f"{_KERNEL} passes this packet: {where_loose(state, packet)} {_words_for(kernel, state, packet)}"]
+        return [f"{THE_KERNEL} passes this packet: {where_loose(state, packet)} {_words_for(kernel, state, packet)}"]
     if judged(_BEFORE, state, packet).is_inside:
         way = f"({_by(WINDOW)} without {RESET.word}; {PAGE})"
-        return [f"{_KERNEL} may pass this packet: before 13.2-RELEASE-p7 it does not test the number of a reset {way}"]
+        return [f"{THE_KERNEL} may pass this packet: before 13.2-RELEASE-p7 it does not test the number of a reset {way}"]
     return []
 
 
 def _words_for(kernel: Kernel, state: State, packet: PacketEvent) -> str:
     """With which words besides a packet would pass here, and the page about them."""
-    for words in ((WINDOW,), (LOOSE,), (WINDOW, LOOSE)):
-        it = judged(kernel.with_words([one.word for one in words]), state, packet)
-        if it.is_inside or it.passes_loosely:
+    for words in _WAYS:
+        if passes(judged(kernel.with_words([one.word for one in words]), state, packet)):
             return f"({_by(*words)}; {PAGE})"
     return f"({PAGE})"
+
+
+def passes(it: OfState) -> bool:
+    """Whether a packet passes, inside the window or loosely."""
+    return it.is_inside or it.passes_loosely
 
 
 def _by(*switches: Switch) -> str:
@@ -58,6 +67,8 @@ def where_loose(state: State, packet: PacketEvent) -> str:
 def why_inside(state: State, packet: PacketEvent, asks_resets: bool) -> str:
     """Why a packet is inside the window by the kernel's rule, and is not by the profile; the number of a reset may be asked for."""
     sender, _ = ends_of(state, packet)
+    if judged(Kernel((SCALE,)), state, packet).is_inside:
+        return ANSWERING
     if sender.level and sender.lo == 0 and sender.window == 0:
         return "an end that was not heard begins with its first packet, whatever its level"
     if all(it.missed is None for which, it in judged(PROFILE, state, packet).edges.items() if which != "ack"):
@@ -74,7 +85,7 @@ def explain_takeover(names: Sequence[Name]) -> List[str]:
     """That the kernel takes over states that are bad here."""
     if not names:
         return []
-    return [f"{_KERNEL} takes over {_list(names)}, since what has the key is closed at both ends ({PAGE})"]
+    return [f"{THE_KERNEL} takes over {_list(names)}, since what has the key is closed at both ends ({PAGE})"]
 
 
 def gives_way(new: Flow, node: Node) -> bool:
@@ -88,7 +99,7 @@ def explain_destinations(names: Sequence[Name]) -> List[str]:
     """That the kernel takes destination ends that are stale here."""
     if not names:
         return []
-    return [f"{_KERNEL} takes the destination end of {_list(names)} too, since the source end is not stale ({_by(MERGE)}; {PAGE})"]
+    return [f"{THE_KERNEL} takes the destination end of {_list(names)} too, since the source end is not stale ({_by(MERGE)}; {PAGE})"]
 
 
 def _list(names: Sequence[Name]) -> str:

@@ -17,6 +17,7 @@ from ..states import State, is_closed
 from ..words import counted, levels
 from .elsewhere import explain_drop_elsewhere, explain_elsewhere
 from .expiry import explain_overdue
+from .scales import explain_new_scale
 from .windows import explain_way, explain_window
 
 
@@ -39,7 +40,7 @@ def _passed(question: Question, reason: OfState) -> List[str]:
     by_key = f"{state_words(state)} of {node.id} matches it by its {key} key"
     return [
         f"{by_key}; a packet of a state is not tested against rules",
-        *(explain_way(question.lab.setup.kernel, reason, state, question.packet) if question.packet.is_tcp else []),
+        *(explain_way(question, reason, state) if question.packet.is_tcp else []),
         *["it also let the held packet of the state go"] * (reason.name in [it.name for it in node.held]),
         *(_closing(state, question.after.nodes[node.id].states[reason.name]) if question.packet.is_tcp else []),
         *explain_overdue(question, node, state),
@@ -83,6 +84,7 @@ def _judged(question: Question, reason: Judged) -> List[str]:
         lines = [f"{rule} decided{_place(question.rule(node, reason.rule))}", *_but_for_flags(question)]
     elif reason.how == "new":
         lines = [f"no state matched; {rule} passed it, and made state {reason.name}"]
+        lines += explain_new_scale(question.lab.setup.kernel, question.packet)
     elif reason.how == "max":
         names = name_list([it.name for it in states.values() if it.rule == reason.rule and it.name != reason.closed])
         lines = [f"{rule} decided: it may have {counted(int(reason.values[0]), 'state')}, and has {reason.values[1]} now: {names}"]

@@ -19,6 +19,7 @@ from ..merging import is_stale_destination
 from ..pair import Node, other
 from ..words import bulk_status, counted
 from .kernel import PAGE, explain_destinations, explain_takeover, gives_way
+from .lifetimes import explain_lifetimes
 from .questions import Question, name_list
 
 
@@ -93,7 +94,7 @@ def _bad(it: Came) -> str:
 
 
 def _imported(it: Came) -> str:
-    last = f"last used at {it.taken.fate[1]} ms"
+    last = f"last used at {it.taken.last} ms" + f", which is after {it.node.id}'s clock" * ((it.taken.last or 0) > it.node.clock)
     if it.record.kind is not INSERT:
         return f"new: inserted, since {it.node.id} did not know the state; {last}"
     asks = isinstance(it.record.state, Carried) and it.record.state.asks_for_acknowledgement
@@ -102,7 +103,7 @@ def _imported(it: Came) -> str:
 
 def _merged(it: Came) -> str:
     """An update of a known state: each end is taken unless it is stale."""
-    stale, taken, last = it.taken.stale, it.taken.taken, f"last used at {it.taken.fate[2]} ms"
+    stale, taken, last = it.taken.stale, it.taken.taken, f"last used at {it.taken.last} ms"
     why = "; ".join(_staleness(it, end) for end in stale)
     if not stale:
         return f"merged: neither end is behind the one here; {last}"
@@ -173,6 +174,7 @@ def explain_taken(question: Question) -> List[str]:
         *_without_rule(came, question.after.nodes[node.id]),
         *_endless(came),
         *_in_the_kernel(question, came),
+        *_lifetimes(question, ticket),
     ]
 
 
@@ -202,6 +204,13 @@ def _in_the_kernel(question: Question, came: List[Came]) -> List[str]:
     """Where the kernel does otherwise than the profile with these records."""
     stale = [it.name for it in came if it.taken.stale == ("destination",) and not it.taken.goes_together]
     return [*explain_takeover(_in_the_place_of_closed(question.lab, came)), *explain_destinations(stale)]
+
+
+def _lifetimes(question: Question, ticket: int) -> List[str]:
+    """Until when states live by the other rule; nothing where timeouts are not known."""
+    frame = question.history.flight(ticket).frame
+    nodes = (it.nodes[frame.to] for it in (question.pair, question.after))
+    return explain_lifetimes(question.lab.setup, frame, question.explanation.records, *nodes) if question.lab.knows_setup else []
 
 
 def _in_the_place_of_closed(lab: Laboratory, came: List[Came]) -> List[Name]:

@@ -6,16 +6,17 @@ from typing import List, Optional, Tuple
 from .absence import explain_lag
 from .elsewhere import is_same
 from .expiry import explain_overdue
-from .kernel import explain_kernel_window, where_loose, why_inside
+from .kernel import ANSWERING, explain_kernel_window, passes, where_loose, why_inside
 from ..explanations import Edge, OfState
 from ..kernels import PROFILE, Kernel
 from ..language.commands import KERNEL
 from ..language.names import level_name
 from ..language.packets import CIRCLE, PacketEvent
-from ..language.setups import LOOSE, RESET, WINDOW
+from ..language.setups import LOOSE, RESET, SCALE, WINDOW
 from ..states import End, State
 from ..tracking import ends_of, judged, segment
 from .questions import Question, peer_of, state_words
+from .scales import BY as BY_SCALE, explain_answered_scale, explain_kept_in_units, explain_old_segment
 
 # The rules that ask the number of a reset alone.
 _ASKING = Kernel((WINDOW, RESET))
@@ -36,14 +37,22 @@ def explain_window(question: Question, reason: OfState) -> List[str]:
         f"source end: {_end_words(state, state.source)}",
         f"destination end: {_end_words(state, state.destination)}",
         *(question.paint.dim(f"holds: {text}") for missed, text in words if missed is None),
+        *explain_kept_in_units(question, state),
         *explain_kernel_window(kernel, state, packet),
         *explain_overdue(question, question.table(packet.node), state),
         *_at_peer(question, state),
     ]
 
 
-def explain_way(kernel: Kernel, reason: OfState, state: State, packet: PacketEvent) -> List[str]:
-    """By which rule of the kernel a packet of TCP passes that would be dropped otherwise; nothing if it passes by the profile."""
+def explain_way(question: Question, reason: OfState, state: State) -> List[str]:
+    """By which rule of the kernel a packet of TCP passes that would be dropped otherwise, if it would; what it makes of the scales of the
+    state, and whether it passes by that of a SYN alone."""
+    kernel, packet = question.lab.setup.kernel, question.packet
+    way = _way(kernel, reason, state, packet)
+    return [*way, *explain_answered_scale(kernel, state, packet), *([] if way else explain_old_segment(question, state))]
+
+
+def _way(kernel: Kernel, reason: OfState, state: State, packet: PacketEvent) -> List[str]:
     if reason.passes_loosely:
         return [
             *_missed(kernel, reason, state, packet),
@@ -52,7 +61,9 @@ def explain_way(kernel: Kernel, reason: OfState, state: State, packet: PacketEve
         ]
     missed = _missed(PROFILE, judged(PROFILE, state, packet), state, packet)
     lines = [f"by the profile a packet with these numbers is dropped: {text}" for text in missed[:1]]
-    if missed:
+    if missed and kernel.has(SCALE) and not passes(judged(kernel.without(SCALE), state, packet)):
+        lines.append(f"by {BY_SCALE} it passes: {ANSWERING}")
+    elif missed:
         lines.append(f"by {KERNEL.word} {WINDOW.word} it passes: {why_inside(state, packet, reason.reset is not None)}")
     if reason.is_eased and reason.reset is None and "R" in packet.flags:
         lines += _any_number(state, packet)
@@ -92,8 +103,9 @@ def _edge(which: str, kernel: Kernel, reason: OfState, state: State, packet: Pac
         return f"{end} {beyond} {bound} (hi of the {name} end)"
     if which == "left":
         beyond = "not below" if edge.missed is None else f"{edge.missed} below"
-        # (an end that had been silent begins with this packet)
-        first = segment(kernel, sender, receiver, packet).sender.lo
+        # (an end that had been silent begins with this packet, and the other one's scale may be void by it)
+        it = segment(kernel, sender, receiver, packet)
+        first, receiver = it.sender.lo, it.receiver
         window = (first - bound) % CIRCLE
         scaled = "" if window == receiver.window else f" ({receiver.window} at scale {receiver.scale})"
         less = f"lo {first} of the {name} end less the window {window}{scaled} of the {other} end{', mod 2^32' * (first < window)}"

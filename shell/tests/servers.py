@@ -180,9 +180,10 @@ class Proved(NamedTuple):
 
 
 @contextlib.contextmanager
-def proved_server(sessions: int, setup: Sequence[str] = RULES, faults: int = subprocess.DEVNULL) -> Iterator[Proved]:
-    """The program's own server, once it listens. What it reports on standard error is lost, or can be read where that is a pipe."""
-    port = free_port()
+def proved_server(sessions: int, setup: Sequence[str] = RULES, faults: int = subprocess.DEVNULL, port: int = 0) -> Iterator[Proved]:
+    """The program's own server, once it listens, at this port or at a free one. What it reports on standard error is lost, or can be read
+    where that is a pipe."""
+    port = port or free_port()
     words = [program(), "serve", "--sessions", str(sessions), "--port", str(port)]
     with subprocess.Popen(words, stdin=subprocess.PIPE, stdout=subprocess.PIPE, stderr=faults, text=True) as its:
         assert its.stdin and its.stdout

@@ -95,6 +95,12 @@ class BetweenNodes(unittest.TestCase):
         apart = "agree, but apart: 1.1  last used 60 s | 3 s ago, expired | expires in 57 s"
         self.assertEqual(told, ["a and b agree in 1 state", apart])
 
+    def test_a_last_use_that_is_yet_to_come(self) -> None:
+        """By the kernel's rule `expiry` b has a state for as long as a has said."""
+        states = (f"state a 1.1 {UDP} {SINGLE} udp.first 58000 0 - 0 -", f"state b 1.1 {UDP} {SINGLE} udp.first 600000 0 - 0 57000")
+        apart = "agree, but apart: 1.1  last used 2 s ago | 540 s ahead of the clock, expires in 58 s | 600 s"
+        self.assertEqual(diff(*states, clock=60000), ["a and b agree in 1 state", apart])
+
     def test_one_node_has_shorter_timeouts(self) -> None:
         # Node a has three states, above `astart`, and half of each timeout: 30 of 60 s. Node b has two of them, and all of it.
         setup = Setup.of(["set astart 2", "set aend 4", "rule a pass out", "rule b pass out"])

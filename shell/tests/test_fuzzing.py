@@ -60,9 +60,10 @@ search main 3 90 apart; 1 tick a 2; 1 packet b out udp 10.0.0.1:01000 192.0.2.9:
 search main 2 90 apart; 1 flush a; 1 tick a 5
 """
 # A pair with all rules of the kernel: an acknowledgement far off, an update whose destination is stale, a reset with another number than the
-# next; and after a close a FIN that passes loosely, and one that does not.
+# next; and after a close a FIN that passes loosely, and one that does not. Then a connection whose ends offer the scale 7, its insertion, which
+# comes to another rule, and an update that is sent a second after its packet.
 KERNEL_SCRIPT = """kernel all
-rule a pass any flags any
+rule a pass any flags any timeout tcp.opening 600
 rule b pass any flags any
 open
 step main packet a out tcp 10.0.0.1:1000 192.0.2.9:80 S 100 0 60000 0
@@ -82,6 +83,18 @@ step main packet a in tcp 192.0.2.9:80 10.0.0.1:1000 A 501 112 60000 0
 step main packet a in tcp 192.0.2.9:80 10.0.0.1:1000 FA 501 112 60000 61000
 step main packet a in tcp 192.0.2.9:80 10.0.0.1:1000 FA 129000 112 60000 1000
 show main
+step main tick b 7000
+step main packet a out tcp 10.0.0.1:1001 192.0.2.9:80 S 100 0 65535 0 7
+step main packet a in tcp 192.0.2.9:80 10.0.0.1:1001 SA 4000000 101 30001 0 7
+step main packet a in tcp 192.0.2.9:80 10.0.0.1:1001 A 3000000 101 512 1000
+step main flush a
+step main deliver 4
+step main tick a 1000
+step main packet a out tcp 10.0.0.1:1001 192.0.2.9:80 A 101 4000001 512 0
+step main tick a 2000
+step main flush a
+step main deliver 5
+show main
 """
 # The same of it.
 KERNEL_LIES = (
@@ -100,6 +113,16 @@ KERNEL_LIES = (
     ("4 - 60000 501 60501 tcp.established", "4 - 60000 501 60502 tcp.established", 0),
     ("step pass 1.1", "step drop window", 2),
     ("step drop window", "step pass 1.1", 0),
+    # The windows of SYNs are kept in units, and count at both scales; the old segment is too far back.
+    ("left 4000000 3934464 -", "left 4000000 3934465 -", 0),
+    ("ack 101 4286386916 67135 -", "ack 101 4294900361 67135 -", 0),
+    ("left 3000000 3934465 934465", "left 3000000 3934465 -", 0),
+    ("2 7 512 100 102 0 - 0 0 0 tcp.first", "2 7 65535 100 102 0 - 0 0 0 tcp.first", 0),
+    ("4 7 512 100 30181 2 7 235 4000001 4065537", "4 7 512 100 30181 2 7 30001 4000001 4065537", 0),
+    # b has 30 seconds for what a says has 600 left, and its clock is at 7000. A merge is a use.
+    ("imported 577000", "imported 7000", 0),
+    ("imported 577000", "imported 576000", 0),
+    ("merged - 7000 both", "merged - 5000 both", 0),
 )
 # The first events of a chance, where packets are near their connections.
 FIRST_EVENTS = [
@@ -428,7 +451,8 @@ class Setups(unittest.TestCase):
             ("set timeout udp.first", "line 4"),
             ("kernel", "line 4"),
             ("kernel loose\nkernel all reset", ""),
-            ("kernel loose scale", "line 3"),
+            ("kernel loose scale\nkernel expiry", ""),
+            ("kernel loose max", "line 3"),
             (f"rule a pass out {rdr}\nkernel windows", "line 3"),
         ):
             self.assertEqual(read(f"{lines}\nopen\n").fault, fault, lines)

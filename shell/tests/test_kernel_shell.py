@@ -83,7 +83,7 @@ class Kernels(Dialogue):
         self.said(shell, *RULES)
         self.assertEqual(self.said(shell, "kernel"), ["kernel window loose", ANY_NUMBER])
         self.assertFalse(shell.has_faults)
-        self.assertEqual(self.said(self.shell("kernel all", *RULES), "kernel"), ["kernel window loose merge reset"])
+        self.assertEqual(self.said(self.shell("kernel all", *RULES), "kernel"), ["kernel window loose merge expiry reset scale"])
         self.assertEqual(self.said(self.shell(*RULES), "kernel"), ["the profile; no switch is on"])
 
     def test_who_opens_a_pair_without_the_rule_for_resets_is_told(self) -> None:
@@ -96,11 +96,11 @@ class Kernels(Dialogue):
     def test_a_faulty_line_is_explained_and_not_taken(self) -> None:
         shell = self.shell()
         self.assertEqual(
-            self.said(shell, "kernel loose scale"),
+            self.said(shell, "kernel loose revive"),
             [
-                "`scale` is no rule of the kernel: expected `window`, `loose`, `merge`, `reset` or `all`",
-                "  kernel loose scale",
-                "               ^^^^^",
+                "`revive` is no rule of the kernel: expected `window`, `loose`, `merge`, `expiry`, `reset`, `scale` or `all`",
+                "  kernel loose revive",
+                "               ^^^^^^",
                 "wanted: kernel WORD..",
                 "this line is left out of the setup: bad 3 Unknown",
             ],

@@ -5,7 +5,7 @@ from __future__ import annotations
 import unittest
 from . import reasons
 from .test_kernel_reasons import FAR_PACKET, HIGH, KNOWN, LEAST, MOST, PACKET, UNHEARD
-from .test_reasons import FAR_FIN, FIN, FLUSH, SYN_ACK, Cases
+from .test_reasons import FAR_FIN, FIN, FLUSH, OPEN, QUERY, SYN_ACK, SYNC, Cases
 from .test_record_reasons import ACKED, ANSWERED, TAKES
 
 # The source's lo is 5000, and its hi 65001.
@@ -17,8 +17,25 @@ ANY_NUMBER = "by kernel window without reset a reset passes with any number; wit
 NEXT = "(by kernel reset a reset needs lo 5000 of the source end, or one beside it)"
 NOT_RENEWED = "such a packet does not renew the state: it was last used at 0 ms, as {}"
 EASED = "it has no data, so by kernel window it is judged by what it acknowledges alone"
+# What the kernel, and what this pair by `kernel scale`, makes of the window of a SYN.
+KEEPS = "FreeBSD's kernel, as far as we know its sources, keeps its window {} as {}, in units of its scale {} (by kernel scale; docs/REAL.md)"
+KEPT = "by kernel scale its window {} is kept as {}, in units of its scale {}"
+# A client that begins at 100 offers 65535 and the scale 7; so does the server, which begins at 4000000. Then the client offers 512 units.
+OFFER = "rule a pass out\nopen\n" + PACKET + "S 100 0 65535 0 7\n"
+ANSWER = FAR_PACKET + "SA 4000000 101 65535 0 7\n"
+AGREED = OFFER + ANSWER + PACKET + "A 101 4000001 512 0\n"
+OLD = FAR_PACKET + "A 3000000 101 512 1000"
+# The server acknowledges 100000 bytes less than the client has sent: 67035 is the most at no scale.
+FAR_ANSWER = "rule a pass out\nopen\n" + PACKET + "S 1000000 0 60000 0 7\n" + FAR_PACKET + "SA 500 900000 60000 0 7"
+FAR_ACK = "ack 900000 is 32965 below 932965 (lo 1000000 of the source end less 67035)"
 # B has heard 1000 bytes more of the destination than a, and a 1000 more of the source.
 CROSSED = ANSWERED + "step main deliver 2\nstep main packet b in tcp 192.0.2.9:80 10.0.0.1:1000 A 9001 5001 60000 1000\n" + ACKED + FLUSH
+
+
+# A's update of a query is sent 20 s after its packet, of the 30 that its class has; b's clock stands at 7 s.
+LATE = OPEN + QUERY + SYNC + QUERY + "step main tick a 20000\nstep main tick b 7000\n" + FLUSH + "step main deliver 2"
+# The rule of a gives 600 s to what has 60 at b.
+LONGER = "rule a pass out timeout udp.first 600\nrule b pass out\nopen\n" + QUERY + SYNC
 
 
 def dropped(text: str) -> str:
@@ -56,6 +73,7 @@ PASSES: Cases = {
         [
             dropped("seq 9000 ends at 9001, 9000 above 1 (hi of the destination end)"),
             "by kernel window it passes: an end that was not heard begins with its first packet, whatever its level",
+            KEEPS.format(60000, 7500, 3),
         ],
     ),
     "loosely, as the other end was not heard": (
@@ -74,6 +92,20 @@ PASSES: Cases = {
             NOT_RENEWED.format("tcp.finwait"),
         ],
     ),
+    "the window of a SYN that answers a scale": ("kernel scale\n" + OFFER + ANSWER.strip(), [KEPT.format(65535, 512, 7)]),
+    "an answer without a scale": (
+        "kernel scale\n" + OFFER + FAR_PACKET + "SA 500 101 60000 0",
+        ["it offers no scale, so by kernel scale that of the source end is void: its window is 65535 now"],
+    ),
+    "an answer that counts at its scale": (
+        "kernel scale\n" + FAR_ANSWER,
+        [
+            dropped(FAR_ACK),
+            "by kernel scale it passes: the answer to a scale, which offers one too, counts at both scales, although it has a SYN",
+            KEPT.format(60000, 469, 7),
+        ],
+    ),
+    "a segment that is not too old": ("kernel scale\n" + AGREED + OLD.replace("3000000", "3940000"), []),
     "loosely, a reset with another number": (
         "kernel loose reset\n" + KNOWN + FIN + FAR_FIN + FAR_PACKET + "R 15554 5002 100 100",
         [
@@ -113,6 +145,14 @@ DROPS: Cases = {
             f"holds: seq 5001 is between 4999 and 5001 {NEXT}",
         ],
     ),
+    "too old for a window that is kept in units": (
+        "kernel scale\n" + AGREED + OLD,
+        [
+            "seq 3000000 begins 934465 below 3934465 (lo 4000001 of the destination end less the window 65536 (512 at scale 7) of the source end)",
+            "by kernel scale the window 65535 of the SYN of the source end was kept as 512, in units of the scale 7; by the profile it counts as "
+            "65535 such units, and this packet passes",
+        ],
+    ),
     "too far after what may pass loosely": (
         "kernel loose\n" + UNHEARD + PACKET + f"PA {MOST - 999} 1 100 1000",
         [
@@ -127,6 +167,16 @@ DROPS: Cases = {
             f"by kernel loose, {WHERE_UNHEARD}; this one begins 1 before that",
         ],
     ),
+}
+
+# Where both rules keep the same, or the profile's is not known to decide, nothing is said of scales.
+ALIKE: Cases = {
+    "a SYN at the scale 0": (OFFER.replace(" 7\n", " 0"), []),
+    "a SYN without a scale": (OFFER.replace(" 7\n", ""), []),
+    "an answer to none": (OFFER.replace(" 7\n", "\n") + ANSWER.strip(), []),
+    "a segment that both pass": (AGREED + OLD.replace("3000000", "3940000"), []),
+    "a later packet has offered as much": (AGREED + PACKET + "A 101 4000001 65535 0\n" + OLD, []),
+    "one that both drop": (AGREED + FAR_PACKET + "A 3000000000 101 512 1000", []),
 }
 
 # What is said of the kernel where a packet is dropped by some of its rules.
@@ -156,6 +206,21 @@ RECORDS: Cases = {
             "1. short update 1.1: merged, counted as stale: by kernel merge the destination end is taken with the source end, although "
             "the destination end's lo 10001 here is after the 9001 that came; last used at 0 ms; b has its own state queued for a already "
             "(short update)"
+        ],
+    ),
+    "a use now": (
+        "kernel expiry\n" + LATE,
+        [
+            "1. short update 1.1: merged: neither end is behind the one here; last used at 7000 ms",
+            "by kernel expiry 1.1 lives until 37000 ms, and by the profile until 30000 ms",
+        ],
+    ),
+    "left of a timeout that is not cut": (
+        "kernel expiry\n" + LONGER,
+        [
+            "1. insert 1.1: new: inserted; last used at 540000 ms, which is after b's clock",
+            "without the number of its rule, since the sender's rules are not those of b: 1.1",
+            "by kernel expiry 1.1 lives until 600000 ms, and by the profile until 60000 ms",
         ],
     ),
     "neither": (
@@ -192,6 +257,31 @@ class Ways(unittest.TestCase):
                 self.assertIn("a packet of a state is not tested against rules", lines[0])
                 self.assertEqual(lines[1 : 1 + len(wanted)], wanted)
                 self.assertNotIn("kernel", "".join(lines[1 + len(wanted) :]))
+
+    def test_a_segment_without_data_passes_by_another_rule(self) -> None:
+        """So the kernel drops no such segment, however old."""
+        self.assertEqual([it for it in reasons(AGREED + OLD.replace("512 1000", "512 0")) if "kernel" in it], [])
+
+    def test_an_old_segment_that_the_kernel_drops(self) -> None:
+        kept = "it keeps the window 65535 of the SYN of the source end as 512, in units of the scale 7"
+        drops = f"{kept}, and seq 3000000 begins 934465 below what that allows (by kernel scale; docs/REAL.md)"
+        for line in ("", "kernel window loose reset\n"):
+            said = [it for it in reasons(line + AGREED + OLD) if "kernel" in it]
+            self.assertEqual(said, [f"FreeBSD's kernel, as far as we know its sources, drops this packet: {drops}"])
+
+    def test_what_a_syn_makes_of_scales(self) -> None:
+        for script, wanted in ((OFFER.strip(), KEEPS), (OFFER + ANSWER.strip(), KEEPS)):
+            self.assertEqual([it for it in reasons(script) if "kernel" in it], [wanted.format(65535, 512, 7)])
+        self.assertEqual([it for it in reasons("kernel scale\n" + OFFER.strip()) if "kernel" in it], [KEPT.format(65535, 512, 7)])
+        # What passes only by it.
+        counts = "passes this packet: the answer to a scale, which offers one too, counts at both scales, although it has a SYN"
+        self.assertIn(f"FreeBSD's kernel, as far as we know its sources, {counts} (by kernel scale; docs/REAL.md)", reasons(FAR_ANSWER))
+
+    def test_where_both_rules_keep_the_same(self) -> None:
+        for name, (script, wanted) in ALIKE.items():
+            for line in ("", "kernel scale\n"):
+                with self.subTest(name, line=line):
+                    self.assertEqual([it for it in reasons(line + script) if "scale" in it and ("kernel" in it or "profile" in it)], wanted)
 
     def test_packets_that_are_dropped(self) -> None:
         for name, (script, wanted) in DROPS.items():

@@ -9,7 +9,7 @@ from ..helps import about
 from ..kernels import PROFILE, Kernel
 from ..language.lines import check_line, wanted_form
 from ..language.readers import LineFault
-from ..language.setups import LOOSE, MERGE, RESET, SWITCHES, WINDOW, Switch
+from ..language.setups import EXPIRY, LOOSE, MERGE, RESET, SCALE, SWITCHES, WINDOW, Switch
 from ..reasons.faults import explain_fault
 from ..setups import Setup
 from . import TOP
@@ -30,7 +30,7 @@ def fault_of(line: str) -> Optional[Tuple[str, Optional[int]]]:
 
 class Lines(unittest.TestCase):
     def test_one_word_at_least_and_each_known(self) -> None:
-        for line in ("kernel window", "kernel all", "kernel reset merge loose window", "kernel loose loose", "kernel all window all"):
+        for line in ("kernel window", "kernel all", "kernel scale expiry", "kernel reset merge loose window", "kernel loose loose", "kernel all window all"):
             self.assertIsNone(fault_of(line), line)
         for line, fault in (
             ("kernel", ("Missing", 1)),
@@ -39,7 +39,7 @@ class Lines(unittest.TestCase):
             ("kernel none", ("Unknown", 1)),
             ("kernel 1", ("Unknown", 1)),
             ("kernel merge #", ("Unknown", 2)),
-            ("kernel scale", ("Unknown", 1)),
+            *((f"kernel {it}", ("Unknown", 1)) for it in ("takeover", "rule", "max", "clear", "revive", "icmp")),
         ):
             self.assertEqual(fault_of(line), fault, line)
 
@@ -56,14 +56,14 @@ class Lines(unittest.TestCase):
         )
         self.assertEqual(
             explain_fault("kernel", "line 4 Missing")[:3],
-            ["the rule of the kernel is missing: window, loose, merge, reset or all", "  kernel", "         ^"],
+            ["the rule of the kernel is missing: window, loose, merge, expiry, reset, scale or all", "  kernel", "         ^"],
         )
         self.assertEqual(wanted_form(["kernel"]), ["kernel WORD.."])
 
 
 class Setups(unittest.TestCase):
     def test_lines_add_up_in_any_order(self) -> None:
-        every = (WINDOW, LOOSE, MERGE, RESET)
+        every = (WINDOW, LOOSE, MERGE, EXPIRY, RESET, SCALE)
         cases: List[Tuple[List[str], Tuple[Switch, ...]]] = [
             ([], ()),
             (["kernel merge"], (MERGE,)),
@@ -71,7 +71,8 @@ class Setups(unittest.TestCase):
             (["kernel reset", "rule a pass out", "kernel loose", "kernel reset"], (LOOSE, RESET)),
             (["kernel all"], every),
             (["kernel merge all merge"], every),
-            (["kernel reset loose", "kernel merge window"], every),
+            (["kernel scale", "kernel expiry"], (EXPIRY, SCALE)),
+            (["kernel scale reset loose", "kernel expiry merge window"], every),
         ]
         for lines, wanted in cases:
             self.assertEqual(kernel_of(*lines).switches, wanted, lines)
@@ -92,12 +93,20 @@ class Words(unittest.TestCase):
         for words, line, short, by in (
             (["loose", "window"], "kernel window loose", "kernel window loose", "by kernel window, loose"),
             (["merge"], "kernel merge", "kernel merge", "by kernel merge"),
-            (["all"], "kernel window loose merge reset", "kernel all", "by kernel all"),
-            (["reset", "merge", "loose", "window"], "kernel window loose merge reset", "kernel all", "by kernel all"),
+            (["all"], "kernel window loose merge expiry reset scale", "kernel all", "by kernel all"),
+            ([*reversed(SWITCHES)], "kernel window loose merge expiry reset scale", "kernel all", "by kernel all"),
+            (
+                ["reset", "merge", "loose", "window"],
+                *("kernel window loose merge reset", "kernel window loose merge reset", "by kernel window, loose, merge, reset"),
+            ),
         ):
             it = PROFILE.with_words(words)
             self.assertEqual((it.line, it.short, it.by, it.is_profile), (line, short, by, False))
         self.assertEqual((PROFILE.by, PROFILE.is_profile), ("by the profile", True))
+
+    def test_one_can_be_taken_away(self) -> None:
+        for words, switch, wanted in (("all", EXPIRY, "window loose merge reset scale"), ("scale", SCALE, ""), ("loose", SCALE, "loose")):
+            self.assertEqual(PROFILE.with_words(words.split()).without(switch), PROFILE.with_words(wanted.split()))
 
     def test_what_to_know_of_resets(self) -> None:
         known = "so it did before FreeBSD 13.2-RELEASE-p7, as far as we know its sources"

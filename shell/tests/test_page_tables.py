@@ -98,7 +98,8 @@ def small_of(state: State, node: Node, setup: Setup) -> List[str]:
     """What is said of a state in small words, in whole seconds of its node's clock."""
     left = expires_at(setup, node, state) - node.clock
     said = [f"expires in {left // 1000} s" if left > 0 else "expired"]
-    said += [f"last used {(node.clock - state.last) // 1000} s ago", state.timeout_class]
+    is_past, apart = state.last <= node.clock, abs(node.clock - state.last) // 1000
+    said += [f"last used {apart} s {'ago' if is_past else 'ahead of the clock'}", state.timeout_class]
     said += [FLAGS[state.flags]] if state.flags != "-" else []
     said += [f"update count {state.updates}"] if state.updates else []
     return said + ([f"changed by the peer {(node.clock - state.peer) // 1000} s ago"] if state.peer is not None else [])
@@ -214,6 +215,13 @@ class Moments(PageCase):
         # With a limit of one state the adaptive end is 1, and the lone state has no time left.
         seen = self.walk(f"set states 1\n{RULES}step main {QUERY}\nstep main tick a 1\n", "main", range(3))
         self.assertEqual([it["a"]["1.1"]["small"][0] for it in (seen[1], seen[2])], ["expired", "expired"])
+
+    def test_last_uses_that_are_yet_to_come(self) -> None:
+        # By the kernel's rule b has the state for the 600 seconds that a has said.
+        rules = "kernel expiry\nrule a pass out timeout udp.first 600\nrule b pass out\nopen\n"
+        events = (QUERY, "flush a", "deliver 1", "tick b 1500", QUERY, "flush a", "deliver 2")
+        seen = self.walk(rules + "".join(f"step main {it}\n" for it in events), "main", range(8))
+        self.assertEqual([seen[it]["b"]["1.1"]["small"][1] for it in (3, 4)], [f"last used {it} s ahead of the clock" for it in (540, 538)])
 
     def test_random_jumps(self) -> None:
         chance = random.Random(7)

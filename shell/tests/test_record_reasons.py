@@ -15,6 +15,7 @@ ANSWER = "step main packet b in udp 192.0.2.9:53 10.0.0.1:1000 80\n"
 ANSWERED = OPEN + SYN + SYNC + SYN_ACK + FLUSH
 # What the kernel does with a record instead.
 TAKES = "FreeBSD's kernel, as far as we know its sources, takes {}"
+COUNTS = "FreeBSD's kernel, as far as we know its sources, counts the last use otherwise: by kernel expiry {} (docs/REAL.md)"
 # A connection is closed at both nodes, and the next one has its ports: a frame inserts the new state, and deletes the old one.
 CLOSED_THEN_NEW = OPEN + SYN + SYN_ACK + RESET + SYNC + SYN + FLUSH + "step main deliver 2"
 # B restarts and asks; the start comes with 1.1 in frame 3, which is lost, and the end with 1.2 in frame 4, which is in flight.
@@ -46,6 +47,42 @@ CASES: Cases = {
         ["1. insert acknowledgement 1.1: unknown: a has no such state, and passes over it"],
     ),
     "merged": (ANSWERED + "step main deliver 2", ["1. short update 1.1: merged: neither end is behind the one here; last used at 0 ms"]),
+    "merged, by an update that was sent late": (
+        # 20 s after the packet, of 30; b's clock stands at 7 s, and what would be before 0 is 0.
+        OPEN + QUERY + SYNC + QUERY + "step main tick a 20000\nstep main tick b 7000\n" + FLUSH + "step main deliver 2",
+        [
+            "1. short update 1.1: merged: neither end is behind the one here; last used at 0 ms",
+            COUNTS.format("1.1 lives until 37000 ms, and not until 30000 ms"),
+        ],
+    ),
+    "merged, by one that was sent a moment late": (
+        OPEN + QUERY + SYNC + QUERY + "step main tick a 1\nstep main tick b 7000\n" + FLUSH + "step main deliver 2",
+        ["1. short update 1.1: merged: neither end is behind the one here; last used at 6000 ms"],
+    ),
+    "new, of a longer timeout": (
+        "rule a pass out timeout udp.first 600\nrule b pass out\nopen\n" + QUERY + SYNC,
+        [
+            "1. insert 1.1: new: inserted; last used at 0 ms",
+            COUNTS.format("1.1 lives until 600000 ms, and not until 60000 ms"),
+        ],
+    ),
+    "new, with nothing left": (
+        # A bulk update brings what has expired at a.
+        OPEN + QUERY + "step main tick a 100000\nstep main tick b 100000\n" + SYNC,
+        [
+            "1. insert 1.1: new: inserted; last used at 40000 ms",
+            COUNTS.format("1.1 lives until 160000 ms, and not until 100000 ms"),
+        ],
+    ),
+    "new, where timeouts are shortened": (
+        # Of 60 s a has 30, among three states; b 60 when the first two come, 45 at the third, and then 30.
+        "set astart 1\nset aend 5\n" + OPEN + QUERY + SECOND + SECOND.replace("0.2:", "0.3:") + "step main tick b 100000\n" + SYNC,
+        [
+            *(f"{it}. insert 1.{it}: new: inserted; last used at 70000 ms" for it in (1, 2)),
+            "3. insert 1.3: new: inserted; last used at 85000 ms",
+            COUNTS.format("1.3 lives until 100000 ms, and not until 115000 ms"),
+        ],
+    ),
     "stale by sequence and level": (
         ANSWERED + ACKED + FLUSH + "step main deliver 3\nstep main deliver 2",
         [

@@ -27,6 +27,9 @@ FIRST, LONGER = 0.02, 0.3
 PROMPT = 10.0
 # How long a browser may take until all that it was told to send is sent.
 SENDING = 1.0
+# Methods that need the whole line of their request: a word of sessions, and what begins as a comment. And a length that no line of a session has.
+HARDER = ("step", "follow", "#x", "#")
+LONG = 600
 
 
 def request(method: str = "POST", target: str = "/", body: str = LINES) -> bytes:
@@ -59,8 +62,8 @@ class Turned(Followers):
 
     proved: Proved
 
-    def serve(self, sessions: int = 2, setup: Sequence[str] = RULES) -> int:
-        self.proved = self.ends.enter_context(proved_server(sessions, setup, subprocess.PIPE))
+    def serve(self, sessions: int = 2, setup: Sequence[str] = RULES, port: int = 0) -> int:
+        self.proved = self.ends.enter_context(proved_server(sessions, setup, subprocess.PIPE, port))
         self.proved.process.stdin = None
         return self.proved.port
 
@@ -154,14 +157,26 @@ class Requests(Turned):
             with self.subTest(f"{method} {target}"):
                 self.assert_turned_away(request(method, target))
 
-    def test_a_method_of_the_most_bytes(self) -> None:
-        self.assert_turned_away(request("M" * 32))
+    def test_a_method_that_a_line_of_a_session_begins_with(self) -> None:
+        for method in HARDER:
+            for target in ("/", "/x", f"/{'x' * LONG}"):
+                with self.subTest(f"{method} {target}"):
+                    self.assert_turned_away(request(method, target))
+
+    def test_a_long_method(self) -> None:
+        for method in ("M" * 33, "M" * LONG, f"#{'x' * LONG}"):
+            with self.subTest(method):
+                self.assert_turned_away(request(method))
 
     def test_its_bytes_come_one_by_one(self) -> None:
-        self.assert_turned_away(*(bytes([it]) for it in request()))
+        for method in ("POST", "step"):
+            with self.subTest(method):
+                self.assert_turned_away(*(bytes([it]) for it in request(method)))
 
     def test_only_its_first_bytes_come(self) -> None:
-        self.assert_turned_away(b"POST /")
+        for text in (b"POST /", b"step / HTTP/1.1\r", b"# / HTTP/1.1\n", b"step /" + b"x" * 507, b"#" * 513):
+            with self.subTest(text):
+                self.assert_turned_away(text)
 
     def test_many_requests_come_first(self) -> None:
         port = self.serve()
@@ -195,6 +210,13 @@ class Requests(Turned):
         text = request()
         self.assert_used_up(2 * FIRST, *(bytes([it]) for it in text[:6]), text[6:])
 
+    def test_its_first_line_comes_slowly(self) -> None:
+        for method, target, parts in (("step", "/", (2, 5, 6, 10, 14, 15)), ("#", "/x", (1, 2, 12)), ("#x" * LONG, "/", (300, 512))):
+            with self.subTest(method):
+                text = request(method, target)
+                ends = (*parts, len(text))
+                self.assert_used_up(2 * FIRST, *(text[first:last] for first, last in zip((0, *ends), ends)))
+
     def test_a_request_long_after_all_seats_are_taken(self) -> None:
         port = self.serve()
         stranger = self.stranger(port)
@@ -215,20 +237,22 @@ class Requests(Turned):
         self.assertEqual(self.end([]), (["closed 0"], [REPORT] * 2, 0))
 
     def test_what_is_no_request(self) -> None:
-        answered = (" POST /", "POST\t/", "POST  /", f"{'M' * 33} /", "POST", "POST x/", "/")
-        for line in ("# /", "#POST /", *answered):
+        unknown = (" POST /", "POST\t/", "POST  /", "POST", "POST x/", "/", "step / HTTP/1.1 x", "step /x HTTP/2", "x" * 512, " / HTTP/1.1")
+        comments = ("# /", "#POST /", "# /comment", "# / HTTP/1.1 is what a browser sends", "# /x and /y HTTP/1.1", f"# {'x' * LONG}", "#" * 512)
+        answers = {**{it: ["bad 3 Unknown"] for it in unknown}, **{it: [] for it in comments}}
+        answers.update({"step /x": ["bad 4 Missing"], "show /": ["refused 1 NoBranch"], f"x {'x' * LONG}": ["bad 1 Long"]})
+        for line, faults in answers.items():
             with self.subTest(line):
                 port = self.serve()
                 with self.held():
                     clients = [self.stranger(port), self.stranger(port)]
                     clients[0].sendall(f"{line}\n{VIEW}\n".encode())
-                faults = [] if line.startswith("#") else ["bad 3 Unknown"]
                 with clients[0].makefile("r") as lines:
                     self.assertEqual([next(lines).rstrip("\n") for _ in faults], faults)
-                    self.assertEqual(commands_of(next(lines)), 0)
+                    self.assertEqual(commands_of(next(lines)), int(line.startswith("show")))
                 for it in clients:
                     it.close()
-                self.assertEqual(self.end([]), (["closed 0"], [], 0))
+                self.assertEqual(self.end([]), ([f"closed {int(line.startswith('show'))}"], [], 0))
 
     def test_a_request_after_other_lines(self) -> None:
         port = self.serve()
@@ -277,7 +301,9 @@ FAILED = ["POST failed", "PUT failed", "step failed"]
 
 
 class Site(http.server.BaseHTTPRequestHandler):
-    """Where the page is from."""
+    """Where the page is from. A connection over which nothing comes, as browsers open for later, does not last."""
+
+    timeout = 0.2
 
     def do_GET(self) -> None:
         body = PAGE.encode()
@@ -291,6 +317,68 @@ class Site(http.server.BaseHTTPRequestHandler):
         """Logs nothing."""
 
 
+class Sites(http.server.ThreadingHTTPServer):
+    """A site whose connections have ended once it is closed."""
+
+    daemon_threads = False
+
+
+@contextlib.contextmanager
+def site_of() -> Iterator[int]:
+    """The port of a site that has the page."""
+    with Sites(("127.0.0.1", 0), Site) as site:
+        threading.Thread(target=site.serve_forever, daemon=True).start()
+        try:
+            yield site.server_address[1]
+        finally:
+            site.shutdown()
+
+
+class OwnPages(Turned):
+    """A page of the server's own origin in a browser, as one has to which DNS rebinding gave it. It may choose any method, unasked."""
+
+    browser: Browser
+
+    @classmethod
+    def setUpClass(cls) -> None:
+        cls.browser = driver_of_module().browser()
+
+    def serve_own(self) -> str:
+        """Begins a server at the port that the page came from, whose address it returns."""
+        with site_of() as port:
+            self.browser.open(f"http://127.0.0.1:{port}/")
+        self.serve(port=port)
+        return f"http://127.0.0.1:{port}"
+
+    def assert_sent(self, address: str, targets: Sequence[str], tried: List[str]) -> None:
+        """That the browser has sent all of it, and heard that it failed."""
+        self.browser.wait_until("window.tried.length === arguments[0]", PROMPT, len(tried))
+        self.assertEqual(sorted(self.browser.evaluate("window.tried")), sorted(tried))
+        requests = self.browser.requests()
+        for it in {*targets}:
+            self.assertGreaterEqual(requests.count(f"{address}{it}"), targets.count(it))
+
+    def assert_turned_away(self, methods: Sequence[str], target: str = "/x") -> None:
+        """That none of the page's requests by these methods is taken."""
+        address = self.serve_own()
+        with self.held():
+            self.browser.evaluate("arguments[0].forEach(method => send(arguments[1], {method}))", [*methods], target)
+            time.sleep(SENDING)
+        self.assert_sent(address, [target] * len(methods), [f"{it} failed" for it in methods])
+        clients = self.clients(self.proved.port, 2)
+        self.assert_nothing_taken(clients)
+        self.assert_ends(clients, len(methods))
+
+    def test_methods_that_a_line_of_a_session_begins_with(self) -> None:
+        self.assert_turned_away(HARDER)
+
+    def test_long_methods(self) -> None:
+        self.assert_turned_away(("M" * 33, "M" * LONG, f"#{'x' * LONG}"))
+
+    def test_a_long_target(self) -> None:
+        self.assert_turned_away(HARDER, f"/{'x' * LONG}")
+
+
 class Pages(Turned):
     """A page of another origin in a browser."""
 
@@ -300,16 +388,14 @@ class Pages(Turned):
     @classmethod
     def setUpClass(cls) -> None:
         cls.browser = driver_of_module().browser()
-        site = http.server.ThreadingHTTPServer(("127.0.0.1", 0), Site)
-        cls.addClassCleanup(site.server_close)
-        threading.Thread(target=site.serve_forever, daemon=True).start()
-        cls.addClassCleanup(site.shutdown)
-        cls.page = f"http://127.0.0.1:{site.server_address[1]}/"
+        site = site_of()
+        cls.page = f"http://127.0.0.1:{site.__enter__()}/"
+        cls.addClassCleanup(site.__exit__, None, None, None)
 
-    def serve(self, sessions: int = 2, setup: Sequence[str] = RULES) -> int:
+    def serve(self, sessions: int = 2, setup: Sequence[str] = RULES, port: int = 0) -> int:
         """Begins a server, before whose port the page is opened anew."""
         self.browser.open(self.page)
-        return super().serve(sessions, setup)
+        return super().serve(sessions, setup, port)
 
     def assert_all_failed(self, port: int, why: str) -> None:
         """That the browser has sent, or tried to send, what it was told to, and heard nothing but this fault."""

@@ -14,7 +14,7 @@ from ..language.names import Name
 from ..language.packets import Key
 from ..merging import merged
 from ..states import End, State
-from ..tracking import judged, moved
+from ..tracking import judged, moved, started
 
 KEY = Key("192.0.2.9:80", "10.0.0.1:1000")
 SILENT = End(0, None, 0, 0, 0)
@@ -153,6 +153,69 @@ class Judged(unittest.TestCase):
         near = "server SA 900 101 2000 0"
         self.ends("window", BEGUN, [again, near], (End(4, None, 1000, 101, 2101), End(2, None, 2000, 901, 1901)))
 
+    def test_windows_of_syns_in_units_of_their_scale(self) -> None:
+        """The client offers the scale 2, so that 60000 bytes are 15000 units; the server has 30001 at the scale 1."""
+        begun, kept = (End(2, 2, window, 100, 102) for window in (60000, 15000))
+        answer = "server SA 500 101 30001 0 1"
+        # The units are rounded up: they are 30002 bytes.
+        counted = (End(4, 2, 15000, 100, 30103), End(2, 1, 15001, 501, 501 + 60000))
+        for words in ("scale", "window scale", "all"):
+            self.ends(words, (kept, SILENT), [answer], counted)
+        plain = (End(4, 2, 60000, 100, 101 + 30001), End(2, 1, 30001, 501, 501 + 60000))
+        for words in ("", "window", "window loose merge expiry reset"):
+            self.ends(words, (begun, SILENT), [answer], plain)
+        # A window of 0 is one unit, and one that the server offers with no scale of the client's is kept in bytes.
+        self.ends("scale", (kept, SILENT), ["server SA 500 101 0 0 1"], (End(4, 2, 15000, 100, 102), End(2, 1, 1, 501, 60501)))
+        none = (End(2, None, 1000, 100, 102), SILENT)
+        self.ends("scale", none, [answer], (End(4, None, 1000, 100, 30102), End(2, 1, 30001, 501, 1501)))
+
+    def test_an_offer_that_is_not_answered_is_void(self) -> None:
+        answer = "server SA 500 101 60000 0"
+        for units, scale, window in ((15000, 2, 60000), (512, 7, 65535), (469, 7, 60032), (1, 14, 16384), (7, 0, 7)):
+            begun = (End(2, scale, units, 100, 102), SILENT)
+            wanted = (End(4, None, window, 100, 60101), End(2, None, 60000, 501, 501 + window))
+            for words in ("scale", "all"):
+                self.ends(words, begun, [answer], wanted)
+            self.ends("", begun, [answer], (End(4, scale, units, 100, 60101), End(2, None, 60000, 501, 501 + units)))
+        # If it is dropped nothing is changed, and without a SYN it is no answer.
+        begun = (End(2, 7, 512, 100, 102), SILENT)
+        self.ends("scale", begun, ["server SA 500 3000000000 60000 0"], None)
+        self.ends("scale", begun, ["server A 500 101 60000 0"], (End(4, 7, 512, 100, 60101), End(2, None, 60000, 500, 1012)))
+
+    def test_a_syn_that_is_no_first_packet_is_not_scaled(self) -> None:
+        again = "client S 100 0 40000 0 2"
+        for words in ("", "scale"):
+            self.ends(words, (End(2, 2, 15000, 100, 102), SILENT), [again], (End(2, 2, 40000, 101, 102), SILENT))
+        # Nor is an answer that comes again: by the profile's first packet it is no first one.
+        answered = (End(4, 2, 15000, 100, 30103), End(2, 1, 15001, 501, 60501))
+        wanted = (End(4, 2, 15000, 100, 30103), End(2, 1, 30001, 501, 60501))
+        self.ends("scale", answered, ["server SA 500 101 30001 0 1"], wanted)
+        self.ends("scale", answered, ["server SA 500 101 30001 0"], wanted)
+
+    def test_who_begins_after_a_reset_answers_by_window(self) -> None:
+        """A reset has closed both ends before the server was heard."""
+        closed = (End(10, 2, 15000, 100, 102), End(10, None, 0, 0, 1))
+        answer = "server SA 500 101 30001 0 1"
+        self.ends("window scale", closed, [answer], (End(10, 2, 15000, 100, 30103), End(10, 1, 15001, 501, 60501)))
+        self.ends("scale", closed, [answer], None)
+        void = (End(10, None, 60000, 100, 30102), End(10, None, 30001, 501, 60501))
+        self.ends("window scale", closed, ["server SA 500 101 30001 0"], void)
+
+    def test_what_a_packet_begins(self) -> None:
+        """The ends and the class of a new state."""
+        for words, packet, window, scale in (
+            *(("", "S 100 0 65535 0 7", 65535, 7), ("scale", "S 100 0 65535 0 7", 512, 7), ("all", "S 100 0 60000 0 2", 15000, 2)),
+            *(("scale", "S 100 0 65408 0 7", 511, 7), ("scale", "S 100 0 65409 0 7", 512, 7), ("scale", "S 100 0 0 0 14", 1, 14)),
+            *(("", "S 100 0 0 0", 1, None), ("scale", "S 100 0 65535 0", 65535, None), ("scale", "S 100 0 9 0 0", 9, 0)),
+        ):
+            source = End(2, scale, window, 100, 102)
+            self.assertEqual(started(kernel(words), read_packet(packet_line(f"client {packet}"))), (source, SILENT, "tcp.first"), packet)
+        it = started(PROFILE, read_packet(packet_line("client FA 4294967295 5 9 10")))
+        self.assertEqual(it, (End(2, None, 9, 4294967295, 11), SILENT, "tcp.first"))
+        for protocol, of in (("udp", "udp"), ("icmp", "icmp"), ("47", "other")):
+            it = started(kernel("all"), read_packet(f"packet a out {protocol} 10.0.0.1:7 192.0.2.9:7 40"))
+            self.assertEqual(it, (End(1, None, 0, 0, 0), SILENT, f"{of}.first"))
+
     def test_class_and_last_use(self) -> None:
         for words, ends, packet, wanted in (
             ("", OPENED, "client A 101 501 1000 0", ("tcp.established", 5000)),
@@ -199,6 +262,22 @@ class Tests(unittest.TestCase):
         # What does not count is what the other end has sent.
         self.assertEqual(tests("window", OPENED, "server R 5000 0 0 0").edges["ack"], Edge(101, ((101 - 67035) % CIRCLE, 67136), None))
         self.assertFalse(tests("window", OPENED, "server A 501 101 2000 1").is_eased)
+
+    def test_an_answer_to_a_scale_counts_at_both(self) -> None:
+        """64 kB back for the server, and 67035 units of the server's for what it acknowledges."""
+        begun = (End(2, 7, 512, 1000000, 1000002), SILENT)
+        answer = "server SA 4000000 900000 65535 0 7"
+        it = tests("scale", begun, answer)
+        self.assertEqual(it.edges["right"], Edge(4000001, (4000001 + 65536,), None))
+        self.assertEqual(it.edges["left"], Edge(4000000, (4000000 - 65536,), None))
+        self.assertEqual(it.edges["ack"], Edge(900000, ((1000000 - 8580480) % CIRCLE, 1067035), None))
+        it = tests("", begun, answer)
+        self.assertEqual(it.edges["right"], Edge(4000001, (4000001 + 512,), None))
+        self.assertEqual(it.edges["ack"], Edge(900000, (932965, 1067035), 32965))
+        # An answer without a scale counts in bytes, and so does what the client has offered.
+        it = tests("scale", begun, answer[: -len(" 7")])
+        self.assertEqual(it.edges["left"], Edge(4000000, (4000000 - 65535,), None))
+        self.assertEqual(it.edges["ack"].missed, 32965)
 
     def test_the_number_of_a_reset(self) -> None:
         for words in ("reset", "window reset"):

@@ -169,6 +169,13 @@ class States(unittest.TestCase):
         expected = f"       expires in 0 s, udp.first, last used 1.999 s ago, rule 0: {rule}"
         self.assertEqual(node_a(before, f"rule a {rule}")[1], expected)
 
+    def test_a_last_use_that_is_yet_to_come(self) -> None:
+        """As by the kernel's rule `expiry`, where the peer has a longer timeout."""
+        keys = "192.0.2.9:53 10.0.0.1:1000 192.0.2.9:53 10.0.0.1:1000"
+        line = state(f"udp out {keys}", rest="udp.first 543500 - - 0 2000")
+        expected = "       expires in 600 s, udp.first, last used 540.5 s ahead of the clock, changed by the peer 1 s ago, no rule"
+        self.assertEqual(node_a(shown(line), "rule a pass out")[1], expected)
+
     def test_timeouts_that_the_number_of_states_shortens(self) -> None:
         def told(count: int, *setup: str) -> List[str]:
             flows = (f"192.0.2.9:53 10.0.0.1:{1000 + it}" for it in range(count))

@@ -2,33 +2,37 @@
 use Rattle.std.specs.Prelude.{ℕ, true, false, ◌||◌, List, [], ◌∷◌, find, bytes_eq, codes, Option}
 use Rattle.pfl_base.specs.declared.kernel.Kernel.{Kernel}
 use Rattle.pfl_base.specs.declared.kernel.KernelWord.{KernelWord}
-use Rattle.pfl_base.specs.declared.kernel.KernelWord.TheVariants.{Window, Loose, Merge, Reset}
+use Rattle.pfl_base.specs.declared.kernel.KernelWord.TheVariants.{Window, Loose, Merge, Expiry, Reset, Scale}
 
 -- the word of a rule
 abbrev pub kernel_text : KernelWord → List ℕ
 kernel_text Window = codes "window"
 kernel_text Loose = codes "loose"
 kernel_text Merge = codes "merge"
+kernel_text Expiry = codes "expiry"
 kernel_text Reset = codes "reset"
+kernel_text Scale = codes "scale"
 
 -- the rule with the word, if there is one
 abbrev pub kernel_at_word : List ℕ → Option KernelWord
-kernel_at_word word = find (λ rule. bytes_eq (kernel_text rule) word) (Window ∷ Loose ∷ Merge ∷ Reset ∷ [])
+kernel_at_word word = find (λ rule. bytes_eq (kernel_text rule) word) (Window ∷ Loose ∷ Merge ∷ Expiry ∷ Reset ∷ Scale ∷ [])
 
 -- no rule is the kernel's
 abbrev pub profile : Kernel
-profile = record { window = false; loose = false; merge = false; reset = false }
+profile = record { window = false; loose = false; merge = false; expiry = false; reset = false; scale = false }
 
 -- all of them are
 abbrev pub every_rule : Kernel
-every_rule = record { window = true; loose = true; merge = true; reset = true }
+every_rule = record { window = true; loose = true; merge = true; expiry = true; reset = true; scale = true }
 
 -- one rule more
 abbrev pub with_kernel_rule : Kernel → KernelWord → Kernel
 with_kernel_rule k Window = record k { window = true }
 with_kernel_rule k Loose = record k { loose = true }
 with_kernel_rule k Merge = record k { merge = true }
+with_kernel_rule k Expiry = record k { expiry = true }
 with_kernel_rule k Reset = record k { reset = true }
+with_kernel_rule k Scale = record k { scale = true }
 
 -- the rules of either
 abbrev pub rules_of_either : Kernel → Kernel → Kernel
@@ -36,5 +40,7 @@ rules_of_either k l = record {
   window = k.window || l.window;
   loose = k.loose || l.loose;
   merge = k.merge || l.merge;
+  expiry = k.expiry || l.expiry;
   reset = k.reset || l.reset;
+  scale = k.scale || l.scale;
 }

@@ -12,17 +12,23 @@ pub enum KernelWord {
     Loose,
     /// Unless both ends of an update are stale, the destination is taken too (if_pfsync.c).
     Merge,
+    /// A merge is a use now, and what is imported has the seconds left that the peer says, of the unscaled timeout (if_pfsync.c).
+    Expiry,
     /// A RST has the number that is expected, or one beside it (pf.c, from 13.2-RELEASE-p7 on).
     Reset,
+    /// The window of a SYN is kept in units of the scale that it offers (pf.c).
+    Scale,
 }
 
 impl KernelWord {
     /// All words, in the order in which they are written.
-    pub const ALL: [KernelWord; 4] = [
+    pub const ALL: [KernelWord; 6] = [
         KernelWord::Window,
         KernelWord::Loose,
         KernelWord::Merge,
+        KernelWord::Expiry,
         KernelWord::Reset,
+        KernelWord::Scale,
     ];
 
     /// The word in lines, which no other rule has.
@@ -34,7 +40,9 @@ impl KernelWord {
             KernelWord::Window => "window",
             KernelWord::Loose => "loose",
             KernelWord::Merge => "merge",
+            KernelWord::Expiry => "expiry",
             KernelWord::Reset => "reset",
+            KernelWord::Scale => "scale",
         }
     }
 
@@ -59,8 +67,12 @@ pub struct Kernel {
     pub loose: bool,
     /// [`KernelWord::Merge`].
     pub merge: bool,
+    /// [`KernelWord::Expiry`].
+    pub expiry: bool,
     /// [`KernelWord::Reset`].
     pub reset: bool,
+    /// [`KernelWord::Scale`].
+    pub scale: bool,
 }
 
 impl Kernel {
@@ -72,7 +84,9 @@ impl Kernel {
             window: false,
             loose: false,
             merge: false,
+            expiry: false,
             reset: false,
+            scale: false,
         }
     }
 
@@ -84,7 +98,9 @@ impl Kernel {
             window: true,
             loose: true,
             merge: true,
+            expiry: true,
             reset: true,
+            scale: true,
         }
     }
 
@@ -97,7 +113,9 @@ impl Kernel {
             KernelWord::Window => kernel.window = true,
             KernelWord::Loose => kernel.loose = true,
             KernelWord::Merge => kernel.merge = true,
+            KernelWord::Expiry => kernel.expiry = true,
             KernelWord::Reset => kernel.reset = true,
+            KernelWord::Scale => kernel.scale = true,
         }
         kernel
     }
@@ -110,7 +128,9 @@ impl Kernel {
             window: self.window || other.window,
             loose: self.loose || other.loose,
             merge: self.merge || other.merge,
+            expiry: self.expiry || other.expiry,
             reset: self.reset || other.reset,
+            scale: self.scale || other.scale,
         }
     }
 }

@@ -47,6 +47,7 @@ wanted-may n s wanted may = record {
     given = may.is.given;
     rule = may.is.rule;
     last = may.is.last;
+    ahead = may.is.ahead;
     peer_change = may.is.peer_change;
     updates = may.is.updates;
   };
@@ -63,7 +64,7 @@ freed-may n name s may = by (is_held n name)
       wire = may.wire;
       stack = may.stack;
       no_sync = may.no_sync;
-      is = state_still n (count_freed (without_held n name)) s refl refl refl refl may.is;
+      is = state_still n (count_freed (without_held n name)) s refl refl refl refl refl may.is;
     }
     by false = may
 
@@ -96,7 +97,7 @@ held-may n s d may = record {
   wire = may.wire;
   stack = may.stack;
   no_sync = may.no_sync;
-  is = state_still n (record n { held = d }) s refl refl refl refl may.is;
+  is = state_still n (record n { held = d }) s refl refl refl refl refl may.is;
 }
 
 -- a list with room lets none go

@@ -2,6 +2,7 @@
 pub use Rattle.pfl_desk.proofs.Deferred.{freed-may, held-may, wanted-may}
 pub use Rattle.pfl_desk.proofs.Deletions.{Rest, deleted-rest}
 pub use Rattle.pfl_desk.proofs.Keeps.{counted_all, keeps_next_id, state_still}
+pub use Rattle.pfl_desk.proofs.Lasting.{left-same}
 pub use Rattle.pfl_desk.proofs.NewNodes.{new_node-counts, new_node-is}
 pub use Rattle.pfl_desk.proofs.Putting.{put-node, told-may}
 pub use Rattle.pfl_desk.proofs.Recording.{writes-more, writes-none, writes-then}

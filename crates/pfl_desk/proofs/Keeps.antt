@@ -1,12 +1,14 @@
 -- What each change of one place has to bring so that a node stays a node.
-use Rattle.std.specs.Prelude.{◌≡◌, ◌≤◌, ◌<◌, ℕ, Bool, true, false, ◌||◌, nat_lt, List, [], ◌∷◌, length, Option, Some, None, IfSome, refl}
+use Rattle.std.specs.Prelude.{◌≡◌, ◌≤◌, ◌<◌, ◌+◌, ◌*◌, ℕ, Bool, true, false, ◌||◌, nat_lt, List, [], ◌∷◌, length, Option, Some, None, IfSome, refl}
 use Rattle.std.specs.List.{slice_get, list_any, AllByRecursion}
-use Rattle.std.proofs.Common.{◌∙◌, sym, subst, arith}
+use Rattle.std.proofs.Common.{◌∙◌, ap, sym, subst, arith}
 use Rattle.std.proofs.lemmas.Bool.{le-ltb}
 use Rattle.std.proofs.lemmas.Bool.Decides.{nat_tests}
 use Rattle.pfl_base.specs.declared.state_name.StateName.{StateName}
 use Rattle.pfl_base.specs.Numbers.{greatest}
 use Rattle.pfl_edits.specs.Maps as maps
+use Rattle.pfl_language.specs.declared.limits.Limits.{Limits}
+use Rattle.pfl_rules.specs.Rules.{timeout}
 use Rattle.pfl_track.specs.declared.state.State.{State}
 use Rattle.pfl_table.specs.Tables.{States, AreStates}
 use Rattle.pfl_queue.specs.declared.Mark.{Mark}
@@ -18,30 +20,38 @@ use Rattle.pfl_bulk.specs.declared.BulkServer.TheVariants as server
 use Rattle.pfl_bulk.specs.declared.BulkClient.{BulkClient}
 use Rattle.pfl_bulk.specs.declared.BulkClient.TheVariants as client
 use Rattle.pfl_desk.specs.declared.counters.Counters.{Counters}
-use Rattle.pfl_desk.specs.Nodes.{Node, AreParts, IsNodeState, IsGiven, IsPast, MarksRightly, ServesSince, AskedAt, is_overcounted, last_millisecond}
+use Rattle.pfl_desk.specs.Nodes.{Node, AreParts, IsNodeState, IsGiven, IsPast, MarksRightly, ServesSince, AskedAt, is_overcounted, last_millisecond, most_left}
 
 -- a time that is kept stays past
 past_later : (o : Option ℕ) (t u : ℕ) → t ≤ u → IfSome o (λ x. x ≤ t) → IfSome o (λ x. x ≤ u)
 past_later None t u le h = h
 past_later (Some x) t u le h = omega arith
 
+-- what fits before a time fits before each later one
+fits_later : (last seconds t u : ℕ) → t ≤ u → last + seconds * 1000 ≤ t + most_left → last + seconds * 1000 ≤ u + most_left
+fits_later last seconds t u le fits = omega arith
+
 -- a state of a node is one of the node that goes on
-pub state_later : (n k : Node) (s : State) → k.creator ≡ n.creator → n.next_id ≤ k.next_id → k.rules ≡ n.rules → n.clock ≤ k.clock
-    → IsNodeState n s → IsNodeState k s
-state_later n k s creator ids rules clocks is = record {
+pub state_later : (n k : Node) (s : State) → k.limits ≡ n.limits → k.creator ≡ n.creator → n.next_id ≤ k.next_id → k.rules ≡ n.rules
+    → n.clock ≤ k.clock → IsNodeState n s → IsNodeState k s
+state_later n k s limits creator ids rules clocks is = record {
   is = is.is;
   given = λ own. let below = is.given (own ∙ creator) in omega arith;
   rule = subst (λ r. IfSome s.rule (λ i. i < length r.list)) (sym rules) is.rule;
-  last = let past = is.last in omega arith;
+  last = λ off. let past = is.last (ap (λ (l : Limits). l.kernel.expiry) (sym limits) ∙ off) in omega arith;
+  ahead = λ ahead.
+      subst (λ r. s.last + timeout r s.rule s.class * 1000 ≤ k.clock + most_left) (sym rules)
+      (fits_later s.last (timeout n.rules s.rule s.class) n.clock k.clock clocks (is.ahead (omega arith)));
   peer_change = past_later s.peer_change n.clock k.clock clocks is.peer_change;
   updates = is.updates;
 }
 
 -- the same of one with a part replaced that no state asks about
-pub state_still : (n k : Node) (s : State) → k.creator ≡ n.creator → k.next_id ≡ n.next_id → k.rules ≡ n.rules → k.clock ≡ n.clock
-    → IsNodeState n s → IsNodeState k s
-state_still n k s creator ids rules clocks is =
-    state_later n k s creator (subst (λ i. n.next_id ≤ i) (sym ids) (omega arith)) rules (subst (λ c. n.clock ≤ c) (sym clocks) (omega arith)) is
+pub state_still : (n k : Node) (s : State) → k.limits ≡ n.limits → k.creator ≡ n.creator → k.next_id ≡ n.next_id → k.rules ≡ n.rules
+    → k.clock ≡ n.clock → IsNodeState n s → IsNodeState k s
+state_still n k s limits creator ids rules clocks is =
+    state_later n k s limits creator (subst (λ i. n.next_id ≤ i) (sym ids) (omega arith)) rules
+    (subst (λ c. n.clock ≤ c) (sym clocks) (omega arith)) is
 
 -- other states
 pub keeps_states : (n : Node) (m : States) → AreParts n → AreStates m → maps.len m ≤ n.limits.states
@@ -53,7 +63,7 @@ keeps_states n m is are few each rightly = record {
   rules = is.rules;
   states = are;
   few = few;
-  each = λ name s at. state_still n _ s refl refl refl refl (each name s at);
+  each = λ name s at. state_still n _ s refl refl refl refl refl (each name s at);
   queue = is.queue;
   queue_limit = is.queue_limit;
   marks = λ name k at. ((is.marks name k at).0, rightly name k at);
@@ -148,7 +158,7 @@ keeps_queue n q is queue limit marks = record {
   rules = is.rules;
   states = is.states;
   few = is.few;
-  each = λ name s at. state_still n _ s refl refl refl refl (is.each name s at);
+  each = λ name s at. state_still n _ s refl refl refl refl refl (is.each name s at);
   queue = queue;
   queue_limit = limit ∙ is.queue_limit;
   marks = marks;
@@ -169,7 +179,7 @@ keeps_held n d is deferrals limit held = record {
   rules = is.rules;
   states = is.states;
   few = is.few;
-  each = λ name s at. state_still n _ s refl refl refl refl (is.each name s at);
+  each = λ name s at. state_still n _ s refl refl refl refl refl (is.each name s at);
   queue = is.queue;
   queue_limit = is.queue_limit;
   marks = is.marks;
@@ -189,7 +199,7 @@ keeps_server n server is serving = record {
   rules = is.rules;
   states = is.states;
   few = is.few;
-  each = λ name s at. state_still n _ s refl refl refl refl (is.each name s at);
+  each = λ name s at. state_still n _ s refl refl refl refl refl (is.each name s at);
   queue = is.queue;
   queue_limit = is.queue_limit;
   marks = is.marks;
@@ -209,7 +219,7 @@ keeps_client n client is waiting = record {
   rules = is.rules;
   states = is.states;
   few = is.few;
-  each = λ name s at. state_still n _ s refl refl refl refl (is.each name s at);
+  each = λ name s at. state_still n _ s refl refl refl refl refl (is.each name s at);
   queue = is.queue;
   queue_limit = is.queue_limit;
   marks = is.marks;
@@ -229,7 +239,7 @@ keeps_clock n clock is later within = record {
   rules = is.rules;
   states = is.states;
   few = is.few;
-  each = λ name s at. state_later n _ s refl (omega arith) refl later (is.each name s at);
+  each = λ name s at. state_later n _ s refl refl (omega arith) refl later (is.each name s at);
   queue = is.queue;
   queue_limit = is.queue_limit;
   marks = is.marks;
@@ -249,7 +259,7 @@ keeps_next_id n next_id is more = record {
   rules = is.rules;
   states = is.states;
   few = is.few;
-  each = λ name s at. state_later n _ s refl more refl (omega arith) (is.each name s at);
+  each = λ name s at. state_later n _ s refl refl more refl (omega arith) (is.each name s at);
   queue = is.queue;
   queue_limit = is.queue_limit;
   marks = λ name k at. let given = (is.marks name k at).0 in (λ own. let below = given own in omega arith, (is.marks name k at).1);
@@ -269,7 +279,7 @@ keeps_push n push is = record {
   rules = is.rules;
   states = is.states;
   few = is.few;
-  each = λ name s at. state_still n _ s refl refl refl refl (is.each name s at);
+  each = λ name s at. state_still n _ s refl refl refl refl refl (is.each name s at);
   queue = is.queue;
   queue_limit = is.queue_limit;
   marks = is.marks;
@@ -289,7 +299,7 @@ keeps_counters n counters is = record {
   rules = is.rules;
   states = is.states;
   few = is.few;
-  each = λ name s at. state_still n _ s refl refl refl refl (is.each name s at);
+  each = λ name s at. state_still n _ s refl refl refl refl refl (is.each name s at);
   queue = is.queue;
   queue_limit = is.queue_limit;
   marks = is.marks;

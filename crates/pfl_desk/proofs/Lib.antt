@@ -1,5 +1,7 @@
 pub mod Deferred
 pub mod Keeps
+pub mod Lasting
+pub mod Shrinking
 pub mod Stating
 pub mod Listing
 pub mod NewNodes

@@ -60,6 +60,7 @@ updates-may n s k few may = record {
     given = may.is.given;
     rule = may.is.rule;
     last = may.is.last;
+    ahead = may.is.ahead;
     peer_change = may.is.peer_change;
     updates = few;
   };

@@ -1,5 +1,5 @@
 -- A node of the pair, and what is true of each (pf.c, if_pfsync.c; what limits an event is this project's profile).
-use Rattle.std.specs.Prelude.{◌≡◌, ◌≤◌, ◌<◌, ℕ, Bool, false, nat_lt, List, [], ◌∷◌, length, find, Option, Some, None, Result, Ok, Err, IfSome, ◌↔◌}
+use Rattle.std.specs.Prelude.{◌≡◌, ◌≤◌, ◌<◌, ◌+◌, ℕ, Bool, false, nat_lt, List, [], ◌∷◌, length, find, Option, Some, None, Result, Ok, Err, IfSome, ◌↔◌}
 use Rattle.std.specs.List.{list_any, slice_get}
 use Rattle.std.specs.Option.{option_map}
 use Rattle.pfl_base.specs.declared.class.Class.{Class}
@@ -124,6 +124,14 @@ IsGiven n name = name.creator ≡ n.creator → name.id < n.next_id
 abbrev pub IsPast : Node → ℕ → Type 0
 IsPast n time = time ≤ n.clock
 
+-- the most that a record can say is left of a state, in milliseconds: it has 32 bits for the seconds (if_pfsync.c)
+abbrev pub most_left : ℕ
+most_left = 4294967295000
+
+-- a record can say what the state has left of its timeout, which the rules say and is not scaled
+abbrev pub LeftFits : Node → State → Type 0
+LeftFits n s = expiry s (timeout n.rules s.rule s.class) ≤ n.clock + most_left
+
 -- a mark of a deletion names no state, every other mark names one, and never one with `no-sync` (pf.conf(5))
 abbrev pub MarksRightly : Node → StateName → Mark → Type 0
 MarksRightly n name m = ((m.kind ≡ kind.Delete) ↔ (maps.get n.states name ≡ None)) × IfSome (maps.get n.states name) (λ s. s.no_sync ≡ false)
@@ -138,12 +146,14 @@ abbrev pub AskedAt : Node → BulkClient → Type 0
 AskedAt n client.Idle = Unit {0}
 AskedAt n (client.Waiting tries asked) = IsPast n asked
 
--- a state of the node
+-- a state of the node: by this project's profile its last use is not after the clock; with `expiry` it may be, where the peer said that
+-- more is left than the timeout, and what is left is still what a record can say (if_pfsync.c, as far as we know it)
 pub record IsNodeState (n : Node) (s : State) : Type 0 where
   pub is : IsState s
   pub given : IsGiven n s.name
   pub rule : IfSome s.rule (λ r. r < length n.rules.list)
-  pub last : IsPast n s.last
+  pub last : n.limits.kernel.expiry ≡ false → IsPast n s.last
+  pub ahead : n.clock < s.last → LeftFits n s
   pub peer_change : IfSome s.peer_change (IsPast n)
   pub updates : s.updates ≤ 255
 

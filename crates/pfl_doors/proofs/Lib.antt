@@ -1,1 +1,2 @@
 pub mod Screening
+mod Worked

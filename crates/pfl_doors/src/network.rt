@@ -6,7 +6,7 @@ ghost use Rattle.std.specs.declared.net.ip_addr.IpAddr.TheVariants as ip;
 ghost use Rattle.pfl_base.specs.Devices.{has_failed};
 
 use crate::doors::{DoorFault, Doors, Sides, Visit};
-use crate::request::judged_so_far;
+use crate::request::{DECIDING, judged_so_far};
 use pfl_base::Std;
 use std::alloc::Global;
 use std::io::{self, ErrorKind};
@@ -19,9 +19,6 @@ use std::time::Duration;
 /// For how many milliseconds a session that follows the journal waits for its next line before it looks at the journal again, and
 /// for how many a connection that has come is given to say that it is a browser's.
 const PAUSE: u64 = 20;
-
-/// How many bytes a request needs at most to be known for one.
-const REQUEST: usize = 34;
 
 /// A reader or a writer of a connection.
 pub type Side = Std<TcpStream>;
@@ -60,7 +57,7 @@ fn hears(stream: &TcpStream) -> bool {
 
 /// Whether the first bytes of a connection have come, and are a request's.
 fn is_browser(stream: &TcpStream) -> bool {
-    let mut bytes = [0; REQUEST];
+    let mut bytes = [0; DECIDING];
     match peek_a_while(stream, &mut bytes) {
         Ok(count) => judged_so_far(&bytes[..count]) == Some(true),
         Err(_) => false,

@@ -6,16 +6,16 @@ ghost use Rattle.std.specs.Io.KnownBytes.{Keeps, ReadConsumes};
 ghost use Rattle.std.specs.Option.{is_some};
 ghost use Rattle.pfl_doors.specs.Screens.{is_turned, left_in};
 
-use crate::request::judged_so_far;
+use crate::request::{DECIDING, judged_so_far};
 use arrayvec::ArrayVec;
 use pfl_base::{DeviceFault, Input};
 use std::marker::Model;
 
-/// How many bytes are read at a time until it is known who sends them. As many say it, whoever does.
+/// How many bytes are read at a time until it is known who sends them. One block says it of most.
 const BLOCK: usize = 34;
 
 /// The room for the bytes that do not say it, and one block more.
-const ROOM: usize = 67;
+const ROOM: usize = DECIDING - 1 + BLOCK;
 
 /// A reader over a device. Where the first bytes are an HTTP request's, it is at its end at once, so that no line of a browser is read.
 /// Else it gives what the device does.
@@ -53,6 +53,7 @@ fn copy_some(from: &[u8], to: &mut [u8]) -> usize
 
 impl<I: Input> Screened<I> {
     /// A reader over the device, of which nothing was read yet.
+    #[tactic(auto, unfolding(crate::specs::Requests::judged))]
     pub fn new(device: I) -> Self
         ensures rest { result.rest ≡ I.left device }
         ensures front { result.front ≡ [] }
@@ -79,7 +80,7 @@ impl<I: Input> Screened<I> {
         requires unknown { self.old.verdict ≡ None }
         ensures keeps { Keeps (left_in self.old) (left_in self.new) }
         ensures grows { OnOk result (self.new.verdict ≡ None → length self.old.front < length self.new.front) }
-        ensures few { length self.old.front ≤ 33 }
+        ensures few { length self.old.front ≤ 512 }
         ensures stays { OnOk result (self.new.failed ≡ self.old.failed) }
         ensures fails { OnErr result (self.new.failed ≡ true) }
     {

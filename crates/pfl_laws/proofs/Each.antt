@@ -183,7 +183,7 @@ merged-is k s r seconds now src dst is = by (not (stale_src s r && stale_dst s r
       one_family = is.one_family;
     }
 
-    by : (b : Bool) → IsState (refreshed b with_ends r seconds now)
+    by : (b : Bool) → IsState (refreshed k b with_ends r seconds now)
     by true = record {
       src = src_is;
       dst = dst_is;

@@ -1,8 +1,8 @@
 //! The merge, and what is behind.
 
-ghost use Rattle.std.specs.Prelude.{◌≡◌, ◌≤◌, true, false};
+ghost use Rattle.std.specs.Prelude.{◌≡◌, ◌≤◌, ◌<◌, ◌+◌, ◌*◌, ◌^◌, true, false};
 ghost use Rattle.pfl_merge.specs.Merging.{is_ahead as is_further, stale_source, stale_destination, stale_src as behind_src, stale_dst as behind_dst};
-ghost use Rattle.pfl_merge.specs.Merging.{last_use as used_last, merged};
+ghost use Rattle.pfl_merge.specs.Merging.{imported_use as used_by_import, last_use as used_last, merged, merged_use as used_by_merge};
 ghost use Rattle.pfl_track.specs.States.{IsState};
 ghost use Rattle.pfl_merge.specs.Laws.{Keeps, Rises, SourceInOrder, DestinationInOrder, DestinationStays};
 
@@ -61,10 +61,44 @@ pub fn last_use(remaining: u32, timeout: u32, now: Millis) -> Millis
     now.saturating_sub(u64::from(spent) * 1000)
 }
 
+/// When a state was last used whose class is taken, with `remaining` seconds left of its timeout. With `expiry` it is used now
+/// (if_pfsync.c, as far as we know it).
+fn merged_use(kernel: Kernel, remaining: u32, timeout: u32, now: Millis) -> Millis
+    ensures { result ≡ used_by_merge kernel remaining timeout now }
+{
+    if kernel.expiry {
+        now
+    } else {
+        last_use(remaining, timeout, now)
+    }
+}
+
+/// When a state was last used that is taken over with `remaining` seconds left. With `expiry` they are left of `timeout` though they
+/// be more, so that the last use may lie ahead; where none are left it is used now (if_pfsync.c, as far as we know it). `timeout` is
+/// the state's here, in seconds: with `expiry` as the rules say it, and by the profile as it is scaled. What is left of it fits the
+/// 32 bits that a record has for it (`fits`).
+pub fn imported_use(kernel: Kernel, remaining: u32, timeout: u32, now: Millis) -> Millis
+    requires within { now ≤ 2 ^ 63 }
+    ensures used { result ≡ used_by_import kernel remaining timeout now }
+    ensures past { kernel.expiry ≡ false → result ≤ now }
+    ensures left { kernel.expiry ≡ true → 0 < remaining → timeout * 1000 ≤ now + remaining * 1000
+        → result + timeout * 1000 ≡ now + remaining * 1000 }
+    ensures fits { result + timeout * 1000 ≤ now + 4294967295000 }
+{
+    if !kernel.expiry {
+        return last_use(remaining, timeout, now);
+    }
+    if remaining == 0 {
+        return now;
+    }
+    let end = now + u64::from(remaining) * 1000;
+    end.saturating_sub(u64::from(timeout) * 1000)
+}
+
 /// The held state with what the peer sends of it: each end is the received one where that is not behind; the class and
 /// the last use go with them. With `merge` the other end is taken though it is behind, unless both are (if_pfsync.c, as far as
-/// we know it): it may fall then, and only where the end that sent the first packet was not behind. `timeout` is the state's
-/// here, in seconds, for the received class.
+/// we know it): it may fall then, and only where the end that sent the first packet was not behind. With `expiry` the last use is
+/// now, where the class is taken (the same). `timeout` is the state's here, in seconds, for the received class.
 pub fn merge(kernel: Kernel, held: &State, received: &Received, timeout: u32, now: Millis) -> Merged
     ensures merged { result ≡ merged kernel held.now received.now timeout now }
     ensures state { IsState result.state }
@@ -84,7 +118,8 @@ pub fn merge(kernel: Kernel, held: &State, received: &Received, timeout: u32, no
     let state = if stale_src && stale_dst {
         told
     } else {
-        told.refreshed(received.class, last_use(received.remaining, timeout, now))
+        let used = merged_use(kernel, received.remaining, timeout, now);
+        told.refreshed(received.class, used)
     };
     Merged {
         state,

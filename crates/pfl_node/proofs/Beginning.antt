@@ -30,7 +30,15 @@ started-node n s is may =
     put-node (record n { next_id = n.next_id + 1 }) s next (OwnsKeys-unused n.states s may.unused)
     (subst (λ (k : ℕ). k ≤ n.limits.states) (sym (len-insert names_total n.states s.name s))
     (within (maps.contains_key n.states s.name) (maps.len n.states) n.limits.states may.room))
-    (record { is = may.is; given = λ own. omega arith; rule = may.rule; last = may.last; peer_change = may.peer_change; updates = may.updates })
+    (record {
+      is = may.is;
+      given = λ own. omega arith;
+      rule = may.rule;
+      last = λ off. may.last;
+      ahead = λ ahead. let past = may.last in absurd (omega arith);
+      peer_change = may.peer_change;
+      updates = may.updates;
+    })
     (λ k at. absurd (fresh-name n s.name is may.creator may.id k at))
 
 no_state : (n : Node) (s : State) (o : Option State) → AreParts n → s.name.creator ≡ n.creator → s.name.id ≡ n.next_id → maps.get n.states s.name ≡ o → o ≡ None

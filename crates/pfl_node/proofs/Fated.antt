@@ -1,5 +1,5 @@
 -- What a packet does, by cases.
-use Rattle.std.specs.Prelude.{◌≡◌, ℕ, Bool, true, false, nat_le, List, [], ◌∷◌, length, IfSome, ◌<◌, slice_get, Option, Some, None, zero, suc}
+use Rattle.std.specs.Prelude.{◌≡◌, ◌⊎◌, ℕ, Bool, true, false, nat_le, List, [], ◌∷◌, length, IfSome, ◌<◌, slice_get, Option, Some, None, zero, suc}
 use Rattle.std.specs.Prelude.{if◌then◌else◌, refl}
 use Rattle.std.proofs.Common.{◌∙◌, ap, sym, subst, arith, inl, inr}
 use Rattle.pfl_base.specs.declared.direction.Dir.{Dir}
@@ -15,7 +15,8 @@ use Rattle.pfl_track.specs.declared.state.State.{State}
 use Rattle.pfl_track.specs.declared.tracked.Tracked.{Tracked}
 use Rattle.pfl_track.specs.declared.tracked.Tracked.TheVariants.{Moved}
 use Rattle.pfl_track.specs.Keys.{AreKeys}
-use Rattle.pfl_track.specs.Rules.{tracked_by}
+use Rattle.pfl_track.specs.States.{IsState}
+use Rattle.pfl_track.specs.Rules.{started_by, tracked_by}
 use Rattle.pfl_track.specs.Tracking.{start_state, used}
 use Rattle.std.proofs.lemmas.Bool.Decides.{nat_tests}
 use Rattle.pfl_track.specs.declared.key_pair.KeyFields.{KeyFields}
@@ -24,6 +25,7 @@ use Rattle.pfl_receive.specs.table.Tables.{found, key_in_use}
 use Rattle.pfl_receive.proofs.ForCallers.table.{found-stands}
 use Rattle.pfl_receive.specs.desk.inner.Kept.{MayReplace, MayStart}
 use Rattle.pfl_receive.specs.desk.Nodes.{Node, AreParts, IsGiven, IsPast}
+use Rattle.pfl_receive.proofs.ForCallers.desk.{left-same}
 use Rattle.pfl_node.specs.Starting.{Handled, judged, next_name}
 use Rattle.pfl_node.specs.Packets.{handled, handled_by, followed, packet_points, before_rules, on_the_way, tracked_at}
 
@@ -46,7 +48,7 @@ pub tracks-at : (n : Node) (s : State) (p : Packet) (dir : Dir) (k : Kernel) (no
     → t ≡ tracked_by k s p dir now → tracked_at n s p dir ≡ t
 tracks-at n s p dir k now t kernel clock e = cc
 
--- what a packet moved has the name, the keys and all else of the state, and was last used then, or when the state was
+-- what a packet moved has the name, the keys and all else of the state, and is used now, or has its class and its last use
 record IsMoved (n : Node) (s t : State) : Type 0 where
   name : t.name ≡ s.name
   wire : t.wire ≡ s.wire
@@ -55,7 +57,7 @@ record IsMoved (n : Node) (s t : State) : Type 0 where
   rule : t.rule ≡ s.rule
   peer_change : t.peer_change ≡ s.peer_change
   updates : t.updates ≡ s.updates
-  last : IsPast n t.last
+  last : (t.last ≡ n.clock) ⊎ ((t.class ≡ s.class) × (t.last ≡ s.last))
 
 of-used : (n : Node) (s t : State) → t ≡ used s t.src t.dst n.clock → IsMoved n s t
 of-used n s t e = record {
@@ -66,12 +68,12 @@ of-used n s t e = record {
   rule = ap (λ (u : State). u.rule) e;
   peer_change = ap (λ (u : State). u.peer_change) e;
   updates = ap (λ (u : State). u.updates) e;
-  last = subst (IsPast n) (sym (ap (λ (u : State). u.last) e)) (omega arith);
+  last = inl (ap (λ (u : State). u.last) e);
 }
 
 -- one that passes loosely renews nothing
-of-ends : (n : Node) (s t : State) → IsPast n s.last → t ≡ record s { src = t.src; dst = t.dst } → IsMoved n s t
-of-ends n s t last e = record {
+of-ends : (n : Node) (s t : State) → t ≡ record s { src = t.src; dst = t.dst } → IsMoved n s t
+of-ends n s t e = record {
   name = ap (λ (u : State). u.name) e;
   wire = ap (λ (u : State). u.wire) e;
   stack = ap (λ (u : State). u.stack) e;
@@ -79,13 +81,13 @@ of-ends n s t last e = record {
   rule = ap (λ (u : State). u.rule) e;
   peer_change = ap (λ (u : State). u.peer_change) e;
   updates = ap (λ (u : State). u.updates) e;
-  last = subst (IsPast n) (sym (ap (λ (u : State). u.last) e)) last;
+  last = inr (ap (λ (u : State). u.class) e, ap (λ (u : State). u.last) e);
 }
 
-is-moved : (n : Node) (s : State) (p : Packet) (dir : Dir) (t : State) → IsPast n s.last → tracked_at n s p dir ≡ Moved t → IsMoved n s t
-is-moved n s p dir t last moved = elim (ends-move n.limits.kernel s p dir n.clock t moved) [
+is-moved : (n : Node) (s : State) (p : Packet) (dir : Dir) (t : State) → tracked_at n s p dir ≡ Moved t → IsMoved n s t
+is-moved n s p dir t moved = elim (ends-move n.limits.kernel s p dir n.clock t moved) [
   | inl renewed ↦ of-used n s t renewed
-  | inr ends ↦ of-ends n s t last ends
+  | inr ends ↦ of-ends n s t ends
 ]
 
 pub found-replaces : (n : Node) (dir : Dir) (p : Packet) (s t : State) → AreParts n → IsPacket p → found n.states (key p dir) dir ≡ Some s
@@ -93,7 +95,7 @@ pub found-replaces : (n : Node) (dir : Dir) (p : Packet) (s t : State) → ArePa
 found-replaces n dir p s t is packet at moved =
     let stands = found-stands n.states (key p dir) dir s is.states at in
     let old = is.each s.name s stands in
-    let kept = is-moved n s p dir t old.last moved in
+    let kept = is-moved n s p dir t moved in
     record {
       former = s;
       stands = ap (λ (name : StateName). maps.get n.states name) kept.name ∙ stands;
@@ -104,7 +106,14 @@ found-replaces n dir p s t is packet at moved =
         is = stays-state n.limits.kernel s p dir n.clock t old.is packet moved;
         given = subst (IsGiven n) (sym kept.name) old.given;
         rule = subst (λ (o : Option ℕ). IfSome o (λ i. i < length n.rules.list)) (sym kept.rule) old.rule;
-        last = kept.last;
+        last = λ off. elim kept.last [
+          | inl now ↦ subst (IsPast n) (sym now) (omega arith)
+          | inr held ↦ subst (IsPast n) (sym held.1) (old.last off)
+        ];
+        ahead = λ ahead. elim kept.last [
+          | inl now ↦ absurd (omega arith)
+          | inr held ↦ left-same n s t kept.rule held.0 held.1 old.ahead ahead
+        ];
         peer_change = subst (λ (o : Option ℕ). IfSome o (IsPast n)) (sym kept.peer_change) old.peer_change;
         updates = let same = kept.updates in let few = old.updates in omega (arith, same, few);
       };
@@ -132,6 +141,20 @@ within_list : (rules : List Rule) (i : ℕ) (r : Rule) → slice_get rules i ≡
 within_list [] i r e = absurd (cc)
 within_list (q ∷ rules) zero r e = omega arith
 within_list (q ∷ rules) (suc i) r e = let h = within_list rules i r e in omega arith
+
+-- the rule of the scale changes the window of its first end alone
+pub started-starts : (n : Node) (kernel : Kernel) (s : State) → IsState (started_by kernel s) → MayStart n s → MayStart n (started_by kernel s)
+started-starts n kernel s is may = record {
+  creator = may.creator;
+  id = may.id;
+  unused = may.unused;
+  room = may.room;
+  is = is;
+  rule = may.rule;
+  last = may.last;
+  peer_change = may.peer_change;
+  updates = may.updates;
+}
 
 pub new-starts : (n : Node) (wire stack : Key) (dir : Dir) (p : Packet) (number : ℕ) (r : Rule) (no_sync : Bool) → IsPacket p
     → AreKeys wire stack → key_in_use n.states wire stack ≡ false → nat_le n.limits.states (maps.len n.states) ≡ false

@@ -129,7 +129,7 @@ room-may n s is at =
       wire = like.wire;
       stack = like.stack;
       no_sync = like.no_sync;
-      is = state_still n (with_room n) s (ap (λ (m : Node). m.creator) rest) (ap (λ (m : Node). m.next_id) rest)
+      is = state_still n (with_room n) s (ap (λ (m : Node). m.limits) rest) (ap (λ (m : Node). m.creator) rest) (ap (λ (m : Node). m.next_id) rest)
           (ap (λ (m : Node). m.rules) rest) (ap (λ (m : Node). m.clock) rest) (is.each s.name s at);
     }
 

@@ -11,6 +11,7 @@ use Rattle.pfl_edits.specs.Maps as maps
 use Rattle.pfl_rules.specs.declared.rule.Rule.{Rule}
 use Rattle.pfl_rules.specs.Rules.{verdict, rule_at}
 use Rattle.pfl_track.specs.declared.state.State.{State}
+use Rattle.pfl_track.specs.Rules.{started_by}
 use Rattle.pfl_track.specs.Tracking.{start_state}
 use Rattle.pfl_receive.specs.table.Tables.{count_of_rule}
 use Rattle.pfl_receive.specs.table.Translating.{is_taken, new_keys}
@@ -73,7 +74,7 @@ announced n s dir p =
 abbrev pub new_state : Node → Dir → Packet → ℕ → Rule → State
 new_state n dir p number r =
     let keys = new_keys n.states r (key p dir) in
-    start_state (next_name n) keys.wire keys.stack dir p (Some number) r.no_sync n.clock
+    started_by n.limits.kernel (start_state (next_name n) keys.wire keys.stack dir p (Some number) r.no_sync n.clock)
 
 -- a packet that a rule passes: the first of these lines that applies
 unfoldable pub started : Node → Dir → Packet → ℕ → Rule → Handled

@@ -195,7 +195,7 @@ tracked-says follow k s p dir now = by (is_tcp p.proto) refl
 -- a new connection over a closed one
 tracked-reuse : (k : Kernel) (s : State) (p : Packet) (dir : Dir) (now : ℕ) → tracked_by k s p dir now ≡ Reused → IsReuse s p
 tracked-reuse k s p dir now =
-    by (is_tcp p.proto) (is_request p) (is_closed s) (branch k (segment_of k (sender s dir) (receiver s dir) p) (receiver s dir) p) _
+    by (is_tcp p.proto) (is_request p) (is_closed s) (branch k (segment_of k (sender s dir) (receiver s dir) p) p) _
   where
     gone : Option Branch → Tracked
     gone way = passed s (segment_of k (sender s dir) (receiver s dir) p) p dir now way

@@ -104,7 +104,7 @@ merged-becomes k s r timeout now = by (not (stale_src s r && stale_dst s r)) _ (
   dst = dst-taken k.merge (stale_src s r) (stale_dst s r) s.dst r.dst;
 })
   where
-    by : (b : Bool) (t : State) → Becomes s r (taken_by k s r) t → Becomes s r (taken_by k s r) (refreshed b t r timeout now)
+    by : (b : Bool) (t : State) → Becomes s r (taken_by k s r) t → Becomes s r (taken_by k s r) (refreshed k b t r timeout now)
     by true t becomes = record { name = becomes.name; src = becomes.src; dst = becomes.dst }
     by false t becomes = becomes
 

@@ -116,6 +116,31 @@ destination_goes_along : map (λ t. t.fate) (fates (record fresh { limits = reco
 unfolding computing
 destination_goes_along = refl
 
+-- the whole state with more left than its minute
+abbrev longer : Message
+longer = Insert (record {
+  name = name 2 1;
+  keys = record { wire = flow; stack = flow };
+  direction = Outbound;
+  ack_wanted = true;
+  src = silent;
+  dst = silent;
+  class = UdpFirst;
+  remaining = 90;
+  rule = None;
+})
+
+-- by the profile it is used now, and the merge counts back
+not_ahead : become (longer ∷ update (name 2 1) heard ∷ []) ≡ fate.Imported 60000 ∷ fate.Merged false false 20000 None ∷ []
+unfolding computing
+not_ahead = refl
+
+-- by the kernel's rule its last use lies ahead, and the merge is a use now
+ahead : map (λ t. t.fate) (fates (record fresh { limits = record default_limits { kernel = record profile { expiry = true } } }) true
+    (longer ∷ update (name 2 1) heard ∷ [])) ≡ fate.Imported 90000 ∷ fate.Merged false false 60000 None ∷ []
+unfolding computing
+ahead = refl
+
 -- requests for all states, for one and for one that is not there, and deletions
 asked_and_deleted : become (UpdateRequest (name 0 0) ∷ insertion (name 2 1) ∷ UpdateRequest (name 2 1) ∷ UpdateRequest (name 2 1)
     ∷ UpdateRequest (name 2 2) ∷ DeleteShort (name 2 1) ∷ DeleteShort (name 2 1) ∷ [])

@@ -8,7 +8,7 @@ ghost use Rattle.pfl_reasons.specs.Records as meant;
 use crate::cleared::count_cleared;
 use crate::record_fate::{BadRecord, RecordFate, TakenEnds};
 use pfl_base::{Class, Kernel, Millis, StateName};
-use pfl_merge::{Received, last_use, merge};
+use pfl_merge::{Received, imported_use, merge};
 use pfl_queue::Kind;
 use pfl_rules::scaled;
 use pfl_track::State;
@@ -112,8 +112,20 @@ fn imported_last<A: Allocator>(node: &Node<A>, sent: &StateRecord, same_rules: b
     ensures { result ≡ (receiving.imported node.now same_rules sent.now).last }
 {
     let rule = kept_rule(node, same_rules, sent.rule);
-    let seconds = timeout(node, rule, sent.class);
-    last_use(sent.remaining, seconds, node.clock())
+    let seconds = import_timeout(node, rule, sent.class);
+    imported_use(node.limits().kernel, sent.remaining, seconds, node.clock())
+}
+
+/// The timeout by which a state is taken over, in seconds: with `expiry` as the rules say it (if_pfsync.c, as far as we know it), and
+/// else as the node scales it.
+fn import_timeout<A: Allocator>(node: &Node<A>, rule: Option<u16>, class: Class) -> u32
+    ensures { result ≡ receiving.import_timeout node.now rule class }
+{
+    if node.limits().kernel.expiry {
+        node.rules().timeout(rule, class)
+    } else {
+        timeout(node, rule, class)
+    }
 }
 
 /// The number of a rule, which means one only under the same rules.

@@ -1,6 +1,6 @@
 -- What a merge gives may take the state's place.
-use Rattle.std.specs.Prelude.{◌≡◌, ◌≤◌, ◌<◌, ℕ, ◌-◌, ◌&&◌, Bool, true, false, not, length, Option, Some, IfSome, refl}
-use Rattle.std.proofs.Common.{cond, ◌∙◌, ap, sym, subst, arith}
+use Rattle.std.specs.Prelude.{◌≡◌, ◌≤◌, ◌<◌, ◌⊎◌, ℕ, ◌-◌, ◌&&◌, Bool, true, false, not, length, Option, Some, IfSome, refl}
+use Rattle.std.proofs.Common.{cond, ◌∙◌, ap, sym, subst, arith, inl, inr}
 use Rattle.pfl_base.specs.declared.kernel.Kernel.{Kernel}
 use Rattle.pfl_base.specs.declared.state_name.StateName.{StateName}
 use Rattle.pfl_edits.specs.Maps as maps
@@ -14,7 +14,7 @@ use Rattle.pfl_merge.specs.Laws.{Keeps}
 use Rattle.pfl_desk.specs.Changes.{lost, is_held, count_lost, without_held}
 use Rattle.pfl_desk.specs.inner.Kept.{MayReplace}
 use Rattle.pfl_desk.specs.Nodes.{Node, AreParts, IsPast}
-use Rattle.pfl_desk.proofs.ForCallers.{state_still}
+use Rattle.pfl_desk.proofs.ForCallers.{left-same, state_still}
 
 -- a state that was found by a name stands under its own
 pub stands-found : (n : Node) (m : States) (name : StateName) (o p : Option State) (s : State) → AreParts n → m ≡ n.states
@@ -34,20 +34,24 @@ lost-may n name s may = by (is_held n name)
       wire = may.wire;
       stack = may.stack;
       no_sync = may.no_sync;
-      is = state_still n (count_lost (without_held n name)) s refl refl refl refl may.is;
+      is = state_still n (count_lost (without_held n name)) s refl refl refl refl refl may.is;
     }
     by false = may
 
-less : (a b : ℕ) → a - b ≤ a
-less a b = omega arith
+less : (b : Bool) (now spent : ℕ) → cond b now (now - spent) ≤ now
+less true now spent = omega arith
+less false now spent = omega arith
 
--- it was last used in the past
-last-past : (k : Kernel) (held : State) (r : Received) (seconds now : ℕ) → held.last ≤ now → (merged k held r seconds now).state.last ≤ now
-last-past k held r seconds now past = by (not (stale_src held r && stale_dst held r)) _ _ (less now _) past
+-- it was last used in the past, or it has the held state's class and last use
+past-or-held : (k : Kernel) (held : State) (r : Received) (seconds now : ℕ)
+    → ((merged k held r seconds now).state.last ≤ now)
+    ⊎ (((merged k held r seconds now).state.class ≡ held.class) × ((merged k held r seconds now).state.last ≡ held.last))
+past-or-held k held r seconds now = by (not (stale_src held r && stale_dst held r)) _ _ (less k.expiry now _) (refl, refl)
   where
-    by : (b : Bool) (s t : State) → s.last ≤ now → t.last ≤ now → (cond b s t).last ≤ now
-    by true s t h k = h
-    by false s t h k = k
+    by : (b : Bool) (s t : State) → s.last ≤ now → (t.class ≡ held.class) × (t.last ≡ held.last)
+        → ((cond b s t).last ≤ now) ⊎ (((cond b s t).class ≡ held.class) × ((cond b s t).last ≡ held.last))
+    by true s t past same = inl past
+    by false s t past same = inr same
 
 peer-now : (k : Kernel) (held : State) (r : Received) (seconds now : ℕ) → (merged k held r seconds now).state.peer_change ≡ Some now
 peer-now k held r seconds now = by (not (stale_src held r && stale_dst held r)) _ _ refl refl
@@ -61,6 +65,7 @@ merged-may : (n : Node) (k : Kernel) (s t : State) (r : Received) (seconds : ℕ
     → t ≡ (merged k s r seconds n.clock).state → Keeps s t → IsState t → MayReplace (lost n s.name) t
 merged-may n k s t r seconds is stands same keeps state =
     let it = is.each s.name s stands in
+    let used = subst (λ (u : State). (u.last ≤ n.clock) ⊎ ((u.class ≡ s.class) × (u.last ≡ s.last))) (sym same) (past-or-held k s r seconds n.clock) in
     let peer : t.peer_change ≡ Some n.clock = ap (λ (u : State). u.peer_change) same ∙ peer-now k s r seconds n.clock in
     lost-may n s.name t (record {
       former = s;
@@ -72,7 +77,11 @@ merged-may n k s t r seconds is stands same keeps state =
         is = state;
         given = subst (λ (k : StateName). k.creator ≡ n.creator → k.id < n.next_id) (sym keeps.name) it.given;
         rule = subst (λ (o : Option ℕ). IfSome o (λ k. k < length n.rules.list)) (sym keeps.rule) it.rule;
-        last = subst (λ (u : State). u.last ≤ n.clock) (sym same) (last-past k s r seconds n.clock it.last);
+        last = λ off. elim used [ inl past ↦ past | inr held ↦ subst (IsPast n) (sym held.1) (it.last off) ];
+        ahead = λ ahead. elim used [
+          | inl past ↦ absurd (omega arith)
+          | inr held ↦ left-same n s t keeps.rule held.0 held.1 it.ahead ahead
+        ];
         peer_change = subst (λ (o : Option ℕ). IfSome o (IsPast n)) (sym peer) (omega arith);
         updates = subst (λ (k : ℕ). k ≤ 255) (sym keeps.updates) it.updates;
       };

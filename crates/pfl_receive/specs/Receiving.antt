@@ -1,11 +1,13 @@
 -- What a record from the peer does at a node (if_pfsync.c; when a record is bad, the bound of a clear, taking over by an update
--- and the last use that is kept are this project's profile).
+-- and, without `expiry`, the last use that is kept are this project's profile).
 use Rattle.std.specs.Prelude.{ℕ, Bool, true, false, not, ◌&&◌, ◌||◌, ◌==◌, nat_lt, nat_le, List, length, filter, Option, Some, None, is_some, if◌then◌else◌}
 use Rattle.std.specs.List.{fold}
 use Rattle.std.specs.Option.{option_map_or}
 use Rattle.pfl_base.specs.declared.state_name.StateName.{StateName}
+use Rattle.pfl_base.specs.declared.class.Class.{Class}
 use Rattle.pfl_base.specs.Names.{is_name}
 use Rattle.pfl_edits.specs.Maps as maps
+use Rattle.pfl_desk.specs.rules.Rules.{timeout}
 use Rattle.pfl_track.specs.declared.state.State.{State}
 use Rattle.pfl_desk.specs.table.Tables.{key_in_use}
 use Rattle.pfl_wire.specs.declared.message.BulkStatus.{BulkStatus}
@@ -19,7 +21,7 @@ use Rattle.pfl_desk.specs.queue.declared.Kind.TheVariants.{InsertAck, Update, Up
 use Rattle.pfl_desk.specs.queue.Queues.{kind_of}
 use Rattle.pfl_merge.specs.declared.received.Received.{Received}
 use Rattle.pfl_merge.specs.declared.merged.Merged.{Merged}
-use Rattle.pfl_merge.specs.Merging.{merged, last_use}
+use Rattle.pfl_merge.specs.Merging.{merged, imported_use}
 use Rattle.pfl_desk.specs.bulk.Bulk.{no_name, server_started, after_status}
 use Rattle.pfl_desk.specs.Nodes.{Node, timeout_at}
 use Rattle.pfl_desk.specs.Changes.{put_state, mark, push_if, ask, announce_status, count_bad, count_stale, lost, released, changed, forgotten}
@@ -49,6 +51,10 @@ can_import n r = not (
 abbrev pub kept_rule : Node → Bool → Option ℕ → Option ℕ
 kept_rule n same_rules rule = if same_rules && option_map_or (λ r. nat_lt r (length n.rules.list)) rule false then rule else None
 
+-- the timeout by which it is taken over: with `expiry` as the rules say it (if_pfsync.c, as far as we know it), and else as it is scaled
+abbrev pub import_timeout : Node → Option ℕ → Class → ℕ
+import_timeout n rule class = if n.limits.kernel.expiry then timeout n.rules rule class else timeout_at n rule class
+
 -- the state of a record, as the node keeps it
 abbrev pub imported : Node → Bool → StateRecord → State
 imported n same_rules r =
@@ -61,7 +67,7 @@ imported n same_rules r =
       src = r.src;
       dst = r.dst;
       class = r.class;
-      last = last_use r.remaining (timeout_at n rule r.class) n.clock;
+      last = imported_use n.limits.kernel r.remaining (import_timeout n rule r.class) n.clock;
       rule = rule;
       no_sync = false;
       ack_wanted = false;

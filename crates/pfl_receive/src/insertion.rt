@@ -1,16 +1,16 @@
 //! A state of the peer's that the node takes over.
 
-ghost use Rattle.std.specs.Prelude.{◌≡◌, ◌≤◌, true, OnOk, OnErr};
+ghost use Rattle.std.specs.Prelude.{◌≡◌, ◌≤◌, ◌<◌, true, false, OnOk, OnErr};
 ghost use Rattle.pfl_desk.specs.Drafts.{Writes};
-ghost use Rattle.pfl_desk.specs.Nodes.{AreParts, is_overfull};
+ghost use Rattle.pfl_desk.specs.Nodes.{AreParts, IsPast, LeftFits, is_overfull};
 ghost use Rattle.pfl_desk.specs.queue.Queues.{kind_of};
 ghost use Rattle.pfl_receive.specs.Receiving as receiving;
 ghost use Rattle.pfl_desk.specs.table.Tables.{key_in_use as is_in_use};
 ghost use Rattle.pfl_track.specs.States.{IsState};
 
-use pfl_base::StateName;
+use pfl_base::{Class, StateName};
 use pfl_desk::{Counter, Desk, Kind, Overfull};
-use pfl_merge::last_use;
+use pfl_merge::imported_use;
 use pfl_track::{KeyPair, State, StateFields};
 use pfl_wire::StateRecord;
 use std::alloc::Allocator;
@@ -82,9 +82,11 @@ fn imported<A: Allocator>(desk: &Desk<A>, sent: &StateRecord, same_rules: bool) 
     requires parts { AreParts desk.now.node }
     ensures state { result ≡ receiving.imported desk.now.node same_rules sent.now }
     ensures known { IsState result }
+    ensures past { desk.now.node.limits.kernel.expiry ≡ false → IsPast desk.now.node result.last }
+    ensures ahead { desk.now.node.clock < result.last → LeftFits desk.now.node result }
 {
     let rule = kept_rule(desk, same_rules, sent.rule);
-    let timeout = desk.timeout(rule, sent.class);
+    let timeout = import_timeout(desk, rule, sent.class);
     let now = desk.clock();
     let Some(state) = State::of(StateFields {
         name: sent.name,
@@ -94,7 +96,7 @@ fn imported<A: Allocator>(desk: &Desk<A>, sent: &StateRecord, same_rules: bool) 
         src: sent.src,
         dst: sent.dst,
         class: sent.class,
-        last: last_use(sent.remaining, timeout, now),
+        last: imported_use(desk.kernel(), sent.remaining, timeout, now),
         rule,
         no_sync: false,
         ack_wanted: false,
@@ -104,6 +106,18 @@ fn imported<A: Allocator>(desk: &Desk<A>, sent: &StateRecord, same_rules: bool) 
         unreachable!();
     };
     state
+}
+
+/// The timeout by which a state is taken over, in seconds: with `expiry` as the rules say it (if_pfsync.c, as far as we know it), and
+/// else as the node scales it.
+fn import_timeout<A: Allocator>(desk: &Desk<A>, rule: Option<u16>, class: Class) -> u32
+    ensures timeout { result ≡ receiving.import_timeout desk.now.node rule class }
+{
+    if desk.kernel().expiry {
+        desk.rules().timeout(rule, class)
+    } else {
+        desk.timeout(rule, class)
+    }
 }
 
 /// The number of a rule, which means one only under the same rules.

@@ -4,9 +4,7 @@ use Rattle.std.specs.Prelude.{unwrap_or}
 use Rattle.pfl_base.specs.Counts.{Calls, Counts, CountsWithin, lent_calls}
 use Rattle.pfl_script.proofs.ForCallers.reader.{Counts-then}
 use Rattle.pfl_script.specs.reader.Readers.{Releases}
-use Rattle.pfl_script.specs.timeline.Timelines.{Timeline}
-use Rattle.pfl_script.specs.Answers.{Drains, RunsWhole}
-use Rattle.pfl_script.specs.Checks.{ChecksWhole}
+use Rattle.pfl_script.specs.Answers.{Drains}
 use Rattle.pfl_run.specs.Checks.{ChecksToEnd}
 use Rattle.pfl_run.specs.Runs.{HasFailed, IsDeviceFault, RunsToEnd}
 use Rattle.pfl_run.specs.declared.fault.RunFault.{RunFault}

@@ -2,4 +2,4 @@
 
 /// The release, the sum of its sources, and the logic that proves them.
 pub(crate) const VERSION: &str =
-    "release 18, sources a9d98b3d2114807a782cf3ff3d2b2b958965faab2a3b43ce19d63e575e52af67, logic dac8208d650f15bf";
+    "release 19, sources 93c75e1ab382673c53e509594f0d40e206b6f932dbb4262442e649ebf4da4e22, logic dac8208d650f15bf";

@@ -9,7 +9,7 @@ use Rattle.pfl_track.specs.declared.peer.Peer.{Peer}
 use Rattle.pfl_track.specs.Peers.{IsPeer}
 use Rattle.pfl_track.specs.RuleLaws.{BareAcksByAck}
 use Rattle.pfl_track.specs.Rules.{back_of, eased, heard, is_acknowledgement, is_empty}
-use Rattle.pfl_track.specs.Windows.{at_scale, is_scaled}
+use Rattle.pfl_track.specs.Windows.{at_scale}
 
 scale-small : (o : Option ℕ) → IfSome o (λ s. s ≤ 14) → unwrap_or o 0 ≤ 14
 scale-small None h = omega arith
@@ -39,11 +39,11 @@ at-sender true lo number e = refl
 at-sender false lo number e = cc
 
 pub bare-acks : BareAcksByAck
-bare-acks s d p is h w empty order =
-    let g = eased s d p in
-    let from = heard s d p in
+bare-acks scaling s d p is h w empty order =
+    let g = eased scaling s d p in
+    let from = heard scaling s d p in
     let right : seq_geq from.hi g.end ≡ true = ap (seq_geq from.hi) (at-sender (is_empty p) from.lo _ empty) ∙ order in
-    let left : seq_geq g.seq (back_of g d p) ≡ true =
-    ap (λ (n : ℕ). seq_geq n (back_of g d p)) (at-sender (is_empty p) from.lo _ empty)
-    ∙ back-geq from.lo (at_scale (is_scaled from d p) d d.window) h (window-small (is_scaled from d p) d is w) in
-    both (seq_geq from.hi g.end) (seq_geq g.seq (back_of g d p)) (is_acknowledgement g d p) right left
+    let left : seq_geq g.seq (back_of g) ≡ true =
+    ap (λ (n : ℕ). seq_geq n (back_of g)) (at-sender (is_empty p) from.lo _ empty)
+    ∙ back-geq from.lo (at_scale g.scaled d d.window) h (window-small g.scaled d is w) in
+    both (seq_geq from.hi g.end) (seq_geq g.seq (back_of g)) (is_acknowledgement g) right left

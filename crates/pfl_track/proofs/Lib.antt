@@ -6,6 +6,7 @@ pub mod Along
 pub mod Families
 mod Worked
 mod WorkedRules
+mod WorkedScales
 pub mod ForCallers
 pub mod Testing
 pub mod RuleMoving
@@ -13,3 +14,4 @@ pub mod RuleRising
 pub mod RuleTesting
 pub mod RuleAlong
 pub mod BareAcks
+pub mod Offers

@@ -32,13 +32,13 @@ segment-in kernel s p dir = segment_of kernel (sender s dir) (receiver s dir) p
 abbrev pub renewed : Kernel → State → Packet → Dir → ℕ → State
 renewed kernel s p dir now =
     let g = segment-in kernel s p dir in
-    moved s dir (sender_by Window g p) (receiver_by Window g (receiver s dir) p) now
+    moved s dir (sender_by Window g p) (receiver_by Window g p) now
 
 -- what comes of it where it passes loosely
 abbrev pub loosened : Kernel → State → Packet → Dir → State
 loosened kernel s p dir =
     let g = segment-in kernel s p dir in
-    touched s dir (sender_by Loose g p) (receiver_by Loose g (receiver s dir) p)
+    touched s dir (sender_by Loose g p) (receiver_by Loose g p)
 
 loose-on : (inside loose lenient nearby : Bool)
     → cond inside (Some Window) (cond (loose && lenient && nearby) (Some Loose) None) ≡ Some Loose → loose ≡ true
@@ -62,8 +62,8 @@ module _ (P : State → Type 0) (kernel : Kernel) (s : State) (p : Packet) (dir 
   by-tcp : tracked_tcp_by kernel s p dir now ≡ Moved t → P t
   by-tcp e =
       let g = segment-in kernel s p dir in
-      by-reuse (is_request p && is_closed s) (branch kernel g (receiver s dir) p)
-      (loose-on (is_inside_by kernel g (receiver s dir) p) kernel.loose (is_lenient g (receiver s dir)) (is_nearby g)) e
+      by-reuse (is_request p && is_closed s) (branch kernel g p)
+      (loose-on (is_inside_by kernel g p) kernel.loose (is_lenient g) (is_nearby g)) e
 
   by-proto : (b : Bool) → cond b (tracked_tcp_by kernel s p dir now) (Moved (tracked_other s dir now)) ≡ Moved t → P t
   by-proto true e = by-tcp e
@@ -103,9 +103,9 @@ pub all-renew : AllRenewBy
 all-renew kernel s p dir now t off e =
     moved-by (IsUsed s now) kernel s p dir now t (moved-used s dir _ _ now) (λ on. let no : true ≡ false = cc in cc) (moved-used s dir _ _ now) e
 
--- the profile, whatever is merged
-abbrev pub untracked : Bool → Kernel
-untracked merge = record { window = false; loose = false; merge = merge; reset = false }
+-- the profile, whatever updates do
+abbrev pub untracked : Bool → Bool → Kernel
+untracked merge expiry = record { window = false; loose = false; merge = merge; expiry = expiry; reset = false; scale = false }
 
 -- with none of the kernel's rules the tests are those of the profile
 inside-by : (right left counts : Bool) (near : ℕ → Bool) (number : ℕ)
@@ -119,8 +119,9 @@ inside-by true true true near number = by (near number)
     by true = refl
     by false = refl
 
-profile-inside : (merge : Bool) (s d : Peer) (p : Packet) → is_inside_by (untracked merge) (plain s d p) d p ≡ is_inside (begun s d p) d p
-profile-inside merge s d p =
+profile-inside : (merge expiry : Bool) (s d : Peer) (p : Packet)
+    → is_inside_by (untracked merge expiry) (plain false s d p) p ≡ is_inside (begun s d p) d p
+profile-inside merge expiry s d p =
     let from = begun s d p in
     inside-by (right_edge from p) (left_edge from (at_scale (is_scaled from d p) d d.window) p) (acknowledges d p)
     (is_near (at_scale (is_scaled from d p) from max_ack_window) d.lo) p.ack
@@ -130,14 +131,15 @@ allowed-by : (counts : Bool) (number window hi : ℕ) → option_map_or (widened
 allowed-by true number window hi = refl
 allowed-by false number window hi = refl
 
-profile-receiver : (s d : Peer) (p : Packet) → receiver_by Window (plain s d p) d p ≡ receiver_after (begun s d p) d p
+profile-receiver : (s d : Peer) (p : Packet) → receiver_by Window (plain false s d p) p ≡ receiver_after (begun s d p) d p
 profile-receiver s d p = ap with_hi (allowed-by (acknowledges d p) p.ack (offered (begun s d p) d p) d.hi)
   where
     with_hi : ℕ → Peer
     with_hi hi = record d { level = receiver_level p d.level; hi = hi }
 
-profile-tcp : (merge : Bool) (s : State) (p : Packet) (dir : Dir) (now : ℕ) → tracked_tcp_by (untracked merge) s p dir now ≡ tracked_tcp s p dir now
-profile-tcp merge s p dir now = ap after (by-inside (is_inside_by (untracked merge) (plain from to p) to p) ∙ same)
+profile-tcp : (merge expiry : Bool) (s : State) (p : Packet) (dir : Dir) (now : ℕ)
+    → tracked_tcp_by (untracked merge expiry) s p dir now ≡ tracked_tcp s p dir now
+profile-tcp merge expiry s p dir now = ap after (by-inside (is_inside_by (untracked merge expiry) g p) ∙ same)
   where
     from : Peer
     from = sender s dir
@@ -145,36 +147,40 @@ profile-tcp merge s p dir now = ap after (by-inside (is_inside_by (untracked mer
     to : Peer
     to = receiver s dir
 
+    g : Segment
+    g = plain false from to p
+
     after : Tracked → Tracked
     after r = cond (is_request p && is_closed s) Reused r
 
     outcome : Bool → Peer → Tracked
     outcome inside receiver = cond (not inside) OutOfWindow (Moved (moved s dir (sender_after (begun from to p) p) receiver now))
 
-    by-inside : (b : Bool) → passed s (plain from to p) p dir now (cond b (Some Window) None) ≡ outcome b (receiver_by Window (plain from to p) to p)
+    by-inside : (b : Bool) → passed s g p dir now (cond b (Some Window) None) ≡ outcome b (receiver_by Window g p)
     by-inside true = refl
     by-inside false = refl
 
-    same : outcome (is_inside_by (untracked merge) (plain from to p) to p) (receiver_by Window (plain from to p) to p)
+    same : outcome (is_inside_by (untracked merge expiry) g p) (receiver_by Window g p)
         ≡ outcome (is_inside (begun from to p) to p) (receiver_after (begun from to p) to p)
-    same = ap (λ (b : Bool). outcome b (receiver_by Window (plain from to p) to p)) (profile-inside merge from to p)
+    same = ap (λ (b : Bool). outcome b (receiver_by Window g p)) (profile-inside merge expiry from to p)
         ∙ ap (λ (e : Peer). outcome (is_inside (begun from to p) to p) e) (profile-receiver from to p)
 
--- where none of these rules is the kernel's, it is the profile but for what is merged
-none-is : (window loose merge reset : Bool) → not (window || loose || reset) ≡ true
-    → record { window = window; loose = loose; merge = merge; reset = reset } ≡ untracked merge
-none-is false false merge false e = refl
-none-is true loose merge reset e = cc
-none-is false true merge reset e = cc
-none-is false false merge true e = cc
+-- where none of these rules is the kernel's, it is the profile but for what updates do
+none-is : (window loose merge expiry reset scale : Bool) → not (window || loose || reset || scale) ≡ true
+    → record { window = window; loose = loose; merge = merge; expiry = expiry; reset = reset; scale = scale } ≡ untracked merge expiry
+none-is false false merge expiry false false e = refl
+none-is true loose merge expiry reset scale e = cc
+none-is false true merge expiry reset scale e = cc
+none-is false false merge expiry true scale e = cc
+none-is false false merge expiry false true e = cc
 
-pub is-profile : (kernel : Kernel) → tracks_by_profile kernel ≡ true → kernel ≡ untracked kernel.merge
-is-profile kernel e = none-is kernel.window kernel.loose kernel.merge kernel.reset e
+pub is-profile : (kernel : Kernel) → tracks_by_profile kernel ≡ true → kernel ≡ untracked kernel.merge kernel.expiry
+is-profile kernel e = none-is kernel.window kernel.loose kernel.merge kernel.expiry kernel.reset kernel.scale e
 
 pub profile-tracked : NoneIsProfile
 profile-tracked kernel s p dir now e =
     ap (λ (k : Kernel). tracked_by k s p dir now) (is-profile kernel e)
-    ∙ ap (λ (r : Tracked). cond (is_tcp p.proto) r (Moved (tracked_other s dir now))) (profile-tcp kernel.merge s p dir now)
+    ∙ ap (λ (r : Tracked). cond (is_tcp p.proto) r (Moved (tracked_other s dir now))) (profile-tcp kernel.merge kernel.expiry s p dir now)
 
 -- what passes by no rule that is taken away, passes so still
 pub loose-adds : LooseAdds
@@ -183,18 +189,15 @@ loose-adds kernel s p dir now t e = by-proto (is_tcp p.proto) e
     g : Segment
     g = segment-in kernel s p dir
 
-    to : Peer
-    to = receiver s dir
-
     by-way : (inside more : Bool) → passed s g p dir now (cond inside (Some Window) None) ≡ Moved t
         → passed s g p dir now (cond inside (Some Window) (cond more (Some Loose) None)) ≡ Moved t
     by-way true more e = e
     by-way false more e = cc
 
-    by-reuse : (r : Bool) → cond r Reused (passed s g p dir now (branch (record kernel { loose = false }) g to p)) ≡ Moved t
-        → cond r Reused (passed s g p dir now (branch (record kernel { loose = true }) g to p)) ≡ Moved t
+    by-reuse : (r : Bool) → cond r Reused (passed s g p dir now (branch (record kernel { loose = false }) g p)) ≡ Moved t
+        → cond r Reused (passed s g p dir now (branch (record kernel { loose = true }) g p)) ≡ Moved t
     by-reuse true e = cc
-    by-reuse false e = by-way (is_inside_by kernel g to p) (is_lenient g to && is_nearby g) e
+    by-reuse false e = by-way (is_inside_by kernel g p) (is_lenient g && is_nearby g) e
 
     by-proto : (b : Bool) → cond b (tracked_tcp_by (record kernel { loose = false }) s p dir now) (Moved (tracked_other s dir now)) ≡ Moved t
         → cond b (tracked_tcp_by (record kernel { loose = true }) s p dir now) (Moved (tracked_other s dir now)) ≡ Moved t
@@ -207,9 +210,6 @@ reset-refuses kernel s p dir now t off e = by-proto (is_tcp p.proto) e
     g : Segment
     g = segment-in kernel s p dir
 
-    to : Peer
-    to = receiver s dir
-
     by-way : (inside asked beside more : Bool)
         → passed s g p dir now (cond (inside && (not asked || beside)) (Some Window) (cond (false && more) (Some Loose) None)) ≡ Moved t
         → passed s g p dir now (cond (inside && (not false || beside)) (Some Window) (cond (false && more) (Some Loose) None)) ≡ Moved t
@@ -219,14 +219,14 @@ reset-refuses kernel s p dir now t off e = by-proto (is_tcp p.proto) e
     by-way false asked beside more e = cc
 
     by-rule : (loose : Bool) → loose ≡ false
-        → passed s g p dir now (branch (record kernel { reset = true; loose = loose }) g to p) ≡ Moved t
-        → passed s g p dir now (branch (record kernel { reset = false; loose = loose }) g to p) ≡ Moved t
+        → passed s g p dir now (branch (record kernel { reset = true; loose = loose }) g p) ≡ Moved t
+        → passed s g p dir now (branch (record kernel { reset = false; loose = loose }) g p) ≡ Moved t
     by-rule true off e = cc
     by-rule false off e =
-        by-way (is_in_window g to p) (asks_number (record kernel { reset = true }) p) (is_beside p.seq g.sender.lo) (is_lenient g to && is_nearby g) e
+        by-way (is_in_window g) (asks_number (record kernel { reset = true }) p) (is_beside p.seq g.sender.lo) (is_lenient g && is_nearby g) e
 
-    by-reuse : (r : Bool) → cond r Reused (passed s g p dir now (branch (record kernel { reset = true }) g to p)) ≡ Moved t
-        → cond r Reused (passed s g p dir now (branch (record kernel { reset = false }) g to p)) ≡ Moved t
+    by-reuse : (r : Bool) → cond r Reused (passed s g p dir now (branch (record kernel { reset = true }) g p)) ≡ Moved t
+        → cond r Reused (passed s g p dir now (branch (record kernel { reset = false }) g p)) ≡ Moved t
     by-reuse true e = cc
     by-reuse false e = by-rule kernel.loose off e
 

@@ -3,12 +3,10 @@ use Rattle.std.specs.Prelude.{◌≡◌, ℕ, Bool, true, false, not, ◌&&◌, 
 use Rattle.std.specs.Option.{option_map_or}
 use Rattle.std.proofs.Common.{cond, ap, ◌∙◌, sym}
 use Rattle.pfl_base.specs.declared.kernel.Kernel.{Kernel}
-use Rattle.pfl_base.specs.declared.packet.Packet.{Packet}
 use Rattle.pfl_base.specs.Packets.{is_request, is_tcp}
 use Rattle.pfl_base.specs.Sequence.{seq_geq}
 use Rattle.pfl_track.specs.declared.edges.AckTest.{AckTest}
 use Rattle.pfl_track.specs.declared.judgement.Judgement.{Judgement}
-use Rattle.pfl_track.specs.declared.peer.Peer.{Peer}
 use Rattle.pfl_track.specs.declared.branch.Branch.{Branch}
 use Rattle.pfl_track.specs.declared.branch.Branch.TheVariants.{Window, Loose}
 use Rattle.pfl_track.specs.declared.segment.Segment.{Segment}
@@ -37,9 +35,9 @@ acks-agree ahead lo (Some number) = none-unless (is_near ahead lo number) _
 three : (a b c x y z : Bool) → a ≡ x → b ≡ y → c ≡ z → (a && b && c) ≡ (x && y && z)
 three a b c x y z e f g = cc
 
-edges-met : (g : Segment) (d : Peer) (p : Packet) → is_met (edges_of g d p) ≡ is_in_window g d p
-edges-met g d p = three _ _ _ _ _ _ (none-unless (seq_geq g.sender.hi g.end) _) (none-unless (seq_geq g.seq (back_of g d p)) _)
-    (acks-agree (ahead_of g d p) d.lo g.ack)
+edges-met : (g : Segment) → is_met (edges_of g) ≡ is_in_window g
+edges-met g = three _ _ _ _ _ _ (none-unless (seq_geq g.sender.hi g.end) _) (none-unless (seq_geq g.seq (back_of g)) _)
+    (acks-agree (ahead_of g) g.receiver.lo g.ack)
 
 reset-met : (asked : Bool) (lo number : ℕ) → misses_no_number (cond asked (Some (reset_test lo number)) None) ≡ (not asked || is_beside number lo)
 reset-met false lo number = refl
@@ -63,14 +61,14 @@ in-order false true true nearby = refl
 
 pub judgements-agree : JudgementsAgree
 unfolding judged
-judgements-agree kernel g d p =
-    let asked = kernel.loose && is_lenient g d && not (is_inside_by kernel g d p) in
-    let inside : (is_met (edges_of g d p) && misses_no_number (cond (asks_number kernel p) (Some (reset_test g.sender.lo p.seq)) None))
-    ≡ is_inside_by kernel g d p =
-    two _ _ _ _ (edges-met g d p) (reset-met (asks_number kernel p) g.sender.lo p.seq) in
+judgements-agree kernel g p =
+    let asked = kernel.loose && is_lenient g && not (is_inside_by kernel g p) in
+    let inside : (is_met (edges_of g) && misses_no_number (cond (asks_number kernel p) (Some (reset_test g.sender.lo p.seq)) None))
+    ≡ is_inside_by kernel g p =
+    two _ _ _ _ (edges-met g) (reset-met (asks_number kernel p) g.sender.lo p.seq) in
     ap (λ (b : Bool). ways b (is_met_loosely (cond asked (Some (loose_test g)) None))) inside
-    ∙ (ap (ways (is_inside_by kernel g d p)) (loose-met asked g)
-    ∙ in-order (is_inside_by kernel g d p) kernel.loose (is_lenient g d) (is_nearby g))
+    ∙ (ap (ways (is_inside_by kernel g p)) (loose-met asked g)
+    ∙ in-order (is_inside_by kernel g p) kernel.loose (is_lenient g) (is_nearby g))
 
 pub outcomes-follow : OutcomesFollow
 outcomes-follow kernel s p dir now tcp = by-proto (is_tcp p.proto) tcp
@@ -81,9 +79,9 @@ outcomes-follow kernel s p dir now tcp = by-proto (is_tcp p.proto) tcp
     after : Option Branch → Tracked
     after b = cond (is_request p && is_closed s) Reused (passed s g p dir now b)
 
-    by-proto : (b : Bool) → b ≡ true → cond b (after (branch kernel g (receiver s dir) p)) (Moved (tracked_other s dir now))
-        ≡ after (branch_of (judged kernel g (receiver s dir) p))
-    by-proto true e = ap after (sym (judgements-agree kernel g (receiver s dir) p))
+    by-proto : (b : Bool) → b ≡ true → cond b (after (branch kernel g p)) (Moved (tracked_other s dir now))
+        ≡ after (branch_of (judged kernel g p))
+    by-proto true e = ap after (sym (judgements-agree kernel g p))
     by-proto false e = cc
 
 profile-ack : (counts : Bool) (ahead lo number : ℕ) → option_map_or (λ n. Some (near_test ahead lo n)) (cond counts (Some number) None) None
@@ -94,10 +92,10 @@ profile-ack false ahead lo number = refl
 pub profile-tests : NoneTestsByProfile
 unfolding judged tested_by
 profile-tests kernel s dir p e =
-    let g = plain (sender s dir) (receiver s dir) p in
+    let g = plain false (sender s dir) (receiver s dir) p in
     let d = receiver s dir in
     ap (λ (k : Kernel). window_test_by k s dir p) (is-profile kernel e)
-    ∙ ap with_ack (profile-ack (acknowledges d p) (ahead_of g d p) d.lo p.ack)
+    ∙ ap with_ack (profile-ack (acknowledges d p) (ahead_of g) d.lo p.ack)
   where
     with_ack : Option AckTest → Judgement
     with_ack ack = record { eased = false; test = record (window_test s dir p) { ack = ack }; reset = None; loose = None }

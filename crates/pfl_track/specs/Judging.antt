@@ -10,7 +10,6 @@ use Rattle.pfl_track.specs.declared.edges.WindowTest.{WindowTest}
 use Rattle.pfl_track.specs.declared.judgement.Judgement.{Judgement}
 use Rattle.pfl_track.specs.declared.judgement.LooseTest.{LooseTest}
 use Rattle.pfl_track.specs.declared.judgement.ResetTest.{ResetTest}
-use Rattle.pfl_track.specs.declared.peer.Peer.{Peer}
 use Rattle.pfl_track.specs.declared.branch.Branch.{Branch}
 use Rattle.pfl_track.specs.declared.branch.Branch.TheVariants.{Window, Loose}
 use Rattle.pfl_base.specs.declared.kernel.Kernel.{Kernel}
@@ -48,29 +47,29 @@ reset_test lo number = record {
 }
 
 -- what the packet acknowledges, if that counts
-abbrev pub ack_of : Segment → Peer → Packet → Option AckTest
-ack_of g d p = option_map_or (λ number. Some (near_test (ahead_of g d p) d.lo number)) g.ack None
+abbrev pub ack_of : Segment → Option AckTest
+ack_of g = option_map_or (λ number. Some (near_test (ahead_of g) g.receiver.lo number)) g.ack None
 
 -- the edges of the window
-abbrev pub edges_of : Segment → Peer → Packet → WindowTest
-edges_of g d p = record { right = up_to g.sender.hi g.end; left = back_to (back_of g d p) g.seq; ack = ack_of g d p }
+abbrev pub edges_of : Segment → WindowTest
+edges_of g = record { right = up_to g.sender.hi g.end; left = back_to (back_of g) g.seq; ack = ack_of g }
 
 -- the further edges
 abbrev pub loose_test : Segment → LooseTest
 loose_test g = record { right = up_to (loose_end g) g.end; left = back_to (loose_back g) g.seq }
 
 -- what the packet is tested against: the further edges only where it is not inside the window and may pass loosely
-unfoldable pub judged : Kernel → Segment → Peer → Packet → Judgement
-judged kernel g d p = record {
+unfoldable pub judged : Kernel → Segment → Packet → Judgement
+judged kernel g p = record {
   eased = kernel.window && is_empty p;
-  test = edges_of g d p;
+  test = edges_of g;
   reset = if asks_number kernel p then Some (reset_test g.sender.lo p.seq) else None;
-  loose = if kernel.loose && is_lenient g d && not (is_inside_by kernel g d p) then Some (loose_test g) else None;
+  loose = if kernel.loose && is_lenient g && not (is_inside_by kernel g p) then Some (loose_test g) else None;
 }
 
 -- what a packet of the state is tested against
 abbrev pub window_test_by : Kernel → State → Dir → Packet → Judgement
-window_test_by kernel s dir p = judged kernel (segment_of kernel (sender s dir) (receiver s dir) p) (receiver s dir) p
+window_test_by kernel s dir p = judged kernel (segment_of kernel (sender s dir) (receiver s dir) p) p
 
 -- the number of a RST is not missed
 abbrev pub misses_no_number : Option ResetTest → Bool

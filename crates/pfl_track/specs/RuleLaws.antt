@@ -1,8 +1,8 @@
 -- What packets never do to states, whichever rules are the kernel's, and how these rules bear on one another (pf.c, as far as we know it).
-use Rattle.std.specs.Prelude.{◌≡◌, ◌&&◌, if◌then◌else◌, ◌<◌, ◌^◌, ◌⊎◌, ℕ, true, false, Option, Some, None, List, All, fold, option_and_then}
+use Rattle.std.specs.Prelude.{◌≡◌, ◌&&◌, if◌then◌else◌, ◌<◌, ◌≤◌, ◌+◌, ◌*◌, ◌^◌, ◌⊎◌, ℕ, Bool, true, false, is_some, Option, Some, None, List, All, fold, option_and_then}
 use Rattle.pfl_base.specs.declared.direction.Dir.{Dir}
 use Rattle.pfl_base.specs.declared.packet.Packet.{Packet}
-use Rattle.pfl_base.specs.Packets.{is_request, is_tcp, IsPacket}
+use Rattle.pfl_base.specs.Packets.{is_request, is_tcp, syn, IsPacket}
 use Rattle.pfl_base.specs.Sequence.{seq_geq}
 use Rattle.pfl_track.specs.declared.peer.Peer.{Peer}
 use Rattle.pfl_base.specs.declared.kernel.Kernel.{Kernel}
@@ -13,7 +13,8 @@ use Rattle.pfl_track.specs.Edges.{window_test}
 use Rattle.pfl_track.specs.Judging.{branch_of, judged, window_test_by}
 use Rattle.pfl_track.specs.Laws.{Arrival, RisesInRange, left_of}
 use Rattle.pfl_track.specs.Peers.{IsPeer}
-use Rattle.pfl_track.specs.Rules.{branch, eased, heard, is_acknowledgement, is_empty, is_in_window, passed, segment_of, tracked_by, tracks_by_profile}
+use Rattle.pfl_track.specs.Rules.{branch, eased, heard, in_units, is_acknowledgement, is_empty, is_in_window, passed, segment_of}
+use Rattle.pfl_track.specs.Rules.{tracked_by, tracks_by_profile}
 use Rattle.pfl_track.specs.States.{IsState}
 use Rattle.pfl_track.specs.Tracking.{is_closed, receiver, sender, tracked, used}
 
@@ -72,7 +73,7 @@ StaysStateAlongBy = (kernel : Kernel) (s : State) (run : List Arrival) (t : Stat
 
 -- a packet passes as its tests say
 abbrev pub JudgementsAgree : Type 0
-JudgementsAgree = (kernel : Kernel) (g : Segment) (d : Peer) (p : Packet) → branch_of (judged kernel g d p) ≡ branch kernel g d p
+JudgementsAgree = (kernel : Kernel) (g : Segment) (p : Packet) → branch_of (judged kernel g p) ≡ branch kernel g p
 
 -- what comes of a packet of TCP follows from its tests, unless it begins a new connection over a closed one
 abbrev pub OutcomesFollow : Type 0
@@ -90,8 +91,18 @@ abbrev pub ResetRefuses : Type 0
 ResetRefuses = (kernel : Kernel) (s : State) (p : Packet) (dir : Dir) (now : ℕ) (t : State) → kernel.loose ≡ false
     → tracked_by (record kernel { reset = true }) s p dir now ≡ Moved t → tracked_by (record kernel { reset = false }) s p dir now ≡ Moved t
 
+-- the rule `scale` bears on a SYN to an end that has offered a scale, and on no other packet
+abbrev pub ScaleAnswersOffers : Type 0
+ScaleAnswersOffers = (kernel : Kernel) (s : State) (p : Packet) (dir : Dir) (now : ℕ) → (syn p && is_some (receiver s dir).scale) ≡ false
+    → tracked_by (record kernel { scale = true }) s p dir now ≡ tracked_by (record kernel { scale = false }) s p dir now
+
+-- what is kept in units of a scale is, at that scale, the window or less than one unit more
+abbrev pub UnitsCover : Type 0
+UnitsCover = (scale window : ℕ)
+    → (window ≤ in_units (Some scale) window * 2 ^ scale) × (in_units (Some scale) window * 2 ^ scale < window + 2 ^ scale)
+
 -- by the rule `window`, a packet without data is inside the window exactly where what it acknowledges is near: its own numbers do not
 -- matter, if its sender's are in order
 abbrev pub BareAcksByAck : Type 0
-BareAcksByAck = (s d : Peer) (p : Packet) → IsPeer d → (heard s d p).lo < 2 ^ 32 → d.window < 2 ^ 16 → is_empty p ≡ true
-    → seq_geq (heard s d p).hi (heard s d p).lo ≡ true → is_in_window (eased s d p) d p ≡ is_acknowledgement (eased s d p) d p
+BareAcksByAck = (scaling : Bool) (s d : Peer) (p : Packet) → IsPeer d → (heard scaling s d p).lo < 2 ^ 32 → d.window < 2 ^ 16 → is_empty p ≡ true
+    → seq_geq (heard scaling s d p).hi (heard scaling s d p).lo ≡ true → is_in_window (eased scaling s d p) ≡ is_acknowledgement (eased scaling s d p)

@@ -9,7 +9,6 @@ use crate::edges::{AckTest, EdgeTest, WindowTest, back_to, near_test, unless, up
 use crate::passing::{
     ahead_of, asks_number, back_of, is_beside, is_inside_by, is_lenient, loose_back, loose_end,
 };
-use crate::peer::Peer;
 use crate::segment::{Segment, is_empty, segment_of};
 use crate::state::State;
 use crate::tracking::{receiver, sender};
@@ -107,22 +106,22 @@ fn reset_test(lo: u32, number: u32) -> ResetTest
 }
 
 /// The edges of the window.
-fn edges_of(segment: &Segment, receiver: &Peer, packet: &Packet) -> WindowTest
-    ensures { result ≡ meant.edges_of segment.now receiver.now packet.now }
+fn edges_of(segment: &Segment) -> WindowTest
+    ensures { result ≡ meant.edges_of segment.now }
 {
     WindowTest {
         right: up_to(segment.sender.hi(), segment.end),
-        left: back_to(back_of(segment, receiver, packet), segment.seq),
-        ack: ack_of(segment, receiver, packet),
+        left: back_to(back_of(segment), segment.seq),
+        ack: ack_of(segment),
     }
 }
 
 /// What it acknowledges, if that counts.
-fn ack_of(segment: &Segment, receiver: &Peer, packet: &Packet) -> Option<AckTest>
-    ensures { result ≡ meant.ack_of segment.now receiver.now packet.now }
+fn ack_of(segment: &Segment) -> Option<AckTest>
+    ensures { result ≡ meant.ack_of segment.now }
 {
     match segment.ack {
-        Some(number) => Some(near_test(ahead_of(segment, receiver, packet), receiver.lo(), number)),
+        Some(number) => Some(near_test(ahead_of(segment), segment.receiver.lo(), number)),
         None => None,
     }
 }
@@ -141,26 +140,25 @@ fn loose_test(segment: &Segment) -> LooseTest
 pub fn window_test_by(kernel: Kernel, state: &State, packet: &Packet, dir: Dir) -> Judgement
     ensures { result ≡ meant.window_test_by kernel state.now dir packet.now }
 {
-    let receiver = receiver(state, dir);
-    let segment = segment_of(kernel, &sender(state, dir), &receiver, packet);
-    judged(kernel, &segment, &receiver, packet)
+    let segment = segment_of(kernel, &sender(state, dir), &receiver(state, dir), packet);
+    judged(kernel, &segment, packet)
 }
 
 /// The same for a packet as it is judged.
 #[tactic(auto, unfolding(crate::specs::Judging::judged))]
-fn judged(kernel: Kernel, segment: &Segment, receiver: &Peer, packet: &Packet) -> Judgement
-    ensures { result ≡ meant.judged kernel segment.now receiver.now packet.now }
+fn judged(kernel: Kernel, segment: &Segment, packet: &Packet) -> Judgement
+    ensures { result ≡ meant.judged kernel segment.now packet.now }
 {
-    let inside = is_inside_by(kernel, segment, receiver, packet);
+    let inside = is_inside_by(kernel, segment, packet);
     Judgement {
         eased: kernel.window && is_empty(packet),
-        test: edges_of(segment, receiver, packet),
+        test: edges_of(segment),
         reset: if asks_number(kernel, packet) {
             Some(reset_test(segment.sender.lo(), packet.seq()))
         } else {
             None
         },
-        loose: if kernel.loose && is_lenient(segment, receiver) && !inside {
+        loose: if kernel.loose && is_lenient(segment) && !inside {
             Some(loose_test(segment))
         } else {
             None

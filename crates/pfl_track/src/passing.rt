@@ -7,21 +7,16 @@ use crate::branch::Branch;
 use crate::levels::{CLOSING, FIN_WAIT_2, SYN_SENT, TIME_WAIT, receiver_level, sender_level};
 use crate::peer::{Peer, PeerFields};
 use crate::segment::Segment;
-use crate::window::{MAX_ACK_WINDOW, at_scale, is_near, is_scaled};
+use crate::window::{MAX_ACK_WINDOW, at_scale, is_near};
 use pfl_base::{Kernel, Packet, TcpFlags, seq_geq, seq_gt};
 
 /// How the packet passes, if it does.
-pub(crate) fn branch(
-    kernel: Kernel,
-    segment: &Segment,
-    receiver: &Peer,
-    packet: &Packet,
-) -> Option<Branch>
-    ensures { result ≡ meant.branch kernel segment.now receiver.now packet.now }
+pub(crate) fn branch(kernel: Kernel, segment: &Segment, packet: &Packet) -> Option<Branch>
+    ensures { result ≡ meant.branch kernel segment.now packet.now }
 {
-    if is_inside_by(kernel, segment, receiver, packet) {
+    if is_inside_by(kernel, segment, packet) {
         Some(Branch::Window)
-    } else if kernel.loose && is_lenient(segment, receiver) && is_nearby(segment) {
+    } else if kernel.loose && is_lenient(segment) && is_nearby(segment) {
         Some(Branch::Loose)
     } else {
         None
@@ -29,54 +24,46 @@ pub(crate) fn branch(
 }
 
 /// Whether it is inside the window, and of a RST whether it has the number that is asked for.
-pub(crate) fn is_inside_by(
-    kernel: Kernel,
-    segment: &Segment,
-    receiver: &Peer,
-    packet: &Packet,
-) -> bool
-    ensures { result ≡ meant.is_inside_by kernel segment.now receiver.now packet.now }
+pub(crate) fn is_inside_by(kernel: Kernel, segment: &Segment, packet: &Packet) -> bool
+    ensures { result ≡ meant.is_inside_by kernel segment.now packet.now }
 {
-    is_in_window(segment, receiver, packet)
+    is_in_window(segment)
         && (!asks_number(kernel, packet) || is_beside(packet.seq(), segment.sender.lo()))
 }
 
 /// Whether all edges of the window hold.
-fn is_in_window(segment: &Segment, receiver: &Peer, packet: &Packet) -> bool
-    ensures { result ≡ meant.is_in_window segment.now receiver.now packet.now }
+fn is_in_window(segment: &Segment) -> bool
+    ensures { result ≡ meant.is_in_window segment.now }
 {
-    let sender = segment.sender;
-    let bound = back_of(segment, receiver, packet);
-    seq_geq(sender.hi(), segment.end)
-        && seq_geq(segment.seq, bound)
-        && is_acknowledgement(segment, receiver, packet)
+    seq_geq(segment.sender.hi(), segment.end)
+        && seq_geq(segment.seq, back_of(segment))
+        && is_acknowledgement(segment)
 }
 
 /// Whether what it acknowledges is near what the other end sent, if that counts.
-fn is_acknowledgement(segment: &Segment, receiver: &Peer, packet: &Packet) -> bool
-    ensures { result ≡ meant.is_acknowledgement segment.now receiver.now packet.now }
+fn is_acknowledgement(segment: &Segment) -> bool
+    ensures { result ≡ meant.is_acknowledgement segment.now }
 {
     match segment.ack {
-        Some(number) => is_near(ahead_of(segment, receiver, packet), receiver.lo(), number),
+        Some(number) => is_near(ahead_of(segment), segment.receiver.lo(), number),
         None => true,
     }
 }
 
 /// Where a packet may begin at the earliest: a window back.
-pub(crate) fn back_of(segment: &Segment, receiver: &Peer, packet: &Packet) -> u32
-    ensures { result ≡ meant.back_of segment.now receiver.now packet.now }
+pub(crate) fn back_of(segment: &Segment) -> u32
+    ensures { result ≡ meant.back_of segment.now }
 {
-    let scaled = is_scaled(&segment.sender, receiver, packet);
-    let window = at_scale(scaled, receiver, u32::from(receiver.window()));
+    let receiver = segment.receiver;
+    let window = at_scale(segment.scaled, &receiver, u32::from(receiver.window()));
     segment.sender.lo().wrapping_sub(window)
 }
 
 /// How far the other end may be ahead of what is acknowledged.
-pub(crate) fn ahead_of(segment: &Segment, receiver: &Peer, packet: &Packet) -> u32
-    ensures { result ≡ meant.ahead_of segment.now receiver.now packet.now }
+pub(crate) fn ahead_of(segment: &Segment) -> u32
+    ensures { result ≡ meant.ahead_of segment.now }
 {
-    let scaled = is_scaled(&segment.sender, receiver, packet);
-    at_scale(scaled, &segment.sender, MAX_ACK_WINDOW)
+    at_scale(segment.scaled, &segment.sender, MAX_ACK_WINDOW)
 }
 
 /// Whether the number of the packet is asked for: it is a RST, under the rule `reset`.
@@ -94,12 +81,11 @@ pub(crate) fn is_beside(number: u32, lo: u32) -> bool
 }
 
 /// Whether a packet may pass loosely: the other end was not heard, or an end has closed.
-pub(crate) fn is_lenient(segment: &Segment, receiver: &Peer) -> bool
-    ensures { result ≡ meant.is_lenient segment.now receiver.now }
+pub(crate) fn is_lenient(segment: &Segment) -> bool
+    ensures { result ≡ meant.is_lenient segment.now }
 {
-    receiver.level() < SYN_SENT
-        || receiver.level() >= FIN_WAIT_2
-        || segment.sender.level() >= FIN_WAIT_2
+    let level = segment.receiver.level();
+    level < SYN_SENT || level >= FIN_WAIT_2 || segment.sender.level() >= FIN_WAIT_2
 }
 
 /// Whether it is within [`MAX_ACK_WINDOW`] of what is known of its sender.
@@ -133,7 +119,7 @@ pub(crate) fn sender_by(branch: Branch, segment: &Segment, packet: &Packet) -> P
             Branch::Window => sender_level(packet, former.level),
             Branch::Loose => loose_sender_level(packet, former.level),
         },
-        window: former.window.max(packet.window()).max(1),
+        window: former.window.max(segment.window).max(1),
         lo: if seq_gt(segment.end, former.lo) {
             segment.end
         } else {
@@ -144,21 +130,16 @@ pub(crate) fn sender_by(branch: Branch, segment: &Segment, packet: &Packet) -> P
 }
 
 /// The other end after it.
-pub(crate) fn receiver_by(
-    branch: Branch,
-    segment: &Segment,
-    receiver: &Peer,
-    packet: &Packet,
-) -> Peer
-    ensures { result ≡ meant.receiver_by branch segment.now receiver.now packet.now }
+pub(crate) fn receiver_by(branch: Branch, segment: &Segment, packet: &Packet) -> Peer
+    ensures { result ≡ meant.receiver_by branch segment.now packet.now }
 {
-    let former = receiver.fields();
+    let former = segment.receiver.fields();
     Peer::with(PeerFields {
         level: match branch {
             Branch::Window => receiver_level(packet, former.level),
             Branch::Loose => loose_receiver_level(packet, former.level),
         },
-        hi: allowance_by(segment, receiver, packet),
+        hi: allowance_by(segment),
         ..former
     })
 }
@@ -193,15 +174,13 @@ fn loose_receiver_level(packet: &Packet, level: u8) -> u8
 }
 
 /// The sequence number after what the other end may send.
-fn allowance_by(segment: &Segment, receiver: &Peer, packet: &Packet) -> u32
-    ensures { result ≡ meant.allowance_by segment.now receiver.now packet.now }
+fn allowance_by(segment: &Segment) -> u32
+    ensures { result ≡ meant.allowance_by segment.now }
 {
-    let scaled = is_scaled(&segment.sender, receiver, packet);
-    let offered = at_scale(scaled, &segment.sender, u32::from(packet.window()));
+    let offered = at_scale(segment.scaled, &segment.sender, u32::from(segment.window));
+    let hi = segment.receiver.hi();
     match segment.ack {
-        Some(ack) if seq_geq(ack.wrapping_add(offered), receiver.hi()) => {
-            ack.wrapping_add(offered.max(1))
-        }
-        _ => receiver.hi(),
+        Some(ack) if seq_geq(ack.wrapping_add(offered), hi) => ack.wrapping_add(offered.max(1)),
+        _ => hi,
     }
 }

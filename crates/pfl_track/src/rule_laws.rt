@@ -3,9 +3,9 @@
 
 ghost use Rattle.pfl_track.specs.RuleLaws.{AllRenewBy, EndsMoveBy, JudgementsAgree, LooseAdds, LowersNoLevelAlongBy, LowersNoLevelBy};
 ghost use Rattle.pfl_track.specs.RuleLaws.{BareAcksByAck, NoneIsProfile, NoneTestsByProfile, OnlyMotionBy, OutcomesFollow};
-ghost use Rattle.pfl_track.specs.RuleLaws.{ResetRefuses, StaysStateAlongBy, StaysStateBy};
+ghost use Rattle.pfl_track.specs.RuleLaws.{ResetRefuses, ScaleAnswersOffers, StaysStateAlongBy, StaysStateBy, UnitsCover};
 
-/// Where none of the rules `window`, `loose` and `reset` is the kernel's, packets move states by the profile, and are tested by it
+/// Where none of the rules `window`, `loose`, `reset` and `scale` is the kernel's, packets move states by the profile, and are tested by it
 /// and by nothing else.
 pub fn no_rules_are_the_profile()
     ensures moved { NoneIsProfile }
@@ -45,6 +45,13 @@ pub fn judgements_agree()
 pub fn rules_add_and_refuse()
     ensures loose { LooseAdds }
     ensures reset { ResetRefuses }
+{}
+
+/// The rule `scale` bears on a SYN to an end that has offered a scale, and on no other packet. What it keeps in units of a scale is, at
+/// that scale, the window that was offered, or less than one unit more.
+pub fn scale_answers_offers()
+    ensures answers { ScaleAnswersOffers }
+    ensures units { UnitsCover }
 {}
 
 /// By the rule `window`, a packet without data is inside the window where what it acknowledges is near, if its sender's own numbers are

@@ -57,7 +57,7 @@ pub fn track_by(kernel: Kernel, state: &State, packet: &Packet, dir: Dir, now: M
 fn tracks_by_profile(kernel: Kernel) -> bool
     ensures { result ≡ ruled.tracks_by_profile kernel }
 {
-    !(kernel.window || kernel.loose || kernel.reset)
+    !(kernel.window || kernel.loose || kernel.reset || kernel.scale)
 }
 
 fn track_tcp_by(kernel: Kernel, state: &State, packet: &Packet, dir: Dir, now: Millis) -> Tracked
@@ -67,9 +67,8 @@ fn track_tcp_by(kernel: Kernel, state: &State, packet: &Packet, dir: Dir, now: M
     if again {
         return Tracked::Reused;
     }
-    let receiver = receiver(state, dir);
-    let segment = segment_of(kernel, &sender(state, dir), &receiver, packet);
-    match branch(kernel, &segment, &receiver, packet) {
+    let segment = segment_of(kernel, &sender(state, dir), &receiver(state, dir), packet);
+    match branch(kernel, &segment, packet) {
         Some(branch) => Tracked::Moved(passed(state, &segment, packet, dir, now, branch)),
         None => Tracked::OutOfWindow,
     }
@@ -87,7 +86,7 @@ fn passed(
     ensures { result ≡ ruled.after state.now segment.now packet.now dir now branch }
 {
     let from = sender_by(branch, segment, packet);
-    let to = receiver_by(branch, segment, &receiver(state, dir), packet);
+    let to = receiver_by(branch, segment, packet);
     match branch {
         Branch::Window => moved(state, dir, from, to, now),
         Branch::Loose => touched(state, dir, from, to),

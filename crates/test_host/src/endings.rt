@@ -36,9 +36,10 @@ fn a_line_without_its_end(rt: HostRuntime) -> Result<(), Fail> {
     Ok(())
 }
 
-/// What a client hears that says a line of a million bytes, which nothing ends.
+/// What a client hears that says a line of a million bytes and a word before them, which nothing ends.
 fn asked_long(rt: &HostRuntime, port: u16) -> Option<Vec<u8>> {
     let mut stream = connect(rt, port)?;
+    stream.write_all(b"names ").ok()?;
     for _ in 0..100 {
         stream.write_all(&[b'x'; 10000]).ok()?;
     }

@@ -52,9 +52,11 @@ impl<A: Allocator> Desk<A> {
         self.parts.states()
     }
 
-    /// The timeout that it gives the states of a rule and a class as it stands, in seconds (pf.conf(5), `adaptive.start`).
+    /// The timeout that it gives the states of a rule and a class as it stands, in seconds (pf.conf(5), `adaptive.start`). It is no
+    /// longer than the rules say.
     pub fn timeout(&self, rule: Option<u16>, class: Class) -> u32
         ensures timeout { result ≡ timeout_at self.now.node rule class }
+        ensures shrinks { result ≤ rule_timeout self.now.node.rules rule class }
     {
         let states = self.states();
         let seconds = self.rules().timeout(rule, class);

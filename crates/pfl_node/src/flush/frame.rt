@@ -4,7 +4,7 @@ ghost use Rattle.std.specs.List.{AllByRecursion, flat_map};
 ghost use Rattle.std.specs.Prelude.{◌≡◌, ◌<◌, ◌^◌, [], ◌∷◌, Some, IsSome, IfOk, length};
 ghost use Rattle.pfl_edits.specs.Maps as maps;
 ghost use Rattle.pfl_node.specs.Flushing as flushing;
-ghost use Rattle.pfl_receive.specs.desk.Nodes.{AreParts, IsPast};
+ghost use Rattle.pfl_receive.specs.desk.Nodes.{AreParts, LeftFits};
 ghost use Rattle.pfl_node.specs.inner.Sending as sending;
 ghost use Rattle.pfl_receive.specs.queue.inner.Fitting.{entry_bytes};
 ghost use Rattle.pfl_wire.specs.Frames.{lists};
@@ -114,7 +114,7 @@ fn standing<A: Allocator>(desk: &Desk<A>, name: StateName) -> &State
 
 /// The whole state, as it is sent.
 fn state_record<A: Allocator>(desk: &Desk<A>, state: &State) -> StateRecord
-    requires past { IsPast desk.now.node state.now.last }
+    requires left { desk.now.node.clock < state.now.last → LeftFits desk.now.node state.now }
     ensures record_of { result ≡ flushing.state_record desk.now.node state.now }
 {
     StateRecord {
@@ -132,7 +132,7 @@ fn state_record<A: Allocator>(desk: &Desk<A>, state: &State) -> StateRecord
 
 /// What changes of a state, as it is sent.
 fn update_record<A: Allocator>(desk: &Desk<A>, state: &State) -> UpdateRecord
-    requires past { IsPast desk.now.node state.now.last }
+    requires left { desk.now.node.clock < state.now.last → LeftFits desk.now.node state.now }
     ensures record_of { result ≡ flushing.update_record desk.now.node state.now }
 {
     UpdateRecord {
@@ -146,7 +146,7 @@ fn update_record<A: Allocator>(desk: &Desk<A>, state: &State) -> UpdateRecord
 
 /// The whole seconds that a state has left.
 fn remaining<A: Allocator>(desk: &Desk<A>, state: &State) -> u32
-    requires past { IsPast desk.now.node state.now.last }
+    requires left { desk.now.node.clock < state.now.last → LeftFits desk.now.node state.now }
     ensures seconds { result ≡ flushing.remaining desk.now.node state.now }
 {
     let now = desk.clock();

@@ -16,7 +16,7 @@ use pfl_base::{Dir, Packet, StateName};
 use pfl_language::{Fate, Reason};
 use pfl_receive::{Counter, Desk, Kind, Overfull};
 use pfl_rules::Rule;
-use pfl_track::{State, start_state};
+use pfl_track::{State, start_state, started_by};
 use std::alloc::Allocator;
 
 /// A packet that no state takes.
@@ -67,7 +67,7 @@ fn start<A: Allocator>(
         return Ok(drop_packet(desk, Reason::Key));
     }
     let name = next_name(desk);
-    let state = start_state(
+    let started = start_state(
         name,
         keys,
         dir,
@@ -76,6 +76,7 @@ fn start<A: Allocator>(
         rule.no_sync,
         desk.clock(),
     );
+    let state = started_by(desk.kernel(), started);
     announce(desk, state, dir, packet)
 }
 

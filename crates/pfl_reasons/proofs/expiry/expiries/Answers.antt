@@ -1,7 +1,7 @@
 use Rattle.std.proofs.Common.{◌++◌, ◌∙◌, ap}
 use Rattle.pfl_edits.specs.Maps as maps
 use Rattle.pfl_table.specs.Tables.{States}
-use Rattle.pfl_reasons.proofs.Expiring.{all-listed, listed-past, rows_expiries}
+use Rattle.pfl_reasons.proofs.Expiring.{all-listed, listed-reckoned, rows_expiries}
 use Rattle.pfl_reasons.proofs.expiry.expiries.Goals as goal
 
 pub loop-row-init : goal.loop-row-init
@@ -10,7 +10,7 @@ loop-row-init g c =
     let rows = c.iter-rows.result in
     record {
       listed = ap (λ es. es ++ rows_expiries c.len-states.result n rows) c.in_ok-list.ensures.items;
-      past = listed-past n rows c.known.ensures.node.parts (c.iter-rows.ensures.states ∙ ap (λ (m : States). maps.values m) c.states-2.ensures.states);
+      reckoned = listed-reckoned n rows c.known.ensures.node.parts (c.iter-rows.ensures.states ∙ ap (λ (m : States). maps.values m) c.states-2.ensures.states);
     }
 
 pub returns : goal.returns

@@ -1,5 +1,8 @@
+use Rattle.std.specs.Prelude.{◌≡◌, ◌<◌, false}
 use Rattle.std.proofs.Common.{subst, arith}
+use Rattle.pfl_track.specs.declared.state.State.{State}
 use Rattle.pfl_track.specs.States.{IsState}
+use Rattle.pfl_desk.specs.Nodes.{IsPast, LeftFits}
 use Rattle.pfl_desk.proofs.ForCallers.{writes-then, writes-more}
 use Rattle.pfl_receive.proofs.Importing.{may-import, imported-node, imported-may, acknowledged-may}
 use Rattle.pfl_receive.proofs.insertion.take_insertion.Goals as goal
@@ -8,8 +11,11 @@ pub add_state-requires-clause-parts : goal.add_state-requires-clause-parts
 add_state-requires-clause-parts g c =
     let n = c.args.desk.now.node in
     let may = may-import n c.args.sent.now _ c.can_import.ensures.can c.if-not-can_import.false in
-    let is = subst IsState c.imported-state.ensures.state c.imported-state.ensures.known in
-    rw c.imported-state.ensures.state (imported-node n c.args.same_rules c.args.sent.now c.can_import.ensures.parts may is)
+    let same = c.imported-state.ensures.state in
+    let is = subst IsState same c.imported-state.ensures.known in
+    let past = subst (λ (s : State). n.limits.kernel.expiry ≡ false → IsPast n s.last) same c.imported-state.ensures.past in
+    let ahead = subst (λ (s : State). n.clock < s.last → LeftFits n s) same c.imported-state.ensures.ahead in
+    rw same (imported-node n c.args.same_rules c.args.sent.now c.can_import.ensures.parts may is past ahead)
 
 pub add_state-requires-clause-may : goal.add_state-requires-clause-may
 add_state-requires-clause-may g c =

@@ -3,13 +3,15 @@ use Rattle.std.specs.Prelude.{nat_le}
 use Rattle.pfl_base.specs.Keys.{key}
 use Rattle.pfl_edits.specs.Maps as maps
 use Rattle.pfl_track.specs.declared.state.State.{State}
+use Rattle.pfl_track.specs.Rules.{started_by}
+use Rattle.pfl_track.specs.States.{IsState}
 use Rattle.pfl_track.specs.Tracking.{start_state}
 use Rattle.pfl_receive.specs.table.Tables.{States}
 use Rattle.pfl_receive.specs.table.Translating.{is_taken, new_keys}
 use Rattle.pfl_node.specs.inner.Carried.{Tried}
 use Rattle.pfl_receive.specs.desk.inner.Kept.{MayStart}
 use Rattle.pfl_node.specs.Starting.{Handled, announced, with_new, new_state}
-use Rattle.pfl_node.proofs.Fated.{new-starts}
+use Rattle.pfl_node.proofs.Fated.{new-starts, started-starts}
 use Rattle.pfl_receive.proofs.ForCallers.desk.{writes-more}
 use Rattle.pfl_node.proofs.Started.{started-max, started-full, started-key, started-new}
 use Rattle.pfl_node.proofs.packet.start.start.Goals as goal
@@ -63,13 +65,15 @@ announce-requires-clause-known g c =
     let full = c.is_full.ensures.states ∙ (λ i. nat_le (c.states.ensures.limit i) (maps.len (c.states.ensures.states i))) in
     let clock = c.clock.ensures.clock in
     let name = c.next_name-name.ensures.name in
-    let same = c.start_state-state.ensures.state
+    let first = c.start_state-started.ensures.state
     ∙ (λ i. start_state (name i) c.new_keys-keys.result.wire c.new_keys-keys.result.stack c.args.dir p (Some c.args.number) r.no_sync
     (clock i)) in
+    let same = c.started_by-state.ensures.state ∙ (λ i. started_by (c.kernel.ensures.kernel i) (first i)) in
     subst (MayStart n) (sym same)
+    (started-starts n n.limits.kernel _ (subst IsState same c.started_by-state.ensures.known)
     (new-starts n c.new_keys-keys.result.wire c.new_keys-keys.result.stack c.args.dir p c.args.number r r.no_sync c.requires.packet
     c.has_either.ensures.keys ((λ i. is_taken (sym c.states-3.ensures.states i) c.new_keys-keys.result)
-    ∙ (sym c.has_either.ensures.taken ∙ c.if-has_either.false)) (sym full ∙ c.if-is_full.false) c.requires.stands)
+    ∙ (sym c.has_either.ensures.taken ∙ c.if-has_either.false)) (sym full ∙ c.if-is_full.false) c.requires.stands))
 
 pub returns : goal.returns
 returns g c =
@@ -82,8 +86,10 @@ returns g c =
     (λ i. is_taken (sym c.states-3.ensures.states i) (sym keys i)) ∙ (sym c.has_either.ensures.taken ∙ c.if-has_either.false) in
     let clock = c.clock.ensures.clock in
     let name = c.next_name-name.ensures.name in
-    let same : c.start_state-state.result ≡ new_state n c.args.dir p c.args.number r = c.start_state-state.ensures.state
+    let first = c.start_state-started.ensures.state
     ∙ (λ i. start_state (name i) ((keys i).wire) ((keys i).stack) c.args.dir p (Some c.args.number) r.no_sync (clock i)) in
+    let same : c.started_by-state.result ≡ new_state n c.args.dir p c.args.number r =
+    c.started_by-state.ensures.state ∙ (λ i. started_by (c.kernel.ensures.kernel i) (first i)) in
     let why = started-new n c.args.dir p c.args.number r (sym c.is_at_max.ensures.most ∙ c.if-is_at_max.false) (sym full ∙ c.if-is_full.false) used in
     let whole = ap (λ (s : State). announced (with_new n s) s c.args.dir p) same ∙ sym why in
     record { done = subst (λ (h : Handled). Tried 9 c.announce.result c.args.desk.now c.announce.new.desk h) whole c.announce.ensures.done }
