@@ -4,6 +4,8 @@ from __future__ import annotations
 from pathlib import Path
 from typing import Iterator, List, NamedTuple
 
+from shell.language.setups import SWITCHES
+
 from .archive import archive
 
 TOP = Path(__file__).resolve().parent.parent
@@ -11,13 +13,15 @@ COMMANDS = ("pfl_lab", "pfl_shell")
 EXAMPLES = "share/pfl_lab/examples"
 START = "import sys\n\nfrom shell.installed import main\n\nsys.exit(main())\n"
 RUNNABLE, READABLE = 0o755, 0o644
+_OF_SHELL = ("shell", "verify", "annotate", "chart", "page", "whatif", "depends", "compare", "import")
 # The commands of a checkout, as the examples have them, and what replaces them if there is no checkout.
 INSTALLED_WORDS = (
     *((f"./lab {word}", f"pfl_lab {word}") for word in ("run", "check", "serve")),
-    *((f"./lab {word}", f"pfl_shell {word}") for word in ("shell", "verify", "annotate", "chart", "page", "whatif", "compare", "import")),
+    *((f"./lab {word}", f"pfl_shell {word}") for word in _OF_SHELL),
     ("[docs/FORMATS.md](../docs/FORMATS.md)", "pfl_lab(1)"),
     ("[page](../docs/PAGE.md)", "page"),
     ("[docs/KERNEL.md](../docs/KERNEL.md)", "`help kernel` of pfl_shell"),
+    *((f"[`{word}`](../docs/REAL.md#{word})", f"`{word}`") for word in SWITCHES),
     ("docs/KERNEL.md", "`help kernel` of pfl_shell"),
 )
 

@@ -1,5 +1,5 @@
 import { byId, isMotionReduced, make } from "./elements.js";
-import { drawnSheet } from "./drawing.js";
+import { drawnSheet, ruleMark } from "./drawing.js";
 import { putDots } from "./motion.js";
 
 /** The chart of a branch in its scrolling box, where only the sheets near what is seen are in the document. */
@@ -104,13 +104,24 @@ export class ChartView {
   /** Puts a sheet into the document, where it is not there yet, at its place. */
   put(sheet) {
     const { width, height } = this.chart;
-    const svg = this.sheets.get(sheet) ?? drawnSheet(sheet, width);
+    const svg = this.sheets.get(sheet) ?? this.drawn(sheet, width);
     svg.style.top = `${(100 * sheet.top) / height}%`;
     svg.style.height = `${(100 * sheet.height) / height}%`;
     if (this.sheets.has(sheet)) return;
     this.sheets.set(sheet, svg);
     this.canvas.append(svg);
     if (this.now?.sheet === sheet) this.showNow(false);
+  }
+
+  /** A sheet as it is drawn, with a mark at each row whose event comes to something else by other rules. */
+  drawn(sheet, width) {
+    const { moments } = this.viewer.branch;
+    const svg = drawnSheet(sheet, width);
+    for (const row of sheet.rows) {
+      const rules = moments.slice(row[0] - 1, row[1]).flatMap((moment) => moment.rules ?? []);
+      if (rules.length) svg.append(ruleMark(row, width, rules.join("; ")));
+    }
+    return svg;
   }
 
   /** The sheet and the row of a moment, if it has one. */

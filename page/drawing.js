@@ -64,6 +64,16 @@ export function drawnSheet(sheet, width) {
   return svg;
 }
 
+/** The mark of a row whose event comes to something else by other rules, and what that is. */
+export function ruleMark([first, last, top], width, text) {
+  const mark = shape("text", { class: "rule-mark", "data-last": last, x: width - 4, y: top + 15, "text-anchor": "end" });
+  const title = shape("title");
+  mark.textContent = "k";
+  title.textContent = `event ${last === first ? first : `${first} to ${last}`}, ${text}`;
+  mark.append(title);
+  return mark;
+}
+
 /** From where to where an element of a sheet reaches downwards. */
 function reach([name, attributes]) {
   const numbers = ["y", "y1", "y2", "cy"].filter((key) => key in attributes).map((key) => Number(attributes[key]));

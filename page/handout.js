@@ -44,7 +44,8 @@ function described(moment, at) {
   const number = make("span", { class: "at" }, String(at + 1));
   const line = make("p", { class: "line" }, number, make("code", {}, moment.event), " ", outcome, ...who);
   const why = moment.tone === "bad" ? [make("ul", { class: "why" }, ...items(moment.why))] : [];
-  return make("div", { class: "event" }, ...paragraphs(moment.notes), line, ...why, ...paragraphs(moment.after ?? []));
+  const rules = moment.rules ? [make("p", { class: "rules" }, moment.rules.join("; "))] : [];
+  return make("div", { class: "event" }, ...paragraphs(moment.notes), line, ...rules, ...why, ...paragraphs(moment.after ?? []));
 }
 
 /** Fills the handout with the run, as the viewer has it. */

@@ -12,6 +12,12 @@ function isWideChart(element) {
   return element.id === "chart" && element.scrollWidth > element.clientWidth + 1;
 }
 
+/** The next event that comes to something else by other rules, or this one if there is none after it. */
+function nextMarked({ branch, place }) {
+  const at = branch.moments.findIndex(({ rules }, before) => rules && before >= place);
+  return at < 0 ? place : at + 1;
+}
+
 /** What the keys do. */
 function keysOf(viewer, controls) {
   const by = (number) => () => controls.go(viewer.place + number);
@@ -21,6 +27,7 @@ function keysOf(viewer, controls) {
   };
   return {
     ArrowLeft: by(-1), ArrowRight: by(1), PageUp: by(-10), PageDown: by(10), "[": turn(-1), "]": turn(1),
+    k: () => controls.go(nextMarked(viewer)),
     Home: () => controls.go(0), End: () => controls.go(viewer.newest),
     " ": () => controls.turn(), "/": () => byId("search").focus(), "?": () => byId("keys").showModal(),
   };

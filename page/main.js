@@ -13,6 +13,9 @@ import { Live } from "./live.js";
 /** How much of the window the top may take at most to stay in sight. */
 const MOST_TOP = 0.4;
 
+/** What is said of the rules that the pair goes by. */
+const RULES = "Whose rules the pair goes by. An event has the mark k if it comes to something else by other ones.";
+
 /** Has the top stay in sight where it leaves room enough, and says how high it is. */
 function measureTop() {
   const top = byId("top");
@@ -27,6 +30,7 @@ function begin() {
   const viewer = new Viewer(run);
   byId("title").textContent = run.title;
   byId("by").textContent = run.by;
+  byId("by").title = RULES;
   const controls = new Controls(viewer);
   new Story(viewer);
   new ChartView(viewer);

@@ -35,6 +35,8 @@ export class Story {
     byId("outcome").textContent = moment ? moment.outcome : "";
     byId("outcome").className = toneOf(moment?.tone);
     byId("who").textContent = moment?.who ? `by ${moment.who}` : "";
+    byId("rules").hidden = !moment?.rules;
+    byId("rules").textContent = (moment?.rules ?? []).join("; ");
     byId("happened").classList.toggle("opening", !moment);
     byId("reason").hidden = !moment?.why.length;
     byId("why").replaceChildren(...items(moment ? moment.why : [], (number) => this.addressOf(number)));

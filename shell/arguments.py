@@ -8,6 +8,7 @@ import re
 from typing import Callable, List, Optional, Tuple
 
 from .charts.windows import read_flow, read_place
+from .depends.asked import add_options as add_depends
 from .dumps.comparing import Tolerance
 from .importing.about import ENDS, Wanted
 from .importing.firewall import Own
@@ -31,6 +32,7 @@ class Words(Options):
     echo: bool
     strict: bool
     dry_run: bool
+    all_replies: bool
     version: bool
     file: str
     picture: Optional[str]
@@ -108,6 +110,14 @@ def _further(add: Callable[..., argparse.ArgumentParser], name: str) -> None:
             " groups the faults by what they change.",
         )
     )
+    _depends(
+        add(
+            "depends",
+            help="says which replies of scripts depend on the rules of the profile or of the kernel",
+            description="Plays scripts again with each word of `kernel` and with all of them, and says which replies change, the first of"
+            " them with its reason. Status: 0 if none does, 1 if one does, 2 if a script could not be played.",
+        )
+    )
     _compare(
         add(
             "compare",
@@ -180,6 +190,11 @@ def _whatif(words: argparse.ArgumentParser) -> None:
     words.add_argument("file", metavar="SCRIPT")
     words.add_argument("--branch", default="main", metavar="BRANCH", help="tries the events of this branch instead of `main`")
     add_options(words)
+
+
+def _depends(words: argparse.ArgumentParser) -> None:
+    words.add_argument("files", nargs="+", metavar="SCRIPT")
+    add_depends(words)
 
 
 def _compare(words: argparse.ArgumentParser) -> None:

@@ -7,7 +7,8 @@ import re
 from typing import Callable, Dict, Iterable, List, Sequence, Tuple
 
 from .charts.windows import FLOW, WINDOW_WORDS
-from .helps import CHART, NOTES, SHELL, VIEW, WHATIF, WHATIF_OPTIONS, WORDS
+from .depends.asked import ALL_REPLIES
+from .helps import CHART, DEPENDS, NOTES, SHELL, VIEW, WHATIF, WHATIF_OPTIONS, WORDS
 from .laboratory import MOST_ENDS, Laboratory
 from .language.commands import BACK, COMMANDS, FORK, FRAME, KERNEL, KERNEL_WORD, RULE, SETUP, STEP, TYPED, WHY
 from .language.events import EVENTS
@@ -77,6 +78,8 @@ def candidates(lab: Laboratory, before: Sequence[str], begun: str) -> List[str]:
         return _matching(_chart(lab, words, begun), begun)
     if words[0] == WHATIF:
         return _matching(_whatif(lab, words, begun), begun)
+    if words[0] == DEPENDS:
+        return _matching([*(_branches(lab, words) if len(words) == 1 else ()), *[ALL_REPLIES] * (ALL_REPLIES not in words)], begun)
     if words[0] == VIEW:
         return _matching(_view(lab, words), begun)
     if words[0] in (BACK.word, FORK.word):

@@ -25,6 +25,7 @@ WIDEST = 100
 CHART = "chart"
 NOTES = "notes"
 WHATIF = "whatif"
+DEPENDS = "depends"
 VIEW = "view"
 WHATIF_OPTIONS = (
     "--faults KINDS", "--watch WHAT", "--from K", "--to L", "--pairs", "--flushing", "--only N", "--out FILE.pfl"
@@ -160,6 +161,14 @@ SHELL: Dict[str, Help] = {
         "tries each single fault of the branch, such as a lost frame or a restart, in a run of its own, and groups the faults by what they "
         "change",
         WHATIF_PARTS,
+    ),
+    DEPENDS: Help(
+        f"{DEPENDS} [BRANCH] [--all-replies]",
+        "says whether the outcomes of the branch's events depend on whose rules they go by, those of the profile or of the kernel",
+        "The events that stand are played again with each word of `kernel` and with all of them, or where the setup has such a line, with each "
+        "word added or taken away. For each word there is the first outcome that changes, with its reason, and what the end has otherwise; "
+        "then what several words do only together. Nothing changes here. Of a script `./lab depends SCRIPT` does the same with all of its "
+        "replies, searches too.\n--all-replies: shows each reply that changes.",
     ),
     "summary": Help("summary", "asks a server for a few numbers that sum up all branches; this is no command, and waits for no one"),
     NOTES: Help(

@@ -23,6 +23,14 @@ class Kernel:
         """With the profile's rule in the place of one of the kernel's."""
         return Kernel(tuple(it for it in self.switches if it is not switch))
 
+    def toggled(self, switches: Collection[Switch]) -> "Kernel":
+        """With the other rule in each of these places: the kernel's for the profile's, and the profile's for the kernel's."""
+        return Kernel(tuple(it for it in SWITCHES.values() if (it in self.switches) != (it in switches)))
+
+    def apart(self, other: "Kernel") -> Tuple[Switch, ...]:
+        """The places where another set of rules has another one."""
+        return self.toggled(other.switches).switches
+
     def has(self, switch: Switch) -> bool:
         return switch in self.switches
 
@@ -62,3 +70,4 @@ class Kernel:
 
 
 PROFILE = Kernel()
+EVERY = PROFILE.with_words([EVERY_SWITCH])

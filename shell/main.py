@@ -1,5 +1,5 @@
-"""The words that need the shell, of `./lab` and of the installed `pfl_shell`: shell, verify, annotate, chart, page, whatif, compare
-and import."""
+"""The words that need the shell, of `./lab` and of the installed `pfl_shell`: shell, verify, annotate, chart, page, whatif, depends,
+compare and import."""
 from __future__ import annotations
 
 import io
@@ -13,12 +13,15 @@ from typing import Callable, Dict, Iterator, Sequence
 
 from . import scripts
 from .arguments import Words, page_fault, parser
-from .charts.chart import NO_TEXTS, chart as chart_of
+from .branches import Branch
+from .charts.chart import NO_TEXTS, Texts, chart as chart_of
 from .charts.picture import draw
 from .charts.rows import Chart
 from .charts.text import WIDEST, text as chart_text
 from .charts.windows import WHOLE, Window
 from .colours import PLAIN, Paint
+from .depends.answers import of_script
+from .depends.marks import marks_of, notes_of
 from .dumps.command import TROUBLE, NothingRead, compared
 from .dumps.comparing import Tolerance
 from .dumps.report import Shown
@@ -35,7 +38,7 @@ from .paging import paged
 from .programs import Client, Ended, SetupFault, check_setup, run_lines, setup_fault
 from .setups import Setup
 from .shell import STRICT_STATUS, Shell, Stopped
-from .stories import story_of
+from .stories import Story, story_of
 from .whatif.answers import Counter, answer
 from .whatif.asked import asked
 
@@ -70,7 +73,7 @@ def main(arguments: Sequence[str], name: str = "./lab") -> int:
         say(words, f"setup line {fault.line}: {fault.words}")
     except (Ended, Unknown, NotPacked, scripts.NotWritten, NothingRead) as why:
         say(words, why)
-    return TROUBLE if words.word == "compare" else 1
+    return TROUBLE if words.word in ("compare", "depends") else 1
 
 
 def say(words: Words, what: object) -> None:
@@ -158,6 +161,20 @@ def whatif(words: Words) -> int:
     return INTERRUPTED_STATUS if found.is_interrupted else int(bool(found.fault))
 
 
+def depends(words: Words) -> int:
+    """Plays scripts by other rules than their own; the status is that of diff(1)."""
+    status = 0
+    for number, path in enumerate(words.files):
+        script = lines_of(scripts.read(path))
+        if says_faults(words, path, script):
+            status = TROUBLE
+            continue
+        found = of_script(words.program, script, path, words.all_replies, paint(sys.stdout.isatty()))
+        show([*[""] * (number > 0), *found.lines])
+        status = max(status, int(found.depends))
+    return status
+
+
 def compare(words: Words) -> int:
     """Compares two dumps; the status is that of diff(1)."""
     tolerance = Tolerance() if words.apart is None else Tolerance(words.apart, True)
@@ -203,14 +220,22 @@ def faulty_lines(program: str, script: Sequence[str]) -> Iterator[str]:
 
 
 def drawn_from(program: str, script: Sequence[str], branch: str, window: Window = WHOLE, with_notes: bool = False) -> Chart:
-    """A chart of what a script makes of a branch, with the comments of the script if they are wanted."""
+    """A chart of what a script makes of a branch; with notes also the comments of the script, and what comes of its events by other rules."""
     lab = Laboratory(program)
     try:
         story = story_of(lab, script)
-        notes = story.above(branch) if with_notes else NO_TEXTS
+        notes = noted(lab, story, lab.branch(branch)) if with_notes else NO_TEXTS
         return chart_of(lab, lab.branch(branch), notes, story.forks(branch), window)
     finally:
         lab.close()
+
+
+def noted(lab: Laboratory, story: Story, branch: Branch) -> Texts:
+    """The paragraphs about a branch, by how many of its events come before them, and below these what is said of other rules."""
+    stands, notes = branch.events[: branch.cursor], story.above(branch.name)
+    for place, paragraphs in notes_of(marks_of(lab.program, lab.setup, stands), lab.setup.kernel, len(stands)).items():
+        notes.setdefault(place, []).extend(paragraphs)
+    return notes
 
 
 def paint(is_terminal: bool) -> Paint:
@@ -308,6 +333,7 @@ WORDS: Dict[str, Callable[[Words], int]] = {
     "chart": chart,
     "page": page,
     "whatif": whatif,
+    "depends": depends,
     "compare": compare,
     "import": import_,
 }

@@ -183,6 +183,10 @@ class Setup:
                 setup.pass_over(line)
         return setup
 
+    def by(self, kernel: Kernel) -> "Setup":
+        """The same setup by the rules of a kernel, without its comments."""
+        return Setup.of([*([] if kernel.is_profile else [kernel.line]), *(it for it in self.lines if it.split()[0] != KERNEL.word)])
+
     def pass_over(self, line: str) -> None:
         """Takes a line that is not read: a comment may say where the rules below it are from."""
         self._origin = origin(line)

@@ -14,6 +14,8 @@ from .charts.picture import draw
 from .charts.text import WIDEST, text as chart_text
 from .charts.windows import read_asked
 from .colours import Paint
+from .depends.answers import of_branch
+from .depends.asked import read as read_depends
 from .dialogue import Loop
 from .fitting import shortened
 from .laboratory import Asked, Laboratory, Unknown, event_of
@@ -397,6 +399,10 @@ class Shell(Loop):
         if found.is_interrupted and not self.is_typed:
             # (outside a dialogue an interrupt ends the shell)
             raise KeyboardInterrupt
+
+    def do_depends(self, words: str) -> None:
+        name, shows_all = read_depends(words.split())
+        self.answer(of_branch(self.lab, self.branch(name), shows_all, self.paint).lines)
 
     def do_help(self, words: str) -> None:
         word = {"exit": "quit"}.get(words.strip(), words.strip())

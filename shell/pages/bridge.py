@@ -34,6 +34,8 @@ OTHERS = "another session"
 STEP, WATCH = "step", "watch"
 # How often to compare branches at the beginning, while other sessions may be changing them.
 TRIES = 3
+# Of how many events of a branch it is asked what they come to by other rules: at each step that is some runs of them.
+MOST_MARKED = 300
 # The name of a branch in the laboratory of its record.
 MAIN = "main"
 
@@ -215,6 +217,7 @@ class Bridge:
             # (what the script says about events that are gone is gone, too)
             record.keep_texts(common(old.branch.events, branch.events) if old else len(branch.events))
             keep = record.sync(branch)
+            record.mark(MOST_MARKED)
             for moment, who in zip(record.moments[keep:], names[keep:]):
                 moment.who = who
             new = Shown(branch, names, offers(record.laboratory, replace(branch, name=MAIN)), record.chart_as_data())

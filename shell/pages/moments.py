@@ -31,13 +31,15 @@ class Moment:
     edits: Optional[Facts] = None
     who: str = ""
 
-    def as_data(self, notes: Sequence[str], after: Sequence[str]) -> Dict[str, object]:
-        """The moment for JSON, with the paragraphs about its event, and those after it."""
+    def as_data(self, notes: Sequence[str], after: Sequence[str], rules: Sequence[str] = ()) -> Dict[str, object]:
+        """The moment for JSON, with the paragraphs about its event, those after it, and what it comes to by other rules."""
         its: Dict[str, object] = {"event": self.event, "outcome": self.outcome, "tone": tone(self.outcome)}
         if self.who:
             its["who"] = self.who
         if after:
             its["after"] = list(after)
+        if rules:
+            its["rules"] = list(rules)
         return {**its, "notes": list(notes), "why": list(self.why), "changes": [[*it] for it in self.changes], "edits": self.edits}
 
 

@@ -9,6 +9,7 @@ from .moments import Known, Moment, moment, unseen
 from ..branches import Branch, common
 from ..charts.chart import drawn
 from ..charts.picture import Drawing
+from ..depends.marks import MOST_EVENTS, NONE, marks_of
 from ..held import held_packets, with_packets
 from ..laboratory import Laboratory, Unknown
 from ..explanations import read_explanation
@@ -35,6 +36,9 @@ class Record:
         self.notes: Mapping[int, Sequence[str]] = {}
         self.after: Mapping[int, Sequence[str]] = {}
         self.forks: Mapping[int, Sequence[str]] = {}
+        # Which events come to something else by other rules.
+        self.marks = NONE
+        self._marked: List[str] = []
         self.laboratory = Laboratory(program, setup=setup)
         self.laboratory.open()
         assert self.laboratory.session
@@ -60,6 +64,12 @@ class Record:
         self.undone = len(branch.events) - branch.cursor
         return kept
 
+    def mark(self, most: int = MOST_EVENTS) -> None:
+        """Asks which of its first events come to something else by other rules, in runs of their own."""
+        events = [it.event for it in self.moments[:most]]
+        if events != self._marked:
+            self.marks, self._marked = marks_of(self.laboratory.program, self.laboratory.setup, events), events
+
     def keep_texts(self, number: int) -> None:
         """Keeps only the paragraphs of the first events, and the branches that begin after them."""
         all_texts = (self.notes, self.after, self.forks)
@@ -80,7 +90,12 @@ class Record:
     def moments_as_data(self, first: int = 0) -> List[Dict[str, object]]:
         """The moments after the first ones."""
         numbered = enumerate(self.moments[first:], first + 1)
-        return [it.as_data(self.notes.get(number, ()), self.after.get(number, ())) for number, it in numbered]
+        return [it.as_data(self.notes.get(number, ()), self.after.get(number, ()), self.rules(number)) for number, it in numbered]
+
+    def rules(self, number: int) -> List[str]:
+        """By which other rules an event comes to something else, and to what; and since when the run is another one."""
+        others = [f"{by}: another run from here on" for by, since in self.marks.partings.items() if since == number]
+        return [*map(str, self.marks.of.get(number, [])), *others]
 
     def chart_as_data(self) -> Dict[str, object]:
         """The chart of the events that stand."""

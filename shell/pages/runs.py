@@ -79,4 +79,5 @@ def _recorded(lab: Laboratory, branch: Branch, notes: Places, name: str, former:
     record = Record(lab.program, lab.setup, name, former)
     record.notes = notes
     record.sync(branch)
+    record.mark()
     return record

@@ -7,6 +7,7 @@ from typing import Callable, Dict, List, Optional, Sequence
 from ..branches import Branch
 from ..colours import Paint
 from .commands import explain_command, explain_done
+from .dependence import explain_dependence
 from .events import explain_other
 from .faults import explain_fault
 from .frames import explain_broken
@@ -33,7 +34,14 @@ _OF_OUTCOMES: Dict[str, Callable[[Question], List[str]]] = {
 
 
 def why_event(lab: Laboratory, branch: Branch, number: int, paint: Paint) -> List[str]:
-    """Why an event of a branch, by its place from 1 on, had its outcome: the outcome, and under it the reason."""
+    """Why an event of a branch, by its place from 1 on, had its outcome: the outcome, and under it the reason; and if it comes to something
+    else by other rules, to what."""
+    lines = explained_event(lab, branch, number, paint)
+    return [*lines, *_indented([paint.note(it) for it in explain_dependence(lab, branch.events, number, lines)])]
+
+
+def explained_event(lab: Laboratory, branch: Branch, number: int, paint: Paint) -> List[str]:
+    """The same by the rules of the setup alone."""
     return _explained(lab, branch, lab.explanation(branch.name, number), paint)
 
 

@@ -6,7 +6,7 @@ from typing import List, Optional, Tuple
 from .absence import explain_lag
 from .elsewhere import is_same
 from .expiry import explain_overdue
-from .kernel import ANSWERING, explain_kernel_window, passes, where_loose, why_inside
+from .kernel import ANSWERING, PAGE, THE_KERNEL, explain_kernel_window, passes, where_loose, why_inside
 from ..explanations import Edge, OfState
 from ..kernels import PROFILE, Kernel
 from ..language.commands import KERNEL
@@ -49,7 +49,8 @@ def explain_way(question: Question, reason: OfState, state: State) -> List[str]:
     state, and whether it passes by that of a SYN alone."""
     kernel, packet = question.lab.setup.kernel, question.packet
     way = _way(kernel, reason, state, packet)
-    return [*way, *explain_answered_scale(kernel, state, packet), *([] if way else explain_old_segment(question, state))]
+    lines = [*way, *explain_answered_scale(kernel, state, packet), *([] if way else explain_old_segment(question, state))]
+    return lines if kernel.has(WINDOW) else [*lines, *_not_next(kernel, state, packet)]
 
 
 def _way(kernel: Kernel, reason: OfState, state: State, packet: PacketEvent) -> List[str]:
@@ -75,6 +76,16 @@ def _any_number(state: State, packet: PacketEvent) -> List[str]:
     missed = _missed(_ASKING, judged(_ASKING, state, packet), state, packet)
     said = f"by {KERNEL.word} {WINDOW.word} without {RESET.word} a reset passes with any number; with both this one is dropped"
     return [f"{said}: {text}" for text in missed]
+
+
+def _not_next(kernel: Kernel, state: State, packet: PacketEvent) -> List[str]:
+    """That the kernel drops a reset which passes here, since it does not have the next number; nothing if it passes it."""
+    if kernel.has(RESET) or "R" not in packet.flags:
+        return []
+    by_number = kernel.with_words([RESET.word])
+    its = judged(by_number, state, packet)
+    missed = [] if passes(its) or its.reset is None else _missed(by_number, its._replace(edges={}), state, packet)
+    return [f"{THE_KERNEL} drops this packet from 13.2-RELEASE-p7 on: {text} ({PAGE})" for text in missed]
 
 
 def _missed(kernel: Kernel, reason: OfState, state: State, packet: PacketEvent) -> List[str]:

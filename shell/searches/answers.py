@@ -36,6 +36,13 @@ class GaveUp:
 Answer = Union[Found, NoRun, GaveUp]
 
 
+def is_same(one: Answer, two: Answer) -> bool:
+    """Whether two answers are the same, but for how many runs they took."""
+    if isinstance(one, NoRun) and isinstance(two, NoRun):
+        return one.depth == two.depth and bool(one.asked) == bool(two.asked)
+    return isinstance(one, Found) and isinstance(two, Found) and one.events == two.events
+
+
 def read_answer(reply: Sequence[str]) -> Optional[Answer]:
     """What a reply answers; nothing if it is a refusal, a fault, or an answer of an older program."""
     words = reply[0].split()

@@ -11,6 +11,7 @@ from ..laboratory import Unknown
 from ..language.searches import SEARCH
 from .answers import Found, NoRun, read_answer
 from .deepening import search
+from .otherwise import by_other_rules
 from .reading import is_for_people, read, wrong_goal
 from .report import report, runs
 
@@ -93,6 +94,11 @@ class Finder:
         if outcome.asked:
             self.shell.record(outcome.asked)
         self.shell.show(report(sought, outcome, self.shell.paint))
+        try:
+            said = by_other_rules(self.lab, branch, sought, outcome.answer, status.watch)
+        finally:
+            status.clear()
+        self.shell.show([self.shell.paint.note(said)] * bool(said))
         if outcome.answer is None and not self.shell.is_typed:
             # (outside a dialogue an interrupt ends the shell)
             raise KeyboardInterrupt

@@ -1,10 +1,16 @@
 """Where `why` of a packet that is dropped for its window says that FreeBSD's kernel passes it. The numbers are worked out by hand."""
 from __future__ import annotations
 
+import re
 import unittest
 from typing import Dict, List, Tuple
+from unittest.mock import patch
 
-from . import reasons
+from .. import scripts
+from ..colours import PLAIN
+from ..depends import marks
+from ..reasons.why import why_event
+from . import TOP, laboratory, reasons
 from .test_reasons import FAR_FIN, FIN, OPEN, SYN, SYN_ACK
 
 PACKET = "step main packet a out tcp 10.0.0.1:1000 192.0.2.9:80 "
@@ -56,7 +62,12 @@ CASES: Dict[str, Tuple[str, str]] = {
 
 def of_kernel(script: str) -> List[str]:
     """What is said of the kernel."""
-    return [it for it in reasons(script) if "REAL.md" in it]
+    return [it for it in reasons(script) if it.startswith("FreeBSD's kernel")]
+
+
+def others(script: str) -> List[str]:
+    """What other rules come to that the reason does not name."""
+    return [it for it in reasons(script) if re.match(r"(by|with|without) .* (it|the run) is ", it)]
 
 
 class KernelReasons(unittest.TestCase):
@@ -70,6 +81,48 @@ class KernelReasons(unittest.TestCase):
         """A kernel before 13.2-RELEASE-p7 judged them like any packet without data."""
         old = "may pass this packet: before 13.2-RELEASE-p7 it does not test the number of a reset (by kernel window without reset"
         self.assertEqual(of_kernel(KNOWN + PACKET + "R 200000 0 0 0"), [f"FreeBSD's kernel, as far as we know its sources, {old}; docs/REAL.md)"])
+
+
+class Others(unittest.TestCase):
+    """By which rules an event comes to something else, if its reason does not name them."""
+
+    def test_a_word_that_the_reason_names_is_not_named_again(self) -> None:
+        self.assertEqual(others(KNOWN + PACKET + "A 200000 9001 100 0"), [])
+        self.assertEqual(others("kernel window\n" + KNOWN + PACKET + "A 200000 9001 100 0"), [])
+
+    def test_another_word_that_passes_the_packet_is_named(self) -> None:
+        self.assertEqual(others(UNHEARD + PACKET + "R 4999 0 0 0"), ["by kernel loose it is `pass 1.1` (docs/REAL.md)"])
+
+    def test_all_words_may_come_to_what_it_is_here(self) -> None:
+        """A reset of any number passes by `window`, and not by `reset` besides."""
+        self.assertEqual(others(KNOWN + PACKET + "R 200000 0 0 0"), ["by kernel all it is `drop window`, as here (docs/REAL.md)"])
+
+    def test_a_purge_after_a_reset_that_does_not_count(self) -> None:
+        """The reset's number is in the window; by `reset` the state lives on, and is not closed."""
+        reset = KNOWN + PACKET + "A 5001 9001 100 0\n" + FAR_PACKET + "R 9500 0 0 0\n"
+        (said,) = of_kernel(reset)
+        self.assertIn("drops this packet from 13.2-RELEASE-p7 on: seq 9500 is 498 above 9002 (by kernel reset a reset needs lo 9001", said)
+        purge = reset + "step main tick a 100000\nstep main purge a\n"
+        self.assertEqual(others(purge), ["by kernel reset it is `purged 0` (docs/REAL.md)"])
+
+    def test_an_update_made_the_difference(self) -> None:
+        """As in the lesson of a late update: `why` of the drop names the word by which it is none."""
+        lab = laboratory(scripts.read(f"{TOP}/examples/late-update.pfl"))
+        self.addCleanup(lab.close)
+        lines = why_event(lab, lab.branch("main"), 13, PLAIN)
+        self.assertEqual(lines[-1].strip(), "by kernel merge it is `drop window` (docs/REAL.md)")
+
+    def test_after_an_event_that_does_not_happen_there_it_is_another_run(self) -> None:
+        """By `reset` the state is still there when it is killed, and by the profile it is not."""
+        reset = "kernel reset\n" + KNOWN + PACKET + "A 5001 9001 100 0\n" + FAR_PACKET + "R 9500 0 0 0\n"
+        lines = reset + "step main tick a 100000\nstep main purge a\nstep main kill a 1.1\n"
+        self.assertEqual(others(lines), ["by the profile it is `refused NoSuchState` (docs/REAL.md)"])
+        self.assertEqual(others(lines + "step main tick a 1\n"), ["by the profile the run is another one since event 7 (docs/REAL.md)"])
+
+    def test_of_a_long_run_only_depends_asks(self) -> None:
+        with patch.object(marks, "MOST_EVENTS", 3):
+            self.assertEqual(others(UNHEARD + PACKET + "R 4999 0 0 0"), ["by kernel loose it is `pass 1.1` (docs/REAL.md)"])
+            self.assertEqual(others(KNOWN + PACKET + "A 5001 9001 100 0\n" + PACKET + "R 4999 0 0 0"), [])
 
 
 if __name__ == "__main__":

@@ -26,6 +26,10 @@ SYN = "packet a out tcp 10.0.0.1:1000 192.0.2.9:80 S 100 0 60000 0"
 DATA = "packet b out tcp 10.0.0.1:1000 192.0.2.9:80 PA 101 501 60000 400"
 FAILOVER = [SYN, "flush a", "deliver 1"]
 BY_LOOSE = "by kernel loose: not the profile (see: help kernel)"
+SYN_ACK, ACK = (f"packet a {it}" for it in ("in tcp 192.0.2.9:80 10.0.0.1:1000 SA 500 101 60000 0", "out tcp 10.0.0.1:1000 192.0.2.9:80 A 101 501 60000 0"))
+RESET = "packet a in tcp 192.0.2.9:80 10.0.0.1:1000 R 1000 0 0 0"
+QUERY = "packet a out udp 10.0.0.1:1000 192.0.2.9:53 40"
+ANSWER = "packet b in udp 192.0.2.9:53 10.0.0.1:1000 80"
 # What is said where a line has the rule `window` alone.
 ANY_NUMBER = (
     "by kernel window without reset a reset passes with any number: so it did before FreeBSD 13.2-RELEASE-p7, as far as we know its sources"
@@ -157,10 +161,46 @@ class Answers(Dialogue):
         said = self.said(shell, asked, "take", DATA)
         self.assertEqual(said[-1], "step pass 1.1 dropped 0")
 
+    def test_a_search_is_asked_again_by_all_rules_of_the_kernel(self) -> None:
+        """The client's data, which b drops by the profile in whatever way, passes by the kernel from where the branch stands on."""
+        drops = f"search drops {DATA}, anywhere, dies a"
+        self.assertEqual(self.said(self.shell(*RULES, *FAILOVER), drops)[-1], "by kernel all: no run of any length")
+        self.assertEqual(self.said(self.shell("kernel all", *RULES, *FAILOVER), drops)[-1], "by the profile: found, 0 events")
+        passes = self.said(self.shell(*RULES, *FAILOVER), f"search passes {DATA}, anywhere, dies a")
+        self.assertTrue(passes[1].startswith("no run of these choices leads there"))
+        self.assertEqual(passes[-1], "by kernel all: found, 0 events")
+
+    def test_nothing_is_said_where_a_search_finds_the_same(self) -> None:
+        for line in ("", "kernel all"):
+            said = self.said(self.shell(line, *RULES, QUERY), f"search drops {ANSWER}, lose 1")
+            self.assertEqual(said[-1], "`take` steps them on a new branch")
+
+    def test_a_search_after_another_run_is_not_asked(self) -> None:
+        """By the profile the reset in the window closes the state, which is purged; by the kernel it is there and can be killed."""
+        night = [*FAILOVER, SYN_ACK, ACK, RESET, "tick a 200000", "purge a"]
+        said = self.said(self.shell("kernel all", *RULES, *night, "kill a 1.1"), f"search drops {DATA}, anywhere")
+        self.assertEqual(said[-1], "by the profile this branch is another run from event 9 on, and is not searched")
+
     def test_faults_are_tried_by_them(self) -> None:
         shell = self.shell("kernel loose", *RULES, *FAILOVER, DATA)
         wanted = "1  1 fault: event 4 pass -> drop block; at the end only on a: tcp 10.0.0.1:1000 -> 192.0.2.9:80"
         self.assertIn(wanted, self.said(shell, "whatif --faults lose"))
+
+    def test_the_first_fault_of_a_group_is_tried_again_by_all_rules_of_the_kernel(self) -> None:
+        """An update of the server's answer has told b of the server, and the client's data passes there. Without it the data is dropped by
+        the profile, and passes by `loose`."""
+        night = [*FAILOVER, SYN_ACK, "flush a", "deliver 2", DATA]
+        said = self.said(self.shell(*RULES, *night), "whatif --faults lose")
+        at = next(at for at, line in enumerate(said) if "event 7 pass -> drop window" in line)
+        self.assertTrue(said[at + 2].startswith("   by kernel all: at the end changed on "), said[at + 2])
+        said = self.said(self.shell("kernel all", *RULES, *night), "whatif --faults lose")
+        (line,) = [it for it in said if it.startswith("   by the profile: event 7 pass -> drop window")]
+
+    def test_faults_of_another_run_are_not_tried(self) -> None:
+        night = [*FAILOVER, SYN_ACK, ACK, RESET, "tick a 200000", "purge a", "kill a 1.1"]
+        said = self.said(self.shell("kernel all", *RULES, *night), "whatif --faults lose")
+        self.assertEqual(said[-1], "by the profile the run is another one from event 9 on, and its faults are not tried")
+        self.assertFalse([it for it in said if it.startswith("   by ")])
 
     def test_an_import_has_no_such_line(self) -> None:
         it = taken_in("pass in proto tcp to port 22 keep state\n")

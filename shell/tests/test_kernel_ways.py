@@ -259,8 +259,9 @@ class Ways(unittest.TestCase):
                 self.assertNotIn("kernel", "".join(lines[1 + len(wanted) :]))
 
     def test_a_segment_without_data_passes_by_another_rule(self) -> None:
-        """So the kernel drops no such segment, however old."""
-        self.assertEqual([it for it in reasons(AGREED + OLD.replace("512 1000", "512 0")) if "kernel" in it], [])
+        """So the kernel drops no such segment, however old; by `scale` alone it is dropped."""
+        alone = ["by kernel scale it is `drop window` (docs/REAL.md)", "by kernel all it is `pass 1.1`, as here (docs/REAL.md)"]
+        self.assertEqual([it for it in reasons(AGREED + OLD.replace("512 1000", "512 0")) if "kernel" in it], alone)
 
     def test_an_old_segment_that_the_kernel_drops(self) -> None:
         kept = "it keeps the window 65535 of the SYN of the source end as 512, in units of the scale 7"
@@ -294,7 +295,7 @@ class Ways(unittest.TestCase):
     def test_what_the_other_rules_would_do(self) -> None:
         for name, (script, wanted) in OTHERS.items():
             with self.subTest(name):
-                said = [it for it in reasons(script) if "REAL.md" in it]
+                said = [it for it in reasons(script) if it.startswith("FreeBSD's kernel")]
                 self.assertEqual(said, [f"FreeBSD's kernel, as far as we know its sources, {it}" for it in wanted])
 
     def test_updates(self) -> None:

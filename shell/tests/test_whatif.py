@@ -359,9 +359,11 @@ class Groups(Tries):
         self.addCleanup(lab.close)
         lines = answer(lab, lab.branch("main"), read(["--faults", "last", "--from", "10", "--to", "10"])[1], PLAIN, quiet_progress, lambda: "").lines
         self.assertEqual(lines[3], "1  1 fault: at the end the nodes go on answering each other; the end was not compared")
+        self.assertTrue(lines[5].startswith("   by kernel all: "), lines[5])
+        self.assertNotIn("go on answering", lines[5])
         # One has the destination end in a higher level, and the other with a later number: so each finds the other's stale.
-        self.assertIn("the destination end came as SYN_SENT, and is ESTABLISHED here", lines[7])
-        self.assertIn("the destination end's lo 60001 here is after the 1 that came", lines[12])
+        self.assertIn("the destination end came as SYN_SENT, and is ESTABLISHED here", lines[8])
+        self.assertIn("the destination end's lo 60001 here is after the 1 that came", lines[13])
 
     def test_a_run_that_comes_to_rest_no_more(self) -> None:
         client, server, tcp = "10.0.0.17:51512", "192.0.2.80:443", "packet a out tcp"

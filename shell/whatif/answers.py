@@ -9,6 +9,7 @@ from ..colours import Paint
 from ..laboratory import Laboratory, Unknown
 from ..scripts import NotWritten
 from .asked import Asked
+from .otherwise import NOTHING, otherwise
 from .plays import Player
 from .report import report, shown_groups
 from .tries import Progress, course_of, tried
@@ -33,7 +34,9 @@ def answer(lab: Laboratory, branch: Branch, asked: Asked, paint: Paint, progress
     with lab.beside(branch) as other:
         it = tried(Player(other, branch, course, asked.flushing), asked, progress)
         groups = shown_groups(it)
-        found = Answer(report(it, groups, paint), it.is_interrupted)
+        others = NOTHING if it.is_interrupted else otherwise(lab, branch, it, groups)
+        lines = report(it, groups, paint, others.groups)
+        found = Answer([*lines, *["", paint.note(others.run)] * bool(others.run)], it.is_interrupted)
         try:
             return found._replace(written=with_variants(it, script(), taken, groups)) if asked.out else found
         except (NotWritten, Unknown) as why:

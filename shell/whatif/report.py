@@ -2,7 +2,8 @@
 from __future__ import annotations
 
 from itertools import groupby
-from typing import Dict, List, Sequence, Tuple
+from types import MappingProxyType
+from typing import Dict, List, Mapping, Sequence, Tuple
 
 from ..colours import PLAIN, Paint
 from ..diffs import between_nodes
@@ -14,7 +15,7 @@ from ..language.names import NODES
 from ..pair import read_shown
 from ..reasons.absence import explain_absence
 from ..reasons.questions import Question
-from ..reasons.why import reasons, why_ahead, why_event
+from ..reasons.why import explained_event, reasons, why_ahead
 from ..words import counted, flow, state_fields, state_line
 from .faults import Course, Variant
 from .causes import Hung
@@ -42,14 +43,15 @@ def shown_groups(it: Tried) -> List[Numbered]:
     return [(number, group) for number, group in chosen if it.asked.watch.has(group.effect)]
 
 
-def report(it: Tried, groups: Sequence[Numbered], paint: Paint) -> List[str]:
-    """What was tried, how the run itself ends, and the groups, the most severe first."""
+def report(it: Tried, groups: Sequence[Numbered], paint: Paint, others: Mapping[int, str] = MappingProxyType({})) -> List[str]:
+    """What was tried, how the run itself ends, and the groups, the most severe first; and by their numbers what the first fault of each
+    changes by other rules, where that is something else."""
     ending = f"once nothing is pending or in flight: {between_nodes(read_shown(it.shown), it.setup, paint)[0]}"
     lines = [paint.head(_headline(it)), f"as it was, {f'at the end {it.base.trouble}' if it.base.trouble else ending}"]
     if it.is_interrupted:
         lines.append(paint.note(f"interrupted: {it.done:,} of {it.total:,} are tried"))
     for number, group in groups:
-        lines += ["", *_group(it, number, group, paint)]
+        lines += ["", *_group(it, number, group, others.get(number, ""), paint)]
     if not groups:
         lines += ["", _nothing(it)]
     if it.of_one and it.groups.ordered():
@@ -79,11 +81,12 @@ def _nothing(it: Tried) -> str:
     return "no fault changes that"
 
 
-def _group(it: Tried, number: int, group: Group, paint: Paint) -> List[str]:
-    """A group: what changes, with which faults, and why with the first of them."""
+def _group(it: Tried, number: int, group: Group, other: str, paint: Paint) -> List[str]:
+    """A group: what changes, with which faults, what the first of them changes by other rules, and why it does what it does."""
     what = counted(group.many, "pair" if it.asked.pairs else "fault")
     lines = [f"{paint.head(f'{number}  {what}:')} {change(it, group.effect, paint)}", f"   {_names(it, group)}"]
     lines += [f"   {paint.note(_hung(hung))}" for hung in group.effect.hung]
+    lines += [f"   {paint.note(other)}"] * bool(other)
     return lines if group.effect.is_nothing else lines + [f"   {line}" for line in _first(it, group, paint)]
 
 
@@ -231,7 +234,7 @@ def _answered(it: Tried, played: Played, paint: Paint) -> List[str]:
     """Why the newest two frames that arrived in a variant are answered, if the nodes go on answering."""
     branch = it.player.lab.branch(it.player.name)
     places = [place for place, line in enumerate(branch.events, 1) if line.startswith(f"{DELIVER.word} ")]
-    return [line for place in places[-2:] * (played.trouble == ENDLESS) for line in why_event(it.player.lab, branch, place, paint)]
+    return [line for place in places[-2:] * (played.trouble == ENDLESS) for line in explained_event(it.player.lab, branch, place, paint)]
 
 
 def _states(it: Tried, played: Played, effect: Effect, paint: Paint) -> List[str]:

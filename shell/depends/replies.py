@@ -1,0 +1,73 @@
+"""Replies in words, and what kinds of commands they are to."""
+from __future__ import annotations
+
+from dataclasses import dataclass
+from difflib import unified_diff
+from typing import List
+
+from ..differences import differences
+from ..laboratory import outcome_of
+from ..language.commands import PAST, SHOW
+from ..language.events import EVENTS, PACKET
+from ..language.searches import SEARCH
+from ..pair import read_shown
+from ..searches.answers import Found, GaveUp, NoRun, read_answer
+from ..words import counted
+from .comparing import Difference, is_look
+from .scripts import Reply, Spot
+
+# So many differences of a shown pair are named.
+MOST_FIELDS = 3
+
+
+@dataclass(frozen=True)
+class Kind:
+    """A kind of reply: how one that changes is counted, and several."""
+
+    one: str
+    many: str
+
+    def counted(self, number: int) -> str:
+        return f"{number} {self.one if number == 1 else self.many}"
+
+
+_PACKETS = Kind("packet gets another verdict", "packets get another verdict")
+_EVENTS = Kind("other event comes to something else", "other events come to something else")
+_SEARCHES = Kind("search has another answer", "searches have other answers")
+_OTHERS = Kind("other command", "other commands")
+_LOOKS = Kind("reply that shows the pair", "replies that show the pair")
+# In the order in which they are said.
+KINDS = (_PACKETS, _EVENTS, _SEARCHES, _OTHERS, _LOOKS)
+
+
+def kind_of(spot: Spot) -> Kind:
+    if spot.is_event:
+        return _PACKETS if spot.event.startswith(f"{PACKET.word} ") else _EVENTS
+    return _SEARCHES if spot.command.word == SEARCH else _LOOKS if is_look(spot) else _OTHERS
+
+
+def outcome_words(reply: Reply) -> str:
+    """What came of an event: its outcome, or why it is refused."""
+    text = outcome_of(reply[0])
+    return f"refused {text.split()[-1]}" if text.startswith("refused") else text
+
+
+def found_words(reply: Reply) -> str:
+    """The answer to a search."""
+    answer = read_answer(reply)
+    if isinstance(answer, Found):
+        return f"found, {counted(len(answer.events), 'event')}"
+    if isinstance(answer, NoRun):
+        length = "of any length" if answer.depth is None else f"of at most {counted(answer.depth, 'event')}"
+        return f"no run {length}" + ", and never asked" * (not answer.asked)
+    return "gave up" if isinstance(answer, GaveUp) else reply[0]
+
+
+def looked_words(spot: Spot, it: Difference, is_whole: bool) -> List[str]:
+    """What a look shows otherwise."""
+    if spot.command.word not in (SHOW.word, PAST.word):
+        lines = [line for line in unified_diff(it.before, it.after, lineterm="", n=0) if not line.startswith(("---", "+++", "@@"))]
+    else:
+        lines = [f"{one}" for one in differences(read_shown(it.before), read_shown(it.after))]
+    more = 0 if is_whole else len(lines) - MOST_FIELDS
+    return lines if more <= 0 else [*lines[:MOST_FIELDS], f"and {more} more"]
