@@ -1,2 +1,4 @@
 pub mod Screening
 mod Worked
+pub mod Requested
+pub mod Refusing

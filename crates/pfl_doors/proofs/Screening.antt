@@ -1,6 +1,6 @@
 -- What is left to give while it is found out who sends it.
 use Rattle.std.proofs.Common.{◌≡◌, ℕ, ◌+◌, ◌-◌, ◌<◌, ◌≤◌, Bool, true, false, List, [], ◌∷◌, ◌++◌, length, length-append, refl, sym, ◌∙◌, arith, ap, append_assoc, take, drop, Option, Some, None, Ok, Err, inl, inr}
-use Rattle.std.specs.Prelude.{◌&&◌, ◌||◌, ◌==◌, not, nat_lt, codes, Result}
+use Rattle.std.specs.Prelude.{◌&&◌, ◌||◌, ◌==◌, nat_lt, codes, Result}
 use Rattle.std.specs.Char.{is_ascii_digit}
 use Rattle.std.specs.Io.KnownBytes.{Consumes, Keeps, ReadConsumes}
 use Rattle.std.proofs.lemmas.Bool.{cases_Bool, ltb-false, ltb-true}
@@ -99,7 +99,7 @@ judged_after-some word n xs v h = elim (cases_Bool (nat_lt n (length xs))) [
       let no = rw (drop_of_length-le xs past) at h in absurd (cc)
 ]
 
-judged_line-more : (xs ys : List ℕ) (v : Bool) → judged_line xs ≡ Some v → judged_line (xs ++ ys) ≡ Some v
+pub judged_line-more : (xs ys : List ℕ) (v : Bool) → judged_line xs ≡ Some v → judged_line (xs ++ ys) ≡ Some v
 judged_line-more xs ys v h =
     let within = judged_after-some (take (word_length xs) xs) (word_length xs) xs v h in
     let few : word_length xs ≤ length xs = omega (arith, within) in

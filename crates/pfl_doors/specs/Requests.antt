@@ -64,7 +64,7 @@ abbrev pub judged_after : List ℕ → List ℕ → Option Bool
 judged_after word [] = None
 judged_after word (b ∷ bytes) = if nat_lt 0 (length word) && b == 32 then judged_target word bytes else Some false
 
--- bytes begin a request, as far as they say
+-- bytes begin the line of a request, however long, as far as they say
 abbrev pub judged_line : List ℕ → Option Bool
 judged_line bytes = judged_after (take (word_length bytes) bytes) (drop (word_length bytes) bytes)
 

@@ -23,11 +23,13 @@ module _ {I O : Type 0} where
   IsUnfailed reader writer (Session sides) = (reader sides.reader ≡ false) × (writer sides.writer ≡ false)
   IsUnfailed reader writer Browser = Unit {0}
 
--- what is seen of doors: the port that is listened on, the connections that were given since, and how many browsers were turned away
+-- what is seen of doors: the port that is listened on, the connections that were given since, how many browsers were turned away, and what
+-- came back of the connections
 pub record Entrance (I W : Type 0) : Type 0 where
   pub port : Option ℕ
   pub given : List (Sides I W)
   pub turned : ℕ
+  pub returned : List (Sides I W)
 
-abbrev pub entrance : {D I W : Type 0} → (D → Option ℕ) → (D → List (Sides I W)) → (D → ℕ) → D → Entrance I W
-entrance listens given turned d = record { port = listens d; given = given d; turned = turned d }
+abbrev pub entrance : {D I W : Type 0} → (D → Option ℕ) → (D → List (Sides I W)) → (D → ℕ) → (D → List (Sides I W)) → D → Entrance I W
+entrance listens given turned returned d = record { port = listens d; given = given d; turned = turned d; returned = returned d }

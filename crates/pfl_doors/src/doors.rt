@@ -62,6 +62,9 @@ pub trait Doors {
     /// How many browsers were turned away since then.
     ghost turned: { Self → ℕ };
 
+    /// What is left of the connections, once it was given back, the first one's first.
+    ghost returned: { Self → List (Sides Self.Reader Self.Writer) };
+
     /// The next line of the session has come, or its end.
     ghost heard: { ℕ → Type 0 };
 
@@ -91,4 +94,11 @@ pub trait Doors {
 
     /// After the session has ended, whose writer then gets nothing more.
     fn end(&self, session: u32);
+
+    /// Takes back what is left of the connections, after all sessions have ended.
+    fn take_back(&mut self, sides: Vec<Sides<Self::Reader, Self::Writer>>)
+        ensures returned { returned self.new ≡ sides.items }
+        ensures port { listens self.new ≡ listens self.old }
+        ensures given { given self.new ≡ given self.old }
+        ensures turned { turned self.new ≡ turned self.old };
 }

@@ -3,11 +3,13 @@
 #![tactic(auto)]
 
 mod doors;
+mod laws;
 mod network;
 mod request;
 mod screened;
 
 pub use doors::{DoorFault, Doors, Sides, Visit};
+pub use laws::requests_are_turned_away;
 pub use network::Network;
 pub use pfl_base::{Input, Output};
 pub use request::judged_so_far;

@@ -80,6 +80,7 @@ pub struct Network<'a, R> {
     listener: Option<TcpListener>,
     visitors: Vec<Visitor>,
     turned: u64,
+    returned: Vec<Sides<Side, Side>>,
 }
 
 /// The two sides of a connection.
@@ -99,13 +100,13 @@ impl<'a, R> Model for Network<'a, R> {
 
     ghost Value = { Entrance Connection Connection };
 
-    ghost view = { λ n. record { port = n.port; given = map (λ v. v.sides.value) n.visitors.items; turned = n.turned } };
+    ghost view = { λ n. record { port = n.port; given = map (λ v. v.sides.value) n.visitors.items; turned = n.turned; returned = n.returned.items } };
 }
 
 impl<'a, R> Network<'a, R> {
     /// No port is listened on.
     pub fn new(rt: &'a R, alloc: Global) -> Self
-        ensures { result ≡ record { port = None; given = []; turned = 0 } }
+        ensures { result ≡ record { port = None; given = []; turned = 0; returned = [] } }
     {
         Network {
             rt,
@@ -114,6 +115,7 @@ impl<'a, R> Network<'a, R> {
             listener: None,
             visitors: Vec::new(alloc),
             turned: 0,
+            returned: Vec::new(alloc),
         }
     }
 
@@ -169,6 +171,8 @@ impl<R: Net<Listener = TcpListener, Stream = TcpStream>> Doors for Network<'_, R
 
     ghost turned = { λ n. n.turned };
 
+    ghost returned = { λ n. n.returned };
+
     ghost heard = { λ _. Unit {0} };
 
     fn listen(&mut self, port: u16) -> Result<(), DoorFault> {
@@ -217,5 +221,15 @@ impl<R: Net<Listener = TcpListener, Stream = TcpStream>> Doors for Network<'_, R
         if let Some(stream) = self.stream(session) {
             let _ = stream.shutdown(Shutdown::Write);
         }
+    }
+
+    /// What is left of the connections is kept, and nothing more is done with it.
+    fn take_back(&mut self, sides: Vec<Sides<Side, Side>>)
+        ensures returned { self.new.returned ≡ sides.items }
+        ensures port { self.new.port ≡ self.old.port }
+        ensures given { self.new.given ≡ self.old.given }
+        ensures turned { self.new.turned ≡ self.old.turned }
+    {
+        self.returned = sides;
     }
 }

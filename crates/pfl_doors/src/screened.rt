@@ -75,6 +75,15 @@ impl<I: Input> Screened<I> {
         self.verdict == Some(true)
     }
 
+    /// The device. Bytes that were read of it and not given are lost.
+    pub fn into_inner(self) -> I
+        ensures rest { I.left result ≡ self.rest }
+        ensures failed { I.has_failed result ≡ self.failed }
+    {
+        let Screened { device, .. } = self;
+        device
+    }
+
     /// Reads a block onto the front. At the end of the device no request has begun.
     fn read_front(&mut self) -> Result<(), DeviceFault>
         requires unknown { self.old.verdict ≡ None }

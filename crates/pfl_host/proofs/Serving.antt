@@ -1,6 +1,7 @@
 -- What was served over a reader of lines, once its device is given back, and how it is reported.
 use Rattle.std.specs.Prelude.{◌≡◌, ◌++◌, ◌+◌, ◌⊎◌, ℕ, Bool, List, Option}
 use Rattle.std.proofs.Common.{append_assoc, subst, sym, ◌∙◌, ap}
+use Rattle.pfl_base.specs.declared.input.Input as Input
 use Rattle.pfl_base.specs.declared.output.Output as Output
 use Rattle.pfl_doors.specs.Visits.{Entrance}
 use Rattle.pfl_run.specs.reader.Readers.{Releases}
@@ -10,10 +11,10 @@ use Rattle.pfl_host.specs.Reports.{browser_lines, first_text, PrintsOn}
 use Rattle.pfl_host.specs.Servers.{ServesFromDevice, ServesToEnd}
 use Rattle.pfl_host.proofs.Printing.{lines_add, prints_then, prints_whole}
 
-module _ {I W : Type 0} (left : I → Option (List ℕ)) (o : Output.Ghosts W) (heard : ℕ → Type 0) (doors : Entrance I W) (port n : ℕ) where
+module _ {I W : Type 0} (i : Input.Ghosts I) (o : Output.Ghosts W) (heard : ℕ → Type 0) (doors : Entrance I W) (port n : ℕ) where
   -- the lines that were not taken are left in the device
   pub from_device : (old rest new : Option (List ℕ)) (w v : Option (List ℕ)) (first : Option EngineFault) →
-      ServesToEnd left o heard doors port n old rest w v first → Releases rest new → ServesFromDevice left o heard doors port n old new w v first
+      ServesToEnd i o heard doors port n old rest w v first → Releases rest new → ServesFromDevice i o heard doors port n old new w v first
   from_device old rest new w v first serves releases = record { rest = rest; serves = serves; releases = releases }
 
 -- lines of browsers, and then a text

@@ -2,6 +2,7 @@
 use Rattle.std.proofs.Common.{◌≡◌, ℕ, List, [], ◌∷◌, ◌++◌, length, map, refl, sym, ◌∙◌, ap, arith, append_assoc, subst, Option}
 use Rattle.std.proofs.lemmas.List.{append-nil}
 use Rattle.std.specs.declared.alloc.Global.{Global}
+use Rattle.pfl_base.specs.declared.input.Input as Input
 use Rattle.pfl_base.specs.declared.output.Output as Output
 use Rattle.pfl_doors.specs.Screens.{Screen}
 use Rattle.pfl_doors.specs.declared.doors.Sides.{Sides}
@@ -13,7 +14,7 @@ use Rattle.pfl_serve.specs.Services.{ended_seat, IsService}
 use Rattle.pfl_serve.specs.declared.closing.EndedSeat.{EndedSeat}
 use Rattle.pfl_serve.specs.declared.seat.Seat.{Seat}
 use Rattle.pfl_serve.specs.declared.seat.Served.{Served}
-use Rattle.pfl_host.specs.Servers.{SitAt, SitsAt}
+use Rattle.pfl_host.specs.Servers.{CameBack, CameBackAll, SitAt, SitsAt}
 
 module _ {I W : Type 0} (left : I → Option (List ℕ)) (o : Output.Ghosts W) where
   -- one seat more
@@ -46,6 +47,38 @@ module _ {I W : Type 0} (left : I → Option (List ℕ)) (o : Output.Ghosts W) w
   seated_all given [] seats so_far none =
       subst (λ (all : List (Sides I W)). SitAt left o all seats) (sym (so_far.split ∙ append-nil so_far.front)) so_far.sit
   seated_all given (c ∷ rest) seats so_far none = absurd (omega (arith, none))
+
+module _ {I W : Type 0} (i : Input.Ghosts I) where
+  -- one connection more came back
+  pub back_one : (ended : List (EndedSeat Screen W)) (sides : List (Sides I W)) (e : EndedSeat Screen W) (s : Sides I W) → CameBackAll i ended sides
+      → CameBack i e s → CameBackAll i (ended ++ e ∷ []) (sides ++ s ∷ [])
+  back_one [] [] e s all one = (one, tt)
+  back_one [] (t ∷ sides) e s all one = absurd all
+  back_one (f ∷ ended) [] e s all one = absurd all
+  back_one (f ∷ ended) (t ∷ sides) e s all one = (all.0, back_one ended sides e s all.1 one)
+
+  -- of the first seats the connections came back, and these are left
+  pub record BackSoFar (ended rest : List (EndedSeat Screen W)) (sides : List (Sides I W)) : Type 0 where
+    pub front : List (EndedSeat Screen W)
+    pub split : ended ≡ front ++ rest
+    pub back : CameBackAll i front sides
+
+  pub back_none : (ended : List (EndedSeat Screen W)) → BackSoFar ended ended []
+  back_none ended = record { front = []; split = refl; back = tt }
+
+  pub back_more : (ended rest : List (EndedSeat Screen W)) (sides : List (Sides I W)) (e : EndedSeat Screen W) (s : Sides I W)
+      → BackSoFar ended (e ∷ rest) sides → CameBack i e s → BackSoFar ended rest (sides ++ s ∷ [])
+  back_more ended rest sides e s so_far one = record {
+    front = so_far.front ++ e ∷ [];
+    split = so_far.split ∙ sym (append_assoc so_far.front (e ∷ []) rest);
+    back = back_one so_far.front sides e s so_far.back one;
+  }
+
+  pub back_all : (ended rest : List (EndedSeat Screen W)) (sides : List (Sides I W)) → BackSoFar ended rest sides → length rest ≡ 0
+      → CameBackAll i ended sides
+  back_all ended [] sides so_far none =
+      subst (λ (all : List (EndedSeat Screen W)). CameBackAll i all sides) (sym (so_far.split ∙ append-nil so_far.front)) so_far.back
+  back_all ended (e ∷ rest) sides so_far none = absurd (omega (arith, none))
 
 -- as many seats are left as there were
 ended_many : {A I W : Type 0} (ss : List (Served A I W)) → length (map ended_seat ss) ≡ length ss

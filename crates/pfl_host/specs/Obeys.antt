@@ -15,6 +15,7 @@ use Rattle.pfl_run.specs.Checks.{ChecksToEnd, IsCheckStop}
 use Rattle.pfl_run.specs.Faults.{fault_text}
 use Rattle.pfl_run.specs.Modes.{lab_app, mode_word, subcommand_name, words_status, HasNumbers, IsWordsFault}
 use Rattle.pfl_run.specs.Runs.{Ends, HasFailed, IsStop, IsPrinted, RunsToEnd, Stops}
+use Rattle.pfl_base.specs.declared.input.Input as Input
 use Rattle.pfl_base.specs.declared.output.Output as Output
 use Rattle.pfl_host.specs.Reports.{HostServes, HostStops}
 use Rattle.pfl_doors.specs.Visits.{Entrance}
@@ -111,25 +112,25 @@ pub record Doors (D I W : Type 0) : Type 0 where
   pub after : Entrance I W
 
 -- a lab of this many sessions is served on the port, with this exit status
-abbrev pub ServesLab : {I W S R V F : Type 0} → (I → Option (List ℕ)) → Output.Ghosts W → (ℕ → Type 0) → ℕ → ℕ → Doors S I W → Reader R → Device V → Device F
+abbrev pub ServesLab : {I W S R V F : Type 0} → Input.Ghosts I → Output.Ghosts W → (ℕ → Type 0) → ℕ → ℕ → Doors S I W → Reader R → Device V → Device F
     → ℕ → Type 0
-ServesLab left o heard port sessions doors reader writer faults status =
+ServesLab i o heard port sessions doors reader writer faults status =
     HostServes doors.after.turned sessions
-    (ServesFromDevice left o heard doors.after port sessions reader.before reader.after writer.before writer.after)
+    (ServesFromDevice i o heard doors.after port sessions reader.before reader.after writer.before writer.after)
     faults.before faults.after faults.failed status
     ⊎ HostStops doors.after.turned
-    (λ why. IsServeStop left o heard doors.after port sessions why reader.before writer.before writer.after)
+    (λ why. IsServeStop i o heard doors.after port sessions why reader.before writer.before writer.after)
     (λ why. HasFailed why reader.failed reader.calls_before reader.calls_after writer.failed)
     faults.before faults.after faults.failed status
 
-module _ {I W S : Type 0} (left : I → Option (List ℕ)) (o : Output.Ghosts W) (heard : ℕ → Type 0) (doors : Doors S I W) where
+module _ {I W S : Type 0} (i : Input.Ghosts I) (o : Output.Ghosts W) (heard : ℕ → Type 0) (doors : Doors S I W) where
   -- what the program does with words that were taken so, and its exit status: a setup makes at most 16777216 calls of `read`, and with a run
   -- or a check after it at most twice as many; where the words ask for no mode it reads nothing. Only a server opens its doors
   abbrev pub Does : {R V F : Type 0} → Result Mode WordsFault → Reader R → Device V → Device F → ℕ → Type 0
   Does (Ok Run) reader writer faults status = (doors.new ≡ doors.old) × CallsAtMost (2 * 16777216) reader × Runs reader writer faults status
   Does (Ok Check) reader writer faults status = (doors.new ≡ doors.old) × CallsAtMost (2 * 16777216) reader × Checks reader writer faults status
   Does (Ok (Serve port sessions)) reader writer faults status =
-      CallsAtMost 16777216 reader × ServesLab left o heard port sessions doors reader writer faults status
+      CallsAtMost 16777216 reader × ServesLab i o heard port sessions doors reader writer faults status
   Does (Err why) reader writer faults status =
       (doors.new ≡ doors.old) × (reader.new ≡ reader.old) × ReportsWords why writer faults × (status ≡ words_status why)
 

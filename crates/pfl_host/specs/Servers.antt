@@ -8,8 +8,9 @@ use Rattle.std.specs.Option.{option_map}
 use Rattle.std.specs.declared.alloc.Global.{Global}
 use Rattle.std.specs.declared.marker.Brand.{Brand}
 use Rattle.atomic_table.specs.Seated.{TableId}
+use Rattle.pfl_base.specs.declared.input.Input as Input
 use Rattle.pfl_base.specs.declared.output.Output as Output
-use Rattle.pfl_doors.specs.Screens.{screened, Screen}
+use Rattle.pfl_doors.specs.Screens.{left_in, screened, Screen}
 use Rattle.pfl_doors.specs.Visits.{Entrance}
 use Rattle.pfl_doors.specs.declared.doors.DoorFault.{DoorFault}
 use Rattle.pfl_doors.specs.declared.doors.DoorFault.TheVariants as door
@@ -106,18 +107,36 @@ module _ {I W : Type 0} (left : I → Option (List ℕ)) (o : Output.Ghosts W) w
   SitAt (c ∷ given) [] = ⊥
   SitAt (c ∷ given) (s ∷ seats) = SitsAt c s × SitAt given seats
 
--- ... and when a session's next line has come
-module _ {I W : Type 0} (left : I → Option (List ℕ)) (o : Output.Ghosts W) (heard : ℕ → Type 0) where
+module _ {I W : Type 0} (i : Input.Ghosts I) where
+  -- what is left of a connection came back from its session: its writer, and its reader, of which some bytes may have been read that the
+  -- session was not given
+  pub record CameBack (ended : EndedSeat Screen W) (sides : Sides I W) : Type 0 where
+    pub screen : Screen
+    pub left : Releases ended.reader.left (left_in screen)
+    pub rest : screen.rest ≡ i.left sides.reader
+    pub failed : ended.reader.failed ≡ i.has_failed sides.reader
+    pub writer : ended.writer ≡ sides.writer
+
+  -- what is left of each connection came back, in its place
+  abbrev pub CameBackAll : List (EndedSeat Screen W) → List (Sides I W) → Type 0
+  CameBackAll [] [] = ⊤
+  CameBackAll [] (s ∷ sides) = ⊥
+  CameBackAll (e ∷ ended) [] = ⊥
+  CameBackAll (e ∷ ended) (s ∷ sides) = CameBack e s × CameBackAll ended sides
+
+-- what is seen of a connection's reader and of its writer, and when a session's next line has come
+module _ {I W : Type 0} (i : Input.Ghosts I) (o : Output.Ghosts W) (heard : ℕ → Type 0) where
   -- the lab's sessions were served, each by a new pass over the connection in its place, and then the lab was closed: the first fault of a
-  -- session's end is this one, and this is the number of the journal's entries
-  pub record ServesAll {K : Type 0} (j : Which.Ghosts K) (given : List (Sides I W)) (first : Option EngineFault) (entries : ℕ) : Type 0 where
+  -- session's end is this one, and this is the number of the journal's entries. What is left of the connections came back
+  pub record ServesAll {K : Type 0} (j : Which.Ghosts K) (given returned : List (Sides I W)) (first : Option EngineFault) (entries : ℕ) : Type 0 where
     pub seats : List (Seat Global Screen W)
     pub new : AreNewPasses j.publisher (revisions_of j.opening []) 1 j.tallies (map (λ s. s.pass) seats)
-    pub over : SitAt left o given seats
+    pub over : SitAt i.left o given seats
     pub timeline : Timeline
     pub journal : List (Entry Global)
     pub ended : List (EndedSeat Screen W)
     pub service : IsService j o heard seats timeline journal ended
+    pub back : CameBackAll i ended returned
     pub first_is : first ≡ first_fault (map (λ e. e.result) ended)
     pub count : entries ≡ length journal
 
@@ -129,7 +148,7 @@ module _ {I W : Type 0} (left : I → Option (List ℕ)) (o : Output.Ghosts W) (
       pub publisher : TableId
       pub tallies : List TableId
       pub all : length tallies ≡ n
-      pub serves : ServesAll (lab_over base publisher tallies) doors.given first entries
+      pub serves : ServesAll (lab_over base publisher tallies) doors.given doors.returned first entries
 
     -- n sessions have ended, and that was reported
     pub record PrintsClosed (base : Base) (first : Option EngineFault) (w v : Option (List ℕ)) : Type 0 where

@@ -35,8 +35,8 @@ impl<G: Gate + Sync, R: Threads + Wait + Sync> Program<'_, G, R> {
         writer: &mut O,
         faults: &mut F,
     ) -> u8
-        ensures { Obeys D.Reader.left D.Writer.Output D.heard
-            (record { old = doors.old; new = doors.new; after = entrance D.listens D.given D.turned doors.new })
+        ensures { Obeys D.Reader.Input D.Writer.Output D.heard
+            (record { old = doors.old; new = doors.new; after = entrance D.listens D.given D.turned D.returned doors.new })
             (map S.text words.now) (seen_reader I.left I.reads I.has_failed reader.old reader.new)
             (seen O.written O.has_failed writer.old writer.new)
             (seen F.written F.has_failed faults.old faults.new) result }

@@ -146,21 +146,22 @@ impl<G: Gate + Sync, R: Threads + Wait + Sync> Server<'_, G, R> {
     fn serve_connections<D: Doors + Sync, O: Output>(
         &self,
         opened: Opened<Global>,
-        doors: &D,
+        doors: &mut D,
         given: Vec<Sides<D::Reader, D::Writer>>,
         writer: &mut O,
     ) -> Result<ServedSessions, RunFault>
-        requires given { D.given doors.now ≡ given.items }
+        requires given { D.given doors.old ≡ given.items }
         requires unfailed { AreUnfailed D.Reader.has_failed D.Writer.has_failed given.items }
         requires all { (length given.items ≡ self.now.sessions) × (length opened.tallies ≡ self.now.sessions) × (self.now.sessions ≤ 8) }
-        requires port { D.listens doors.now ≡ Some self.now.port }
+        requires port { D.listens doors.old ≡ Some self.now.port }
         requires limit { opened.limit ≡ 1000000 }
-        ensures closes { IfOk result (λ o. PrintsClosed D.Reader.left D.Writer.Output D.heard (entrance D.listens D.given D.turned doors.now) self.now.port self.now.sessions
+        ensures closes { IfOk result (λ o. PrintsClosed D.Reader.Input D.Writer.Output D.heard (entrance D.listens D.given D.turned D.returned doors.new) self.now.port self.now.sessions
             (record { opening = opened.opening; setup = opened.setup }) o.fault (O.written writer.old) (O.written writer.new)) }
         ensures browsers { IfOk result (λ o. o.browsers ≤ self.now.sessions) }
-        ensures stop { IfErr result (λ f. IsCloseStop D.Reader.left D.Writer.Output D.heard (entrance D.listens D.given D.turned doors.now) self.now.port self.now.sessions f
+        ensures stop { IfErr result (λ f. IsCloseStop D.Reader.Input D.Writer.Output D.heard (entrance D.listens D.given D.turned D.returned doors.new) self.now.port self.now.sessions f
             (record { opening = opened.opening; setup = opened.setup }) (O.written writer.old) (O.written writer.new)) }
         ensures device { IfErr result (λ f. f ≡ fault.Write → O.has_failed writer.new ≡ true) }
+        ensures turned { D.turned doors.new ≡ D.turned doors.old }
     {
         match self.serve_given::<Brand, D>(opened, doors, given) {
             Ok(outcome) => match print_closed(writer, outcome.entries) {
@@ -182,12 +183,12 @@ impl<G: Gate + Sync, R: Threads + Wait + Sync> Server<'_, G, R> {
         requires open { (D.listens doors.old ≡ Some self.now.port) × (D.given doors.old ≡ []) × (D.turned doors.old ≡ 0) }
         requires sessions { (length opened.tallies ≡ self.now.sessions) × (self.now.sessions ≤ 8) }
         requires limit { opened.limit ≡ 1000000 }
-        ensures serves { IfOk result (λ o. HostServesWhole D.Reader.left D.Writer.Output D.heard (entrance D.listens D.given D.turned doors.new) self.now.port self.now.sessions
+        ensures serves { IfOk result (λ o. HostServesWhole D.Reader.Input D.Writer.Output D.heard (entrance D.listens D.given D.turned D.returned doors.new) self.now.port self.now.sessions
             (record { opening = opened.opening; setup = opened.setup }) o.fault (O.written writer.old) (O.written writer.new)) }
         ensures browsers { IfOk result (λ o. o.browsers ≤ self.now.sessions) }
         ensures noted { PrintsOn (browser_lines (D.turned doors.new))
             (F.written faults.old) (F.written faults.new) (F.has_failed faults.old) (F.has_failed faults.new) }
-        ensures stop { IfErr result (λ f. IsLabStop D.Reader.left D.Writer.Output D.heard (entrance D.listens D.given D.turned doors.new) self.now.port self.now.sessions f
+        ensures stop { IfErr result (λ f. IsLabStop D.Reader.Input D.Writer.Output D.heard (entrance D.listens D.given D.turned D.returned doors.new) self.now.port self.now.sessions f
             (record { opening = opened.opening; setup = opened.setup }) (O.written writer.old) (O.written writer.new)) }
         ensures device { IfErr result (λ f. f ≡ fault.Write → O.has_failed writer.new ≡ true) }
     {
@@ -208,14 +209,14 @@ impl<G: Gate + Sync, R: Threads + Wait + Sync> Server<'_, G, R> {
     ) -> Result<ServedSessions, RunFault>
         requires sessions { (length opened.tallies ≡ self.now.sessions) × (self.now.sessions ≤ 8) }
         requires limit { opened.limit ≡ 1000000 }
-        ensures serves { IfOk result (λ o. HostServesWhole D.Reader.left D.Writer.Output D.heard (entrance D.listens D.given D.turned doors.new) self.now.port self.now.sessions
+        ensures serves { IfOk result (λ o. HostServesWhole D.Reader.Input D.Writer.Output D.heard (entrance D.listens D.given D.turned D.returned doors.new) self.now.port self.now.sessions
             (record { opening = opened.opening; setup = opened.setup }) o.fault (O.written writer.old) (O.written writer.new)) }
         ensures browsers { IfOk result (λ o. o.browsers ≤ self.now.sessions) }
         ensures noted { OnOk result (PrintsOn (browser_lines (D.turned doors.new))
             (F.written faults.old) (F.written faults.new) (F.has_failed faults.old) (F.has_failed faults.new)) }
         ensures noted_some { OnErr result (NotesIfOpen (D.turned doors.new)
             (F.written faults.old) (F.written faults.new) (F.has_failed faults.old) (F.has_failed faults.new)) }
-        ensures stop { IfErr result (λ f. IsLabStop D.Reader.left D.Writer.Output D.heard (entrance D.listens D.given D.turned doors.new) self.now.port self.now.sessions f
+        ensures stop { IfErr result (λ f. IsLabStop D.Reader.Input D.Writer.Output D.heard (entrance D.listens D.given D.turned D.returned doors.new) self.now.port self.now.sessions f
             (record { opening = opened.opening; setup = opened.setup }) (O.written writer.old) (O.written writer.new)) }
         ensures device { IfErr result (λ f. f ≡ fault.Write → O.has_failed writer.new ≡ true) }
     {
@@ -236,14 +237,14 @@ impl<G: Gate + Sync, R: Threads + Wait + Sync> Server<'_, G, R> {
     ) -> Result<ServedSessions, RunFault>
         requires few { HasFewEvents 4294967295 pair.timeline }
         requires sessions { (1 ≤ self.now.sessions) × (self.now.sessions ≤ 8) }
-        ensures serves { IfOk result (λ o. HostServesWhole D.Reader.left D.Writer.Output D.heard (entrance D.listens D.given D.turned doors.new) self.now.port self.now.sessions
+        ensures serves { IfOk result (λ o. HostServesWhole D.Reader.Input D.Writer.Output D.heard (entrance D.listens D.given D.turned D.returned doors.new) self.now.port self.now.sessions
             (record { opening = pair.timeline; setup = pair.setup.items }) o.fault (O.written writer.old) (O.written writer.new)) }
         ensures browsers { IfOk result (λ o. o.browsers ≤ self.now.sessions) }
         ensures noted { OnOk result (PrintsOn (browser_lines (D.turned doors.new))
             (F.written faults.old) (F.written faults.new) (F.has_failed faults.old) (F.has_failed faults.new)) }
         ensures noted_some { OnErr result (NotesIfOpen (D.turned doors.new)
             (F.written faults.old) (F.written faults.new) (F.has_failed faults.old) (F.has_failed faults.new)) }
-        ensures stop { IfErr result (λ f. IsLabStop D.Reader.left D.Writer.Output D.heard (entrance D.listens D.given D.turned doors.new) self.now.port self.now.sessions f
+        ensures stop { IfErr result (λ f. IsLabStop D.Reader.Input D.Writer.Output D.heard (entrance D.listens D.given D.turned D.returned doors.new) self.now.port self.now.sessions f
             (record { opening = pair.timeline; setup = pair.setup.items }) (O.written writer.old) (O.written writer.new)) }
         ensures device { IfErr result (λ f. f ≡ fault.Write → O.has_failed writer.new ≡ true) }
     {
@@ -264,14 +265,14 @@ impl<G: Gate + Sync, R: Threads + Wait + Sync> Server<'_, G, R> {
     ) -> Result<ServedSessions, RunFault>
         requires fresh { reader.old.lines ≡ 0 }
         requires sessions { (1 ≤ self.now.sessions) × (self.now.sessions ≤ 8) }
-        ensures serves { IfOk result (λ o. ServesToEnd D.Reader.left D.Writer.Output D.heard (entrance D.listens D.given D.turned doors.new) self.now.port self.now.sessions
+        ensures serves { IfOk result (λ o. ServesToEnd D.Reader.Input D.Writer.Output D.heard (entrance D.listens D.given D.turned D.returned doors.new) self.now.port self.now.sessions
             reader.old.left reader.new.left (O.written writer.old) (O.written writer.new) o.fault) }
         ensures browsers { IfOk result (λ o. o.browsers ≤ self.now.sessions) }
         ensures noted { OnOk result (PrintsOn (browser_lines (D.turned doors.new))
             (F.written faults.old) (F.written faults.new) (F.has_failed faults.old) (F.has_failed faults.new)) }
         ensures noted_some { OnErr result (NotesIfOpen (D.turned doors.new)
             (F.written faults.old) (F.written faults.new) (F.has_failed faults.old) (F.has_failed faults.new)) }
-        ensures stop { IfErr result (λ f. IsServeStop D.Reader.left D.Writer.Output D.heard (entrance D.listens D.given D.turned doors.new) self.now.port self.now.sessions f
+        ensures stop { IfErr result (λ f. IsServeStop D.Reader.Input D.Writer.Output D.heard (entrance D.listens D.given D.turned D.returned doors.new) self.now.port self.now.sessions f
             reader.old.left (O.written writer.old) (O.written writer.new)) }
         ensures device { IfErr result (λ f. IsDeviceFault f reader.new.failed (reader.new.turns ≡ 16777216) (O.has_failed writer.new)) }
         ensures reads { Counts reader.old.reads reader.new.reads reader.new.turns }
@@ -299,11 +300,11 @@ impl<G: Gate + Sync, R: Threads + Wait + Sync> Server<'_, G, R> {
         requires sessions { (1 ≤ self.now.sessions) × (self.now.sessions ≤ 8) }
         ensures reads { CountsWithin 0 16777216 (I.reads reader.old) (I.reads reader.new) }
         ensures serves { HostServes (D.turned doors.new) self.now.sessions
-            (ServesFromDevice D.Reader.left D.Writer.Output D.heard (entrance D.listens D.given D.turned doors.new) self.now.port self.now.sessions
+            (ServesFromDevice D.Reader.Input D.Writer.Output D.heard (entrance D.listens D.given D.turned D.returned doors.new) self.now.port self.now.sessions
             (I.left reader.old) (I.left reader.new) (O.written writer.old) (O.written writer.new))
             (F.written faults.old) (F.written faults.new) (F.has_failed faults.new) result
             ⊎ HostStops (D.turned doors.new)
-            (λ f. IsServeStop D.Reader.left D.Writer.Output D.heard (entrance D.listens D.given D.turned doors.new) self.now.port self.now.sessions f (I.left reader.old) (O.written writer.old) (O.written writer.new))
+            (λ f. IsServeStop D.Reader.Input D.Writer.Output D.heard (entrance D.listens D.given D.turned D.returned doors.new) self.now.port self.now.sessions f (I.left reader.old) (O.written writer.old) (O.written writer.new))
             (λ f. HasFailed f (I.has_failed reader.new) (I.reads reader.old) (I.reads reader.new) (O.has_failed writer.new))
             (F.written faults.old) (F.written faults.new) (F.has_failed faults.new) result }
     {

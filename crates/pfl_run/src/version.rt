@@ -2,4 +2,4 @@
 
 /// The release, the sum of its sources, and the logic that proves them.
 pub(crate) const VERSION: &str =
-    "release 19, sources 93c75e1ab382673c53e509594f0d40e206b6f932dbb4262442e649ebf4da4e22, logic dac8208d650f15bf";
+    "release 20, sources ed7cb8cd4a46aa9b9b2cb65f2bc52edb9624d0c5e039e03d31b3d564a31bd78a, logic dac8208d650f15bf";

@@ -12,6 +12,10 @@ use std::thread::join;
 const POST: &[u8] =
     b"POST / HTTP/1.1\r\nHost: 127.0.0.1\r\nContent-Length: 19\r\n\r\nstep main tick a 9\n";
 
+/// What one sends for a page of the server's own origin that posts it by a word of sessions.
+const STEP: &[u8] =
+    b"step /x HTTP/1.1\r\nHost: 127.0.0.1\r\nContent-Length: 19\r\n\r\nstep main tick a 9\n";
+
 /// The program closed with this many entries, and reported one browser.
 fn has_turned_away(outcome: &Outcome, alloc: Global, port: u16, entries: u32) -> bool {
     match format!(in alloc; "listening 127.0.0.1:{port}\nclosed {entries}\n") {
@@ -50,15 +54,17 @@ fn browsed_then_asked(rt: &HostRuntime, port: u16, request: &[u8]) -> Option<Vec
 /// A browser that sends its request at once takes no seat, and none of its lines is a command.
 #[test]
 fn a_browser_is_turned_away(rt: HostRuntime) -> Result<(), Fail> {
-    let port = free_port(&rt)?;
-    let (outcome, heard) = join(
-        &rt,
-        || served(&rt, rt.alloc(), port, "1", SETUP, &Open),
-        || browsed_then_asked(&rt, port, POST),
-    );
-    let outcome = outcome.ok_or("no outcome")?;
-    assert!(rt; has_turned_away(&outcome, rt.alloc(), port, 1));
-    assert!(rt; is_heard(heard, b"names main\n"));
+    for request in [POST, STEP] {
+        let port = free_port(&rt)?;
+        let (outcome, heard) = join(
+            &rt,
+            || served(&rt, rt.alloc(), port, "1", SETUP, &Open),
+            || browsed_then_asked(&rt, port, request),
+        );
+        let outcome = outcome.ok_or("no outcome")?;
+        assert!(rt; has_turned_away(&outcome, rt.alloc(), port, 1));
+        assert!(rt; is_heard(heard, b"names main\n"));
+    }
     Ok(())
 }
 

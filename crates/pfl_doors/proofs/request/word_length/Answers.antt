@@ -1,4 +1,4 @@
-use Rattle.std.proofs.Common.{length, arith, rules, sym, false}
+use Rattle.std.proofs.Common.{length, arith, rules, sym}
 use Rattle.std.proofs.lemmas.List.Sums.{prefix_len_is}
 use Rattle.pfl_doors.specs.Requests.{is_word_byte}
 use Rattle.pfl_doors.proofs.request.word_length.Goals as goal
