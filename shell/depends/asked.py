@@ -2,10 +2,10 @@
 from __future__ import annotations
 
 import argparse
-from typing import NoReturn, Sequence, Tuple
+from typing import Sequence, Tuple
 
-from ..helps import DEPENDS, SHELL
-from ..laboratory import Unknown
+from ..asking import Asking
+from ..helps import DEPENDS
 
 ALL_REPLIES = "--all-replies"
 
@@ -22,17 +22,9 @@ def add_options(words: argparse.ArgumentParser) -> None:
     words.add_argument(ALL_REPLIES, action="store_true", help="shows each reply that changes, and not only the first by each word")
 
 
-class _OfDialogue(argparse.ArgumentParser):
-    """Reads the words of a dialogue, where a fault ends nothing."""
-
-    def error(self, message: str) -> NoReturn:
-        raise Unknown(f"{message[:1].lower()}{message[1:]}; usage: {SHELL[DEPENDS].form}")
-
-
 def read(words: Sequence[str]) -> Tuple[str, bool]:
     """The branch that is named in a dialogue, or nothing, and whether all replies are shown."""
-    reader = _OfDialogue(prog=DEPENDS, add_help=False, allow_abbrev=False)
-    reader.add_argument("branch", nargs="?", default="")
+    reader = Asking(DEPENDS)
     add_options(reader)
     options = reader.parse_args(words, Options())
     return options.branch, options.all_replies

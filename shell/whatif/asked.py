@@ -3,10 +3,11 @@ from __future__ import annotations
 
 import argparse
 from dataclasses import dataclass
-from typing import NoReturn, Optional, Sequence, Tuple
+from typing import Optional, Sequence, Tuple
 
+from ..asking import Asking
 from ..charts.windows import read_place
-from ..helps import SHELL, WHATIF
+from ..helps import WHATIF
 from ..laboratory import Unknown
 from ..language.forms import nearest, one_of
 from .faults import KINDS, OF_PAIRS
@@ -77,17 +78,9 @@ def asked(words: Options) -> Asked:
     return Asked(words.faults, words.watch, words.first, words.last, words.pairs, words.flushing, words.only, words.out)
 
 
-class _OfDialogue(argparse.ArgumentParser):
-    """Reads the words of a dialogue, where a fault ends nothing."""
-
-    def error(self, message: str) -> NoReturn:
-        raise Unknown(f"{message[:1].lower()}{message[1:]}; usage: {SHELL[WHATIF].form}")
-
-
 def read(words: Sequence[str]) -> Tuple[str, Asked]:
     """The branch that is named in a dialogue, or nothing, and what is asked for."""
-    reader = _OfDialogue(prog=WHATIF, add_help=False, allow_abbrev=False)
-    reader.add_argument("branch", nargs="?", default="")
+    reader = Asking(WHATIF)
     add_options(reader)
     options = reader.parse_args(words, Options())
     return options.branch, asked(options)
