@@ -11,9 +11,10 @@ from .archive import archive
 TOP = Path(__file__).resolve().parent.parent
 COMMANDS = ("pfl_lab", "pfl_shell")
 EXAMPLES = "share/pfl_lab/examples"
+DISSECTOR = "share/pfl_lab/wireshark/pfsync.lua"
 START = "import sys\n\nfrom shell.installed import main\n\nsys.exit(main())\n"
 RUNNABLE, READABLE = 0o755, 0o644
-_OF_SHELL = ("shell", "verify", "annotate", "chart", "page", "whatif", "depends", "compare", "import")
+_OF_SHELL = ("shell", "verify", "annotate", "chart", "page", "frames", "whatif", "depends", "compare", "import")
 # The commands of a checkout, as the examples have them, and what replaces them if there is no checkout.
 INSTALLED_WORDS = (
     *((f"./lab {word}", f"pfl_lab {word}") for word in ("run", "check", "serve")),
@@ -42,6 +43,7 @@ def files(program: str) -> List[File]:
         *(File(f"share/man/man1/{it}.1", READABLE, (TOP / f"docs/man/{it}.1").read_bytes()) for it in COMMANDS),
         *completions(),
         *examples(),
+        File(DISSECTOR, READABLE, (TOP / "wireshark/pfsync.lua").read_bytes()),
     ]
 
 

@@ -14,11 +14,13 @@ from contextlib import ExitStack, contextmanager, suppress
 from typing import Iterator, List, Sequence, Tuple
 
 from . import lists
-from .files import COMMANDS, EXAMPLES, READABLE, File, files
+from .files import COMMANDS, DISSECTOR, EXAMPLES, READABLE, File, files
 from .lists import Installed, NotInstalled, digest
 
 DEFAULT_PREFIX = "~/.local"
 FOLDER_MODE = 0o755
+# Where Wireshark looks for the dissectors of its user.
+PLUGINS = "~/.local/lib/wireshark/plugins"
 ENDING = (signal.SIGINT, signal.SIGTERM, signal.SIGHUP)
 
 # A file that was written, and the place that it is to take.
@@ -167,11 +169,12 @@ def report(prefix: str, wanted: Sequence[File]) -> List[str]:
     lines = [
         f"installed in {prefix}:",
         "  bin/pfl_lab               the program, which is proved",
-        "  bin/pfl_shell             the shell, with verify, annotate, chart, page, whatif, depends, compare and import",
+        "  bin/pfl_shell             the shell, with verify, annotate, chart, page, frames, whatif, depends, compare and import",
         f"  share/man/man1            {' and '.join(f'{it}(1)' for it in COMMANDS)}",
         f"  {EXAMPLES}    {scripts} scripts, and a page about them",
         "  share/bash-completion, share/zsh/site-functions",
         "                            words that a shell completes",
+        f"  {os.path.dirname(DISSECTOR)}   {os.path.basename(DISSECTOR)} for Wireshark, which looks for it in {PLUGINS}: copy it there",
         f"  {lists.NAME}   the list from which `./lab uninstall` removes all of it",
     ]
     if folder in os.environ.get("PATH", "").split(os.pathsep):

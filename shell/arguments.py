@@ -7,6 +7,7 @@ import os
 import re
 from typing import Callable, List, Optional, Tuple
 
+from .captures.run_options import add_options as add_frames
 from .charts.windows import read_flow, read_place
 from .depends.asked import add_options as add_depends
 from .dumps.comparing import Tolerance
@@ -54,6 +55,9 @@ class Words(Options):
     rc: Optional[str]
     output: Optional[str]
     unopened: bool
+    capture_a: str
+    capture_b: str
+    pfsync: bool
 
 
 # The words that run no program, besides those that ask for help.
@@ -125,6 +129,14 @@ def _further(add: Callable[..., argparse.ArgumentParser], name: str) -> None:
             usage=f"{name} compare A B [--stats A B] [--apart S] [--all]",
             description="Compares two files with the output of `pfctl -ss -vv` at the two firewalls of a pair: which states only one"
             " has, and which differ, field by field. Status: 0 if they agree, 1 if they differ, 2 if a file could not be read.",
+        )
+    )
+    add_frames(
+        add(
+            "frames",
+            help="writes the frames of a script as captures, in the layout of FreeBSD's messages",
+            description="Writes the frames of a script as two captures: what tcpdump(1) would have written at each node, had the frames"
+            " been messages of FreeBSD 13.",
         )
     )
     _import(

@@ -1,5 +1,5 @@
-"""The words that need the shell, of `./lab` and of the installed `pfl_shell`: shell, verify, annotate, chart, page, whatif, depends,
-compare and import."""
+"""The words that need the shell, of `./lab` and of the installed `pfl_shell`: shell, verify, annotate, chart, page, frames, whatif,
+depends, compare and import."""
 from __future__ import annotations
 
 import io
@@ -14,6 +14,7 @@ from typing import Callable, Dict, Iterator, Sequence
 from . import scripts
 from .arguments import Words, page_fault, parser
 from .branches import Branch
+from .captures import runs
 from .charts.chart import NO_TEXTS, Texts, chart as chart_of
 from .charts.picture import draw
 from .charts.rows import Chart
@@ -135,6 +136,19 @@ def page(words: Words) -> int:
         serve(words.program, words.serve, pair, sys.stdout)
     with closing(run_of(words.program, script, name)) as run:
         save(words.page, page_of(run.as_data()))
+    return 0
+
+
+def frames(words: Words) -> int:
+    """Writes the frames of a script as captures, one at each node."""
+    paths = (words.capture_a, words.capture_b)
+    runs.refuse_same_files(words.file, paths)
+    script = lines_of(scripts.read(words.file))
+    if says_faults(words, words.file, script):
+        return 1
+    with closing(Laboratory(words.program)) as lab:
+        story_of(lab, script)
+        show([runs.written(lab, lab.branch(words.branch), paths, words.pfsync)])
     return 0
 
 
@@ -332,6 +346,7 @@ WORDS: Dict[str, Callable[[Words], int]] = {
     "annotate": annotate,
     "chart": chart,
     "page": page,
+    "frames": frames,
     "whatif": whatif,
     "depends": depends,
     "compare": compare,

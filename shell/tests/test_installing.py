@@ -26,7 +26,7 @@ from . import TOP, program
 
 # What stands for the program where what it does is no matter.
 STAND_IN = "#!/bin/sh\necho 'stand-in' \"$@\"\n"
-FOLDERS = ("proving", "installing", "shell", "page", "examples", "docs/man")
+FOLDERS = ("proving", "installing", "shell", "page", "examples", "docs/man", "wireshark")
 # A start of Python that lets no file grow beyond so many bytes, and then runs a program.
 LIMITED = """
 import resource, runpy, sys
@@ -88,6 +88,11 @@ class Installing(Room):
         scripts = [it.name for it in Path(TOP, "examples").iterdir()]
         self.assertEqual(sorted(scripts), sorted(os.listdir(self.prefix / "share/pfl_lab/examples")))
         self.assertEqual((self.prefix / "bin/pfl_lab").read_text(), STAND_IN)
+        self.assertEqual((self.prefix / "share/pfl_lab/wireshark/pfsync.lua").read_bytes(), Path(TOP, "wireshark/pfsync.lua").read_bytes())
+
+    def test_the_report_says_where_wireshark_looks(self) -> None:
+        line = "  share/pfl_lab/wireshark   pfsync.lua for Wireshark, which looks for it in ~/.local/lib/wireshark/plugins: copy it there"
+        self.assertIn(line, self.install())
 
     def test_examples_name_commands_that_are_installed(self) -> None:
         self.install()

@@ -1,0 +1,145 @@
+"""The records of the laboratory as a message of pfsync(4), in the layout of FreeBSD 13.
+
+What a record of the laboratory does not have is chosen: states are floating, so their interface is `all`; their rule is in no anchor, and
+no rule of a translation is named; ages, counts of packets and bytes, gateways, numbers added to sequence numbers and what `scrub` keeps are
+0, and so is the time of a bulk update. A clear is for all interfaces, and has no greatest id.
+"""
+from __future__ import annotations
+
+import ipaddress
+from itertools import groupby
+from typing import Dict, Sequence, Union
+
+from ..frames import HEADER as HEADER_SIZE
+from ..frames import Carried, Changes, Record
+from ..language.names import Name
+from ..language.packets import Key
+from ..language.records import BULK_STATUS, CLEAR, KINDS
+from ..language.setups import CLASSES
+from ..states import End
+from . import layout
+from .layout import Layout
+
+# The interface of a state that is bound to none.
+FLOATING = b"all"
+# A rule that is not there.
+NO_RULE = 2**32 - 1
+# In `state_flags`: the sender asks for an acknowledgement (PFSTATE_ACK).
+ASKS_FOR_ACKNOWLEDGEMENT = 0x10
+# In `wscale`: the end has offered a scale (PF_WSCALE_FLAG).
+HAS_SCALE = 0x80
+# The families of addresses, as FreeBSD numbers them (AF_INET and AF_INET6).
+FAMILIES = {4: 2, 6: 28}
+DIRECTIONS = {"in": 1, "out": 2}
+PROTOCOLS = {"icmp": 1, "tcp": 6, "udp": 17}
+_CLASS_NUMBERS = {it.word: number for number, it in enumerate(CLASSES)}
+_ADDRESS_SIZE = 16
+Values = Dict[str, Union[int, bytes]]
+
+
+def message(checksum: bytes, records: Sequence[Record], creator: int = 0) -> bytes:
+    """The message with these records, in their order, from a node whose rules have this checksum; bulk statuses have its creator."""
+    groups = [(kind.number, [*its]) for kind, its in groupby(records, lambda it: it.kind)]
+    body = b"".join(_group(number, len(its)) + b"".join(record(it, creator) for it in its) for number, its in groups)
+    # (the last group has no records, but counts one)
+    body += _group(layout.END.number, 1)
+    return _packed(layout.HEADER, {"version": layout.VERSION, "len": layout.HEADER.size + len(body), "pfcksum": checksum}) + body
+
+
+def record(it: Record, creator: int = 0) -> bytes:
+    """A record in the kernel's layout; a bulk status has this creator."""
+    if isinstance(it.state, Carried):
+        return _state(it.state)
+    if isinstance(it.state, Changes):
+        return _short_update(it.name, it.state)
+    if it.kind is CLEAR:
+        return _packed(layout.CLEAR, {"creatorid": int(it.about[0])})
+    if it.kind is BULK_STATUS:
+        return _packed(layout.BULK_STATUS, {"creatorid": creator, "status": int(it.about[0])})
+    return _packed(layout.NAME, {"id": it.name.id, "creatorid": it.name.creator})
+
+
+def creator_of_bulk_status(frame: bytes) -> int:
+    """The creator in the first bulk status of a whole frame of the laboratory; 0 where it has none."""
+    at = HEADER_SIZE
+    while at < len(frame):
+        kind, count = KINDS[frame[at]], int.from_bytes(frame[at + 2 : at + 4], "big")
+        at += layout.SUBHEADER.size
+        if kind is BULK_STATUS:
+            return int.from_bytes(frame[at : at + 4], "big")
+        at += count * kind.size
+    return 0
+
+
+def family(end: str) -> int:
+    """4 or 6: the version of IP that an end `ADDRESS:PORT` or `[ADDRESS]:PORT` is of."""
+    return 6 if end.startswith("[") else 4
+
+
+def _group(action: int, count: int) -> bytes:
+    return _packed(layout.SUBHEADER, {"action": action, "count": count})
+
+
+def _packed(its: Layout, values: Values) -> bytes:
+    """The bytes of a layout: numbers in network order, bytes from the left, and 0 where there is no value."""
+    assert {*values} <= {field.name for field in its.fields}
+    return b"".join(_field(values.get(field.name, 0), field.size) for field in its.fields)
+
+
+def _field(value: Union[int, bytes], size: int) -> bytes:
+    return value.to_bytes(size, "big") if isinstance(value, int) else value[:size].ljust(size, b"\0")
+
+
+def _state(it: Carried) -> bytes:
+    return _packed(
+        layout.STATE,
+        {
+            "id": it.name.id,
+            "ifname": FLOATING,
+            "key[0].addr[2]": _addresses(it.wire),
+            "key[0].port[2]": _ports(it.wire),
+            "key[1].addr[2]": _addresses(it.stack),
+            "key[1].port[2]": _ports(it.stack),
+            "src": _peer(it.source),
+            "dst": _peer(it.destination),
+            "rule": NO_RULE if it.rule is None else it.rule,
+            "anchor": NO_RULE,
+            "nat_rule": NO_RULE,
+            "expire": it.remaining,
+            "creatorid": it.name.creator,
+            "af": FAMILIES[family(it.wire.far)],
+            "proto": PROTOCOLS[it.protocol] if it.protocol in PROTOCOLS else int(it.protocol),
+            "direction": DIRECTIONS[it.direction],
+            "state_flags": ASKS_FOR_ACKNOWLEDGEMENT * it.asks_for_acknowledgement,
+            "timeout": _CLASS_NUMBERS[it.timeout_class],
+        },
+    )
+
+
+def _short_update(name: Name, it: Changes) -> bytes:
+    return _packed(
+        layout.SHORT_UPDATE,
+        {
+            "id": name.id,
+            "src": _peer(it.source),
+            "dst": _peer(it.destination),
+            "creatorid": name.creator,
+            "expire": it.remaining,
+            "timeout": _CLASS_NUMBERS[it.timeout_class],
+        },
+    )
+
+
+def _peer(it: End) -> bytes:
+    scale = 0 if it.scale is None else HAS_SCALE | it.scale
+    return _packed(layout.PEER, {"seqlo": it.lo, "seqhi": it.hi, "max_win": it.window, "state": it.level, "wscale": scale})
+
+
+def _addresses(key: Key) -> bytes:
+    """The far address and the near one; those of IPv4 take the first 4 of 16 bytes."""
+    addresses = (ipaddress.ip_address(end.rpartition(":")[0].strip("[]")) for end in (key.far, key.near))
+    return b"".join(it.packed.ljust(_ADDRESS_SIZE, b"\0") for it in addresses)
+
+
+def _ports(key: Key) -> bytes:
+    return b"".join(int(end.rpartition(":")[2]).to_bytes(2, "big") for end in (key.far, key.near))
