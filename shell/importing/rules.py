@@ -23,6 +23,7 @@ LONGEST_TEXT = LONGEST_LINE - len("rule a ")
 _NAMED = {TCP: "tcp", UDP: "udp", ICMP: "icmp"}
 _ECHO = (0, 8)
 _NO_SOCKETS = "packets of the laboratory belong to no local socket, like forwarded ones"
+_OTHERS_LEFT_OUT = "protocols other than TCP and UDP, for which pf.conf(5) ignores users and groups, are left out"
 # What has no effect on the verdict of a rule.
 _WITHOUT_EFFECT = ("label", *NUMBERING, "tag", "queue", "dnpipe", "dnqueue", "prio", "set", "allow-opts")
 ROUTES = {
@@ -139,9 +140,8 @@ def protocol_text(number: Optional[int]) -> str:
 def _refused(rule: PfRule, number: Optional[int]) -> None:
     """Raises what pfctl refuses in rules that can be read."""
     words = rule.words
-    has_ports, has_users = rule.has_ports and not words.action.startswith(NAT), rule.user or rule.group
-    if (has_ports or has_users) and number not in WITH_PORTS:
-        raise Out(f"pfctl takes a {'port' if has_ports else 'user or a group'} only with `proto tcp` or `proto udp`")
+    if rule.has_ports and not words.action.startswith(NAT) and number not in WITH_PORTS:
+        raise Out("pfctl takes a port only with `proto tcp` or `proto udp`")
     if (words.flags or words.match.systems) and words.match.protocols and TCP not in map(protocol_number, words.match.protocols):
         raise Out(f"pfctl takes {'flags' if words.flags else 'an operating system'} only with `proto tcp`")
     if rule.icmp_type and number != (ICMP6 if rule.icmp_type.version == 6 else ICMP):
@@ -190,17 +190,23 @@ def _tagged(option: Option, context: Context) -> Iterator[str]:
 
 def _of_packets(rule: PfRule, number: Optional[int]) -> Iterator[str]:
     """What is lost by users, operating systems and types of ICMP, which packets of the laboratory do not have."""
-    for it in (rule.user, rule.group):
-        if it is not None and not _owned_by_none(it):
-            raise Never(_NO_SOCKETS)
-        if it is not None:
-            yield _NO_SOCKETS
+    if rule.user or rule.group:
+        yield _of_sockets([it for it in (rule.user, rule.group) if it is not None], number)
     if rule.system is not None and number in (None, TCP):
         if rule.system != "unknown":
             raise Never("packets of the laboratory have no fingerprint of an operating system")
         yield "packets of the laboratory have no fingerprint of an operating system: all are unknown"
     if rule.icmp_type is not None:
         yield _of_icmp(rule.words.action, rule.icmp_type)
+
+
+def _of_sockets(owners: Sequence[Operation], number: Optional[int]) -> str:
+    """What is lost by users and groups, which only packets of TCP and UDP can have; for other protocols pf.conf(5) ignores them."""
+    if number not in (None, *WITH_PORTS):
+        return "users and groups are ignored: packets of its protocol have none"
+    if not all(map(_owned_by_none, owners)):
+        raise Never(_NO_SOCKETS if number else f"{_NO_SOCKETS}; {_OTHERS_LEFT_OUT}")
+    return _NO_SOCKETS
 
 
 def _owned_by_none(it: Operation) -> bool:

@@ -20,6 +20,8 @@ from .translations import BINAT, IN, OUT, POOL, RDR, Piece, few_of
 _EVERY_ECHO: Span = (1, 65535)
 _WITHOUT: Span = (0, 0)
 _STAYS = "a port that stays as it is has no form here"
+# Fewer lines are looked for where a rule has at least this many.
+FEW_LINES = 4
 
 
 class Asked(NamedTuple):
@@ -140,18 +142,57 @@ def _entries(section: Section, asked: Sequence[Asked]) -> Iterator[Entry]:
     """The lines for the packets of a translation: those of the rules that match them, up to one that matches all of them."""
     piece, count = section.piece, 0
     seen: List[Tuple[Region, bool]] = []
-    for it in () if piece.passes else asked:
+    for at, it in enumerate(() if piece.passes else asked):
         region = _before(piece, it, section.lost)
         is_full = region is not None and _is_full(it.base, region)
         if region is None or any(earlier.holds(region) and full >= is_full for earlier, full in seen):
             continue
-        seen.append((region, is_full))
-        lines = _written(section, region, it.base, it.place)
-        yield Entry(it, lines)
-        count += len(lines)
-        if count > MOST_RULES or (is_full and region.holds(piece.region)):
+        ruled = _of_rule(section, region, asked[at:])
+        yield from ruled.entries
+        seen += [(ruled.region, is_full), *((few, True) for few in ruled.decided)]
+        count += ruled.size
+        if count > MOST_RULES or _is_decided(piece.region, [earlier for earlier, full in seen if full]):
             return
     yield Entry(None, _of_no_rule(section))
+
+
+def _is_decided(region: Region, seen: Sequence[Region]) -> bool:
+    """Whether the packets of each family are among those of a rule that matches them whatever flags they have."""
+    parts = [region._replace(family=it) for it in region.families]
+    return all(any(it.holds(part) for it in seen) for part in parts)
+
+
+class Ruled(NamedTuple):
+    """The lines of a rule of the filter for packets of a translation, after those for some about which the rules after it have decided."""
+
+    entries: List[Entry]
+    region: Region
+    decided: Sequence[Region] = ()
+
+    @property
+    def size(self) -> int:
+        return sum(len(it.lines) for it in self.entries)
+
+
+def _of_rule(section: Section, region: Region, asked: Sequence[Asked]) -> Ruled:
+    """The lines of the first of some rules, for packets as they come. Where it is for all but a few of those of the translation, and that
+    makes fewer lines, these few come first, as the rules after it decide about them, and it is then for all."""
+    first, *others = asked
+    direct = Ruled([Entry(first, _written(section, region, first.base, first.place))], region)
+    exceptions, opened = region.but_few() if direct.size >= FEW_LINES else ([], region)
+    whole = section.piece.region.common(opened)
+    if not exceptions or whole is None:
+        return direct
+    few = [it for it in map(section.piece.region.common, exceptions) if it is not None]
+    within = [Section(section.owner, section.piece._replace(region=it), section.about) for it in few]
+    entries = [entry for it in within for entry in _entries(it, others)]
+    found = Ruled([*entries, Entry(first, _written(section, whole, first.base, first.place))], whole, few)
+    if found.size >= direct.size:
+        return direct
+    for it in within:
+        section.lost += it.lost
+        section.untranslated += it.untranslated
+    return found
 
 
 def _is_full(base: RuleLine, region: Region) -> bool:

@@ -221,14 +221,22 @@ def _redirected(words: Translation, of: Optional[Operation], piece: Piece) -> It
     if words.port and piece.region.protocol not in WITH_PORTS:
         raise Out("pfctl takes a port only with `proto tcp` or `proto udp`")
     first, colon, last = words.port.partition(":")
-    if not words.port:
+    alternatives = len(words.match.destination.ports)
+    if not words.port or _stays(of, alternatives, first, last):
         yield piece
     elif not colon or (last == "*" and of is not None and of.operator == "="):
         yield piece._replace(ports=(port_of(first), port_of(first)))
     else:
-        for port, to in _mapped(of, len(words.match.destination.ports), port_of(first), last):
+        for port, to in _mapped(of, alternatives, port_of(first), last):
             near = Side(piece.near.addresses, ((port, port),))
             yield piece._replace(region=piece.with_near(near, piece.region), ports=(to, to))
+
+
+def _stays(of: Optional[Operation], alternatives: int, first: str, last: str) -> bool:
+    """Whether each port of a range is redirected to itself."""
+    if of is None or of.operator != ":" or not last or port_of(of.first) != port_of(first):
+        return False
+    return alternatives == 1 if last == "*" else port_of(last) >= port_of(of.second)
 
 
 def _mapped(of: Optional[Operation], alternatives: int, first: int, last: str) -> Iterator[Tuple[int, int]]:

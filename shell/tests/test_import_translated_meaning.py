@@ -205,9 +205,10 @@ def of_laboratory(flow: Flow, lines: Sequence[Line]) -> Fate:
 # ---- chance
 
 
-def random_ends(chance: random.Random, some: Sequence[str]) -> Ends:
+def random_ends(chance: random.Random, some: Sequence[str], nots: int = 1) -> Ends:
+    """The packets of a statement, of whose hosts so many are all but one of some."""
     protocol = chance.choice(("tcp", "tcp", "tcp", "udp", "", "", "icmp", "50"))
-    hosts = (*["any"] * 14, *some, chance.choice([f"! {it}" for it in some]))
+    hosts = (*["any"] * 14, *some, *(chance.choice([f"! {it}" for it in some]) for _ in range(nots)))
     ports = [chance.choice((*[""] * 6, *PORTS)) if protocol in WITH_PORTS else "" for _ in range(2)]
     return Ends("", protocol, chance.choice(hosts), ports[0], chance.choice(hosts), ports[1])
 
@@ -226,8 +227,8 @@ def random_translation(chance: random.Random, family: int) -> Translates:
     return Translates(kind, is_no, not is_no and chance.random() < 0.2, ends, target, port)
 
 
-def random_filter(chance: random.Random, family: int) -> Filters:
-    ends = random_ends(chance, (*HOSTS[family], *TARGETS[family]))
+def random_filter(chance: random.Random, family: int, nots: int = 1) -> Filters:
+    ends = random_ends(chance, (*HOSTS[family], *TARGETS[family]), nots)
     action, direction = chance.choice(("pass", "pass", "pass", "block")), chance.choice(("", "in", "out"))
     any_flags = action == "pass" and ends.protocol in ("", "tcp") and chance.random() < 0.3
     return Filters(action, direction, chance.random() < 0.25, any_flags, ends)
@@ -265,9 +266,9 @@ class Case(NamedTuple):
         return self.its.status == 0 and not any(": out: " in it for it in self.its.said)
 
 
-def random_case(chance: random.Random, family: int) -> Case:
+def random_case(chance: random.Random, family: int, nots: int = 1) -> Case:
     translations = [random_translation(chance, family) for _ in range(chance.randrange(1, 5))]
-    filters = [BLOCK_ALL] * (chance.random() < 0.6) + [random_filter(chance, family) for _ in range(chance.randrange(5))]
+    filters = [BLOCK_ALL] * (chance.random() < 0.6) + [random_filter(chance, family, nots) for _ in range(chance.randrange(5))]
     text = "\n".join([*(it.text for it in translations), *(it.text for it in filters)])
     its = taken_in(text)
     return Case(text, translations, filters, its, [Line.of(it) for it in its.rules()])
@@ -305,6 +306,16 @@ class Meaning(unittest.TestCase):
         # Each fate comes often enough to say something.
         counts = {it: found.count(it) for it in ("translated", "blocked", "passed", "stays")}
         self.assertGreater(min(counts.values()), 600, counts)
+
+    def test_rules_for_all_but_a_few_addresses(self) -> None:
+        chance = random.Random(SEED + 1)
+        found: List[str] = []
+        for family in (4, 4, 4, 6) * (ROUNDS // 5):
+            case = random_case(chance, family, nots=12)
+            if case.is_legible and all(it.startswith(STAYS) for it in case.lost):
+                found += [self.compare(case, it) for it in some_flows(chance, case, family)]
+        counts = {it: found.count(it) for it in ("translated", "blocked", "passed")}
+        self.assertGreater(min(counts.values()), 200, counts)
 
 
 if __name__ == "__main__":

@@ -3,6 +3,7 @@ filter sees the packet that it makes."""
 from __future__ import annotations
 
 import unittest
+from ipaddress import IPv4Network
 from typing import List
 
 from ..importing.comments import is_of_import, origin
@@ -15,6 +16,11 @@ POOL = "nat 192.0.2.1:50001:65535"
 FROM = "from 10.0.0.0/24"
 RDR = "rdr on em0 inet proto tcp from any to (em0) port 80 -> 10.0.0.80 port 8080"
 TO = "proto tcp to 192.0.2.1/32 tport 80"
+
+
+def _without(net: str) -> List[str]:
+    """The nets that are not this one, from the lowest on."""
+    return [str(it) for it in sorted(IPv4Network("0.0.0.0/0").address_exclude(IPv4Network(net)))]
 
 
 class Exact(unittest.TestCase):
@@ -44,6 +50,32 @@ class Exact(unittest.TestCase):
         ]
         rest = ["block any", *(f"pass out proto {it}" for it in ("tcp", "udp", "icmp"))]
         self.exact(f"{NAT}\nblock all\npass out on em0 proto {{ tcp, udp, icmp }} from any to any", *translated, *rest)
+
+    def test_a_rule_for_all_but_a_few_addresses(self) -> None:
+        # What the rules above it say about the few comes first, so that it can be for all.
+        few, rest = "to 10.9.0.0/16", [it for net in _without("10.9.0.0/16") for it in [f"pass out to {net} no-sync"]]
+        translated = [
+            f"pass out quick proto udp {FROM} {few} {POOL}",
+            f"block out quick {FROM} {few}",
+            f"pass out quick {FROM} no-sync {POOL}",
+            f"block out quick {FROM}",
+        ]
+        text = f"{NAT}\nblock all\npass out proto udp {few}\npass out to ! 10.9.0.0/16 keep state (no-sync)"
+        self.exact(text, *translated, "block any", f"pass out proto udp {few}", *rest)
+        # Two of them: what the one leaves out is for the other.
+        text = f"{NAT}\nblock all\npass out to ! 10.8.0.0/16\nblock out to ! 10.9.0.0/16"
+        translated = [
+            f"pass out quick {FROM} {few} {POOL}",
+            f"block out quick {FROM} {few}",
+            f"block out quick {FROM}",
+        ]
+        self.assertEqual(taken_in(text).rules()[:4], [*translated, "block any"])
+
+    def test_an_exception_of_both_families_for_each_of_which_a_rule_decides(self) -> None:
+        text = f"no nat proto carp\n{NAT}\npass out inet\npass out inet6"
+        v4, v6 = (f"from {it}" for it in ("0.0.0.0/0", f"{':'.join(['0000'] * 8)}/0"))
+        own = [f"pass out quick {FROM} {POOL}", f"pass out quick {FROM} flags any {POOL}"]
+        self.exact(text, f"pass out quick proto 112 {v6}", f"pass out quick proto 112 {v4}", *own, f"pass out {v4}", f"pass out {v6}")
 
     def test_the_filter_sees_the_source_that_is_put_in(self) -> None:
         # A rule for the clients' own addresses is not for what is translated.
@@ -106,6 +138,8 @@ class Exact(unittest.TestCase):
         redirected("80:99", " port 8080", "80:99 8080")
         redirected("80:81", " port 8080:*", "80 8080", "81 8081")
         redirected("80", " port 8080:*", "80 8080")
+        redirected("80:82", " port 80:*", "80 80", "81 81", "82 82")
+        redirected("80:81", " port 80:90", "80 80", "81 81")
         # Where there are fewer ports, they are taken in turn.
         redirected("1:3", " port 3:4", "1 3", "2 4", "3 3")
         redirected("http", " port https", "80 443")
@@ -299,6 +333,13 @@ class NotExact(unittest.TestCase):
         text = "rdr on em0 proto tcp to (em0) -> 10.0.0.4\nblock all\npass in to 10.0.0.4"
         rules = ("pass in quick proto tcp to 192.0.2.1/32", "block in quick proto tcp to 192.0.2.1/32", "block any")
         self.judged(text, "approximated", f"{stays}: what is passed by pf.conf:3 is not translated", *rules, "pass in to 10.0.0.4/32")
+        # Each port of a range to itself, as generators write it.
+        text = "rdr on em0 proto udp to (em0) port 10000:20000 -> 10.0.0.4 port 10000:*\nblock all"
+        text += "\npass in proto udp to 10.0.0.4 port > 10100"
+        few = "proto udp to 192.0.2.1/32 tport"
+        rules = (f"pass in quick {few} 10101:20000", f"block in quick {few} 10000:20000", "block any")
+        own = "pass in proto udp to 10.0.0.4/32 tport 10101:65535"
+        self.judged(text, "approximated", f"{stays}: what is passed by pf.conf:3 is not translated", *rules, own)
 
     def test_some_of_the_ports(self) -> None:
         text = "nat on em0 proto udp from 10.0.0.0/24 to any -> (em0) port 1000:2000\nblock all\npass out proto udp from any port"

@@ -223,6 +223,14 @@ class Rules(unittest.TestCase):
         self.approximated("pass out proto tcp user { root, > 1000 }", sockets)
         self.approximated("pass out proto tcp user != root", sockets, "pass out proto tcp")
         self.approximated("pass out proto tcp group unknown", sockets, "pass out proto tcp")
+        left = "protocols other than TCP and UDP, for which pf.conf(5) ignores users and groups, are left out"
+        self.approximated("pass out user { root, www }", f"{sockets}; {left}")
+        self.approximated("block out from any to any group != wheel user root", f"{sockets}; {left}")
+        self.approximated("pass out user unknown group != wheel", sockets, "pass out")
+        ignored = "users and groups are ignored: packets of its protocol have none"
+        self.approximated("pass out proto icmp user root", ignored, "pass out proto icmp")
+        its = taken_in("pass out proto { udp esp } group www")
+        self.assertEqual((its.rules(), its.said[0]), (["pass out proto 50"], f"pf.conf:1: approximated: {sockets}; {ignored}"))
         system = "packets of the laboratory have no fingerprint of an operating system"
         self.approximated('block in proto tcp from any os "Windows 95" to port 25', system)
         self.approximated("pass in from any os unknown", f"{system}: all are unknown", "pass in")
