@@ -1,5 +1,7 @@
+import { say } from "./announcer.js";
 import { byId, make, makeButton } from "./elements.js";
 import { choiceField, labelled, numberField, textField } from "./fields.js";
+import { Roving } from "./roving.js";
 import { clearReply } from "./sender.js";
 
 /** What can be done at a moment of a live page: time goes on, ways back, forks, and events taken out. */
@@ -11,7 +13,8 @@ export class Actions {
     this.place = make("div", { class: "reply-place" });
     this.tick = this.tickForm();
     this.fork = this.forkForm();
-    this.buttons = make("div", { class: "buttons" });
+    this.buttons = make("div", { class: "buttons", role: "toolbar", "aria-label": "Branch and events" });
+    this.stop = new Roving(this.buttons, "button");
     this.make();
     byId("actions").append(this.tick, this.buttons, this.fork, this.place);
     byId("undo").addEventListener("click", () => this.move("undo", "back"));
@@ -42,7 +45,7 @@ export class Actions {
     const nodes = choiceField("nodes", [["ab", "both nodes"], ["a", "node a"], ["b", "node b"]], "ab");
     const fields = make("div", { class: "fields" }, labelled("milliseconds", time), labelled("at", nodes));
     const submit = make("button", { type: "submit" }, "Tick");
-    const form = make("form", { class: "tick-form", "aria-label": "Time goes on" }, fields, submit);
+    const form = make("form", { class: "tick-form", role: "group", "aria-label": "Time goes on" }, fields, submit);
     form.addEventListener("submit", async (event) => {
       event.preventDefault();
       for (const node of nodes.value) {
@@ -56,7 +59,7 @@ export class Actions {
   forkForm() {
     const rules = { required: "", maxlength: "16", pattern: "[a-z][a-z0-9\\-]*", id: "fork-name" };
     this.name = textField("fork-name", "", rules);
-    const form = make("form", { class: "fork-form", hidden: "" },
+    const form = make("form", { class: "fork-form", role: "group", "aria-label": "A new branch", hidden: "" },
       labelled("name of the new branch (letters a to z, digits, dashes)", this.name),
       make("button", { type: "submit" }, "Fork"));
     form.addEventListener("submit", (event) => {
@@ -100,6 +103,7 @@ export class Actions {
     }
     this.drop.dataset.asked = name;
     this.drop.textContent = `Drop ${name} for everybody?`;
+    say(this.drop.textContent);
   }
 
   /** Undoes the newest event, or has it happen again. */
@@ -123,6 +127,7 @@ export class Actions {
       delete this.drop.dataset.asked;
       clearReply(this.place);
     }
+    this.stop.settle();
     byId("undo").setAttribute("aria-disabled", String(!canChange || newest === 0));
     byId("redo").setAttribute("aria-disabled", String(!canChange || branch.undone === 0));
   }

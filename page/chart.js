@@ -1,4 +1,4 @@
-import { byId, isMotionReduced, make } from "./elements.js";
+import { byId, counted, isMotionReduced, make } from "./elements.js";
 import { drawnSheet, ruleMark } from "./drawing.js";
 import { putDots } from "./motion.js";
 
@@ -30,13 +30,18 @@ export function laneHeads({ width, lanes, heads }) {
   });
 }
 
+/** What the chart is, in words. */
+export function alternativeOf({ name, moments }) {
+  return `Chart of ${name} with ${counted(moments.length, "event")}; the list of its events says the same in words`;
+}
+
 /** Shows the chart, and marks the row of the moment. */
 export class ChartView {
   constructor(viewer) {
     this.viewer = viewer;
     this.box = byId("chart");
     this.heads = make("div", { class: "heads", "aria-hidden": "true" });
-    this.canvas = make("div", { class: "canvas" });
+    this.canvas = make("div", { class: "canvas", role: "img" });
     this.roll = make("div", { class: "roll" }, this.heads, this.canvas);
     this.box.append(this.roll);
     this.sheets = new Map();
@@ -67,6 +72,7 @@ export class ChartView {
     this.roll.style.minWidth = `${width * LEAST_UNIT}rem`;
     this.canvas.style.aspectRatio = `${width} / ${Math.max(1, height)}`;
     this.heads.replaceChildren(...laneHeads(this.chart));
+    this.canvas.setAttribute("aria-label", alternativeOf(this.viewer.branch));
     this.refresh();
   }
 

@@ -1,4 +1,6 @@
+import { say, sentenceOf } from "./announcer.js";
 import { byId, make, makeButton } from "./elements.js";
+import { Roving } from "./roving.js";
 
 /** The buttons of the branches, the slider over the events, and what plays. */
 
@@ -10,6 +12,8 @@ export class Controls {
   constructor(viewer) {
     this.viewer = viewer;
     this.timer = null;
+    this.stop = new Roving(byId("branches"), "button");
+    new Roving(byId("transport"), "button").settle();
     byId("first").addEventListener("click", () => this.go(0));
     byId("back").addEventListener("click", () => this.go(viewer.place - 1));
     byId("forward").addEventListener("click", () => this.go(viewer.place + 1));
@@ -64,12 +68,11 @@ export class Controls {
 
   /** Shows where the viewer stands. */
   show() {
-    const { place, newest, moment, isNewest } = this.viewer;
+    const { place, newest, isNewest } = this.viewer;
     const slider = byId("slider");
     slider.max = String(newest);
     slider.value = String(place);
-    const event = moment ? `event ${place} of ${newest}: ${moment.event}: ${moment.outcome}` : "the opening";
-    slider.setAttribute("aria-valuetext", event);
+    slider.setAttribute("aria-valuetext", sentenceOf(this.viewer));
     byId("place").textContent = `${place} / ${newest}`;
     for (const id of ["first", "back"]) byId(id).setAttribute("aria-disabled", String(place === 0));
     for (const id of ["forward", "last"]) byId(id).setAttribute("aria-disabled", String(isNewest));
@@ -85,7 +88,9 @@ export class Controls {
     for (const button of byId("branches").querySelectorAll("button")) {
       const isShown = button.dataset.branch === branch.name;
       button.setAttribute("aria-pressed", String(isShown));
-      if (isShown) this.bring(button);
+      if (!isShown) continue;
+      this.bring(button);
+      this.stop.settle(button);
     }
   }
 
@@ -104,12 +109,12 @@ export class Controls {
       this.viewer.show(this.viewer.named(name), this.viewer.place);
     });
     const former = branches.filter((it) => it.former).map(button);
-    const group = make("span", { class: "group" }, ...branches.filter((it) => !it.former).map(button));
-    byId("branches").replaceChildren(group);
-    if (!former.length) return;
-    const label = make("span", { class: "label", id: "former" }, "earlier runs");
-    const aside = make("span", { class: "group", role: "group", "aria-labelledby": "former" }, label, ...former);
-    byId("branches").append(aside);
+    const groups = [make("span", { class: "group" }, ...branches.filter((it) => !it.former).map(button))];
+    if (former.length) {
+      const label = make("span", { class: "label", id: "former" }, "earlier runs");
+      groups.push(make("span", { class: "group", role: "group", "aria-labelledby": "former" }, label, ...former));
+    }
+    byId("branches").replaceChildren(make("div", { class: "all", role: "toolbar", "aria-label": "Branches" }, ...groups));
   }
 
   /** The link to this moment; of a live page it is for those who only watch. */
@@ -127,6 +132,7 @@ export class Controls {
     } catch {
       button.textContent = "Copy it from the address bar";
     }
+    say(button.textContent);
     clearTimeout(this.copied);
     this.copied = setTimeout(() => { button.textContent = this.copyLabel; }, 2000);
   }

@@ -54,8 +54,7 @@ function rowArea([first, last, top, bottom], width) {
 /** A sheet of the chart: first the grounds of its rows, then the rows themselves, then what is drawn. */
 export function drawnSheet(sheet, width) {
   const view = { viewBox: `0 0 ${width} ${sheet.height}`, preserveAspectRatio: "none" };
-  const events = sheet.rows.length ? `Events ${sheet.rows[0][0]} to ${sheet.rows.at(-1)[1]}` : "No events yet";
-  const svg = shape("svg", { class: "sheet", ...view, role: "img", "aria-label": events });
+  const svg = shape("svg", { class: "sheet", ...view, "aria-hidden": "true" });
   const elements = sheet.elements.filter(isShape);
   const grounds = elements.findIndex(([name]) => name !== "rect");
   const place = grounds < 0 ? elements.length : grounds;
@@ -89,7 +88,7 @@ function reach([name, attributes]) {
 /** A slice of a sheet from one height to another, for print, where a page must not end within a row. */
 export function drawnSlice(sheet, width, top, bottom) {
   const within = ([low, high]) => high > top && low < bottom;
-  const svg = shape("svg", { class: "slice", viewBox: `0 ${top} ${width} ${bottom - top}` });
+  const svg = shape("svg", { class: "slice", "aria-hidden": "true", viewBox: `0 ${top} ${width} ${bottom - top}` });
   svg.append(...sheet.elements.filter(isShape).filter((it) => within(reach(it))).map(drawn));
   return svg;
 }

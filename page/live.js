@@ -1,4 +1,5 @@
 import { Actions } from "./actions.js";
+import { say } from "./announcer.js";
 import { byId, counted, make, makeButton } from "./elements.js";
 import { Offers } from "./offers.js";
 import { PacketForm } from "./packets.js";
@@ -15,7 +16,7 @@ const LOST = "The connection is lost; trying again.";
 export class Live {
   constructor(viewer, controls) {
     const { may, version, people } = viewer.run.live;
-    Object.assign(this, { viewer, controls, may, version, wanted: null, hasEnded: false });
+    Object.assign(this, { viewer, controls, may, version, wanted: null, isLost: false, hasEnded: false });
     // Branches of which an event was taken out last; and what happened that the viewer has not seen, by branch.
     this.excised = new Set();
     this.missed = new Map();
@@ -58,11 +59,17 @@ export class Live {
   /** Listens to the laboratory, from the version on that is here. */
   connect() {
     const source = new EventSource(`events?after=${this.version}`);
-    source.addEventListener("open", () => this.showBanner(""));
+    source.addEventListener("open", () => {
+      this.showBanner("");
+      const wasLost = this.isLost;
+      this.isLost = false;
+      if (wasLost) this.offers.show(this.canStep);
+    });
     source.addEventListener("message", (message) => this.take(JSON.parse(message.data), source));
     source.addEventListener("error", () => {
       source.close();
       if (this.hasEnded) return;
+      this.isLost = true;
       this.showBanner(LOST);
       setTimeout(() => this.connect(), PAUSE);
     });
@@ -89,13 +96,15 @@ export class Live {
     if (word === "excise") this.excised.add(name);
     else if (["restore", "step", "drop"].includes(word)) this.excised.delete(name);
     const focused = document.activeElement;
+    const place = focused.closest("[data-place]")?.dataset.place;
     const { changes, gone } = layUpdate(this.viewer, update);
     const what = update.line ? `${update.line}: ${update.reply[0]}` : happened(changes, gone);
     if (changes.some((it) => !it.isFormer) || gone.length) byId("said").textContent = `${update.who}: ${what}`;
     for (const change of changes.filter((it) => !it.isFormer)) this.miss(change, update.who);
     this.follow(this.wanted);
     this.showMissed();
-    if (!focused.isConnected) byId("happened").focus();
+    // (the card of a state that has changed is another one)
+    if (!focused.isConnected) (this.offers.named(place)?.opener || byId("happened")).focus();
   }
 
   /** Notes what happened to a branch whose newest moment the viewer does not see. */
@@ -148,13 +157,14 @@ export class Live {
   /** Shows what can be done here. */
   show(isNewBranch) {
     const { branch } = this.viewer;
-    this.offers.show(this.canStep ? branch.offers ?? [] : []);
+    this.offers.show(this.canStep);
     this.actions.show(isNewBranch);
     for (const form of this.packets) form.show(this.canStep, branch.moments);
   }
 
   /** Shows a banner, or none. */
   showBanner(text) {
+    if (text !== this.banner.textContent) say(text);
     this.banner.textContent = text;
     this.banner.hidden = !text;
   }
@@ -166,7 +176,10 @@ export class Live {
     const notices = missed.filter(([name]) => !isSeen(name)).map(([name, it]) => this.notice(name, it));
     const text = notices.map((it) => it.textContent).join("\n");
     // (what is there already is not said again)
-    if (text !== this.news.dataset.text) this.news.replaceChildren(...notices);
+    if (text !== this.news.dataset.text) {
+      this.news.replaceChildren(...notices);
+      say(notices.map((it) => it.firstChild.textContent.trim()).join(". "));
+    }
     this.news.dataset.text = text;
   }
 
@@ -174,7 +187,7 @@ export class Live {
   notice(name, { isNew, added, taken, people }) {
     const changed = added ? `${counted(added, "event")} since` : `${counted(taken, "event")} undone`;
     const what = isNew ? "a new branch" : changed;
-    const button = makeButton("Go there", { "data-go": name }, () => {
+    const button = makeButton(`Go to ${name}`, { "data-go": name }, () => {
       this.controls.pause();
       this.follow(name);
     });

@@ -80,11 +80,13 @@ export class PacketForm {
     this.ends = make("div", { class: "fields" }, ...endFields());
     this.rest = make("div", { class: "fields" });
     const title = "The ends change places, and it goes the other way";
-    const answer = makeButton("Answer", { title }, () => this.fill(answered(this.read())));
-    const submit = make("button", { type: "submit", class: "main-button" }, "Send packet");
+    const answer = makeButton(`Answer at ${node}`, { title }, () => this.fill(answered(this.read())));
+    const submit = make("button", { type: "submit", class: "main-button" }, `Send packet to ${node}`);
     const buttons = make("div", { class: "buttons" }, submit, answer);
-    this.form = make("form", {}, this.ends, this.rest, this.line, buttons, this.place);
-    const summary = make("summary", {}, `A packet comes to ${node}`);
+    const comes = `A packet comes to ${node}`;
+    const group = { role: "group", "aria-label": comes };
+    this.form = make("form", group, this.ends, this.rest, this.line, buttons, this.place);
+    const summary = make("summary", {}, comes);
     this.element = make("details", { class: "packet-form" }, summary, this.form);
     this.form.addEventListener("input", () => this.change());
     this.form.addEventListener("submit", (event) => this.submit(event));

@@ -1,9 +1,13 @@
+import { say } from "./announcer.js";
 import { byId, make, worded } from "./elements.js";
 
 /** Lines that are sent to the laboratory with the name of who sends them, and its replies at their places. */
 
 /** Where the name is kept from one visit to the next. */
 const KEPT_NAME = "pfl-lab-name";
+
+/** Of how many places the offers are asked at once. */
+const MOST_PLACES = 120;
 
 /** The name that was kept; empty where nothing can be kept. */
 function keptName() {
@@ -33,9 +37,10 @@ function withoutPointers(why) {
 export function showReply(from, isDone, reply, why = []) {
   const place = from.isConnected ? from : document.querySelector("#actions .reply-place");
   clearReply(place);
-  const how = { class: `reply ${isDone ? "done" : "refused"}`, role: "status" };
-  const shown = make("div", how, make("p", {}, make("code", {}, reply)));
-  const reasons = withoutPointers(why).map((line) => make("li", {}, ...worded(line.trim())));
+  const shown = make("div", { class: `reply ${isDone ? "done" : "refused"}` }, make("p", {}, make("code", {}, reply)));
+  const lines = withoutPointers(why).map((line) => line.trim());
+  const reasons = lines.map((line) => make("li", {}, ...worded(line)));
+  say([reply, ...lines].join(". "));
   if (reasons.length) shown.append(make("ul", {}, ...reasons));
   place.append(shown);
 }
@@ -74,6 +79,17 @@ export class Sender {
     } finally {
       this.isBusy = false;
       document.documentElement.classList.remove("sending");
+    }
+  }
+
+  /** What is offered at some places of a branch, with the version for which that holds; nothing where no answer comes. */
+  async offers(branch, places) {
+    try {
+      const answer = await fetch(`offers?branch=${branch}&places=${places.slice(0, MOST_PLACES).join(",")}`);
+      return answer.ok ? await answer.json() : null;
+    } catch {
+      // (that the connection is lost is said already)
+      return null;
     }
   }
 

@@ -14,9 +14,9 @@ export function paragraphs(texts) {
 
 /** How the pair is set up. */
 export function setupOf(run) {
-  const region = { class: "setup", tabindex: "0", role: "region", "aria-label": "Setup" };
-  const lines = make("pre", region, run.setup.join("\n"));
-  return run.setup.length ? [make("h2", {}, "Setup"), lines] : [];
+  const group = { class: "setup", tabindex: "0", role: "group", "aria-label": "Setup" };
+  const lines = make("pre", group, run.setup.join("\n"));
+  return run.setup.length ? [make("h3", {}, "Setup"), lines] : [];
 }
 
 /** Shows the story of the moment where the viewer stands. */
@@ -80,7 +80,7 @@ export class Story {
 }
 
 /** After how many events two runs part. */
-function partingOf({ moments }, other) {
+export function partingOf({ moments }, other) {
   const at = moments.findIndex(({ event }, place) => event !== other.moments[place]?.event);
   return at < 0 ? moments.length : at;
 }

@@ -1,4 +1,5 @@
-import { arrange, byId, grouped, make } from "./elements.js";
+import { say } from "./announcer.js";
+import { arrange, byId, counted, grouped, make } from "./elements.js";
 import { SortedNames, inOrder } from "./names.js";
 import { stateCard } from "./states.js";
 
@@ -88,7 +89,7 @@ class Table {
     this.title = make("h3", {}, `Node ${node}`);
     this.clock = make("span", { class: "clock" });
     this.offers = make("div", { class: "offers-of-node", "data-place": node });
-    this.list = make("ul", { class: "states" });
+    this.list = make("ul", { class: "states", "aria-label": `States of node ${node}` });
     this.count = make("p", { class: "count" });
     const head = make("div", { class: "table-head" }, this.title, this.clock);
     byId("tables").querySelector(`[data-node="${node}"]`).append(head, this.offers, this.list, this.count);
@@ -133,7 +134,10 @@ export class Tables {
     this.tables = [new Table("a"), new Table("b")];
     this.renew();
     viewer.listen((move) => this.move(move));
-    byId("search").addEventListener("input", () => this.seek());
+    byId("search").addEventListener("input", () => {
+      this.seek();
+      if (byId("search").value.trim()) say(this.found);
+    });
   }
 
   /** Puts the states of another walk in order. */
@@ -157,6 +161,12 @@ export class Tables {
       for (const name of names) order.put(name, this.viewer.walk.facts, names.size < FEW);
     }
     this.show();
+  }
+
+  /** How many states were found, in words. */
+  get found() {
+    const [a, b] = this.orders.map((it) => it.size);
+    return `${counted(a, "state")} found at a, ${grouped(b)} at b`;
   }
 
   /** Looks for what is asked. */

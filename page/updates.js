@@ -13,7 +13,6 @@ function changedBranch(old, change) {
   const branch = old ?? { name: change.name, former: change.former ?? false, moments: [] };
   branch.moments = [...branch.moments.slice(0, change.keep), ...change.moments];
   branch.undone = change.undone;
-  branch.offers = change.offers;
   branch.chart = changedChart(branch.chart, change.chart);
   if (change.opening) branch.opening = change.opening;
   if (change.notes) branch.notes = change.notes;

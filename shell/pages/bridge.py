@@ -19,12 +19,12 @@ from .authors import Authors
 from .change import Data, Shown, change
 from .former import FormerRuns, Lost
 from .news import News
-from .offers import offers
+from .offers import Offer, offers
 from .packing import page
 from .record import Record
 from .runs import Run
 from .session import Branches
-from .typed import Typed
+from .typed import Typed, Wanted
 
 # How often to look whether something happened, and how long a browser waits for an answer, in seconds.
 PERIOD = 0.25
@@ -78,6 +78,8 @@ class Bridge:
         self._authors = Authors()
         # The branches as pages have them; and the newest page of each kind, with its version.
         self._shown: Dict[str, Shown] = {}
+        # What is offered where each branch stands, at the places that pages have asked about since its newest change.
+        self._offered: Dict[str, Dict[str, List[Offer]]] = {}
         self._pages: Dict[str, Tuple[int, bytes]] = {}
         self._worker = ThreadPoolExecutor(1, "bridge")
 
@@ -96,6 +98,10 @@ class Bridge:
     def do(self, typed: Typed) -> Data:
         """Gives the server a line; returns its reply, the reasons if there is something to say, and the version after it."""
         return self._awaited(self._do, typed)
+
+    def offers(self, wanted: Wanted) -> Data:
+        """What is offered at some places of a branch, and the version for which this holds."""
+        return self._awaited(self._offers, wanted)
 
     def page_for(self, may: str) -> bytes:
         """The page as of now, for someone who may do this."""
@@ -160,6 +166,17 @@ class Bridge:
             self._publish(typed.name, typed.line, reply)
         return {"reply": reply, "why": self._why(words, typed.line, reply[0]), "version": self.news.version}
 
+    def _offers(self, wanted: Wanted) -> Data:
+        found: List[Offer] = []
+        if wanted.branch in self._shown:
+            known = self._offered.setdefault(wanted.branch, {})
+            lacking = [it for it in wanted.places if it not in known]
+            branch = replace(self._shown[wanted.branch].branch, name=MAIN)
+            new = offers(self._records[wanted.branch].laboratory, branch, lacking) if lacking else []
+            known.update({place: [it for it in new if it.place == place] for place in lacking})
+            found = [offer for place in wanted.places for offer in known[place]]
+        return {"version": self.news.version, "offers": found}
+
     def _page(self, may: str) -> bytes:
         version, it = self._pages.get(may, (-1, b""))
         if version != self.news.version:
@@ -169,7 +186,7 @@ class Bridge:
 
     def _all(self, may: str) -> Data:
         live = {"may": may, "watch": self._watching, "version": self.news.version, "people": self.news.people}
-        branches = [dict(self._records[name].as_data(), offers=it.offers) for name, it in self._shown.items()]
+        branches = [self._records[name].as_data() for name in self._shown]
         return {**self._run.head, "branches": [*branches, *self._former.data], "live": live}
 
     def _publish(self, who: str, line: str, reply: Sequence[str]) -> None:
@@ -196,6 +213,8 @@ class Bridge:
         made = {it.name: self._changed(it, who) for it in now.values() if it.name not in before or it != before[it.name].branch}
         for name in before.keys() - now.keys():
             self._records.pop(name).close()
+        for name in {*made, *(before.keys() - now.keys())}:
+            self._offered.pop(name, None)
         self._shown = {name: made[name][0] if name in made else before[name] for name in now}
         return [its_change for _, its_change in made.values()]
 
@@ -220,7 +239,7 @@ class Bridge:
             record.mark(MOST_MARKED)
             for moment, who in zip(record.moments[keep:], names[keep:]):
                 moment.who = who
-            new = Shown(branch, names, offers(record.laboratory, replace(branch, name=MAIN)), record.chart_as_data())
+            new = Shown(branch, names, record.chart_as_data())
             its_change = change(old, new, record, keep)
         except Exception:
             record.close()

@@ -4,18 +4,16 @@ from __future__ import annotations
 from typing import Any, Dict, List, NamedTuple, Optional, Sequence
 
 from ..branches import Branch
-from .offers import Offer
 from .record import Record
 
 Data = Dict[str, Any]
 
 
 class Shown(NamedTuple):
-    """A branch as pages have it: who stepped each event, what is offered where it stands, and its chart."""
+    """A branch as pages have it: who stepped each event, and its chart."""
 
     branch: Branch
     names: Sequence[str]
-    offers: List[Offer]
     chart: Data
 
 
@@ -24,7 +22,7 @@ def change(old: Optional[Shown], new: Shown, record: Record, keep: int) -> Data:
     sheets = new.chart["sheets"]
     chart = {**new.chart, "count": len(sheets), "sheets": _sheets(old.chart["sheets"] if old else [], sheets)}
     its: Data = {"name": record.name, "keep": keep, "undone": record.undone, "moments": record.moments_as_data(keep)}
-    its.update(chart=chart, offers=new.offers)
+    its["chart"] = chart
     return its if old else {**its, "opening": record.opening, "notes": list(record.notes.get(0, ()))}
 
 

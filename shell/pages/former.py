@@ -34,7 +34,7 @@ class FormerRuns:
 
     def __init__(self, program: str, setup: Setup, records: Sequence[Record]) -> None:
         self._program, self._setup = program, setup
-        self._kept = [FormerRun([one.event for one in it.moments], dict(it.as_data(), offers=[])) for it in records]
+        self._kept = [FormerRun([one.event for one in it.moments], it.as_data()) for it in records]
         self._numbers = count(len(records) + 1)
 
     @property
@@ -60,6 +60,6 @@ class FormerRuns:
             record.sync(Branch(name, events, len(events)))
             for moment, who in zip(record.moments, lost.names):
                 moment.who = who
-            return dict(record.as_data(), offers=[])
+            return record.as_data()
         finally:
             record.close()

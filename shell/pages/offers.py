@@ -1,23 +1,26 @@
-"""What a click can step next where a branch stands: the events, each with what would come of it, or why it would be refused."""
+"""What a click can step next at a place of a page, where a branch stands: the events, each with what would come of it, or why it would be
+refused."""
 from __future__ import annotations
 
-from itertools import chain, islice
-from typing import Iterator, List, NamedTuple, Tuple
+import re
+from typing import List, NamedTuple, Sequence
 
 from ..branches import Branch
 from ..colours import PLAIN
-from ..explanations import Explanation
+from ..explanations import Explanation, read_explanation
 from ..histories import History
 from ..laboratory import Laboratory
+from ..language.commands import WHY
 from ..language.events import CLEAR, CUT, DELIVER, FLUSH, KILL, LOSE, PURGE, RELEASE, REPEAT, RESTART, RETRY, TURN
+from ..language.names import Name
 from ..pair import Pair
 from ..reasons.questions import Question
 from ..reasons.refusals import explain_refusal
 
 OF_NODE = (FLUSH, PURGE, TURN, RETRY, RELEASE, CLEAR, RESTART)
 OF_FRAME = (DELIVER, LOSE, REPEAT)
-# Only the first of the frames in flight, and of each node's states, are offered.
-MOST = 50
+# A place of a page: a node, a frame in flight by its ticket, or a state of a node.
+PLACE = re.compile(r"([ab])|frame/([0-9]{1,20})|([ab])/state/([0-9]{1,20}\.[0-9]{1,20})")
 
 
 class Offer(NamedTuple):
@@ -29,27 +32,31 @@ class Offer(NamedTuple):
     accepted: bool
 
 
-def offers(lab: Laboratory, branch: Branch) -> List[Offer]:
-    """The events that are offered where a branch of a laboratory stands."""
+def offers(lab: Laboratory, branch: Branch, places: Sequence[str]) -> List[Offer]:
+    """The events that are offered at some places where a branch of a laboratory stands, with all questions asked together. A place that
+    the pair does not have there offers none."""
+    assert lab.session
     history = History(lab, branch.name, branch.events[: branch.cursor])
     pair = history.pair(branch.cursor)
-    events = chain(_of_nodes(pair), _of_frames(pair), _of_states(pair))
-    return [_offer(history, place, lab.explanation(branch.name, event)) for place, event in events]
+    found = [(place, event) for place in places for event in _events(pair, place)]
+    answers = lab.session.ask_together([f"{WHY.word} {branch.name} {event}" for _, event in found])
+    return [_offer(history, place, read_explanation(answer)) for (place, _), answer in zip(found, answers)]
 
 
-def _of_nodes(pair: Pair) -> Iterator[Tuple[str, str]]:
-    return ((node, f"{it.word} {node}") for node in pair.nodes for it in OF_NODE)
-
-
-def _of_frames(pair: Pair) -> Iterator[Tuple[str, str]]:
-    for frame in islice(pair.frames.values(), MOST):
-        events = [f"{it.word} {frame.ticket}" for it in OF_FRAME] + [f"{CUT.word} {frame.ticket} {len(frame.data) // 2}"]
-        yield from ((f"frame/{frame.ticket}", it) for it in events)
-
-
-def _of_states(pair: Pair) -> Iterator[Tuple[str, str]]:
-    for node, it in pair.nodes.items():
-        yield from ((f"{node}/state/{name}", f"{KILL.word} {node} {name}") for name in islice(it.states, MOST))
+def _events(pair: Pair, place: str) -> List[str]:
+    """The events that can be clicked at a place of a pair."""
+    found = PLACE.fullmatch(place)
+    if not found:
+        return []
+    node, ticket, holder, name = found.groups()
+    if node:
+        return [f"{it.word} {node}" for it in OF_NODE]
+    if holder:
+        return [f"{KILL.word} {holder} {name}"] if Name.read(name) in pair.nodes[holder].states else []
+    frame = pair.frames.get(int(ticket))
+    if frame is None:
+        return []
+    return [*(f"{it.word} {frame.ticket}" for it in OF_FRAME), f"{CUT.word} {frame.ticket} {len(frame.data) // 2}"]
 
 
 def _offer(history: History, place: str, it: Explanation) -> Offer:

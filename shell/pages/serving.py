@@ -9,13 +9,13 @@ import socket
 import time
 from http import HTTPStatus
 from http.server import BaseHTTPRequestHandler
-from typing import Callable, Dict, List, Optional, Tuple, Union
+from typing import Callable, Dict, List, Optional, Tuple, TypeVar, Union
 
 from ..programs import Ended
 from .bridge import STEP, Overtaken
 from .door import Door, Within
 from .news import Stream
-from .typed import NotTaken, read_typed
+from .typed import NotTaken, read_typed, read_wanted
 
 # The seconds within which a request has to arrive, those within which each piece of what is sent has to be taken, and those between
 # signs of life.
@@ -36,7 +36,10 @@ HEADERS = {
 }
 # The page itself says in a <meta> which script and which style it has; only a header can say who may frame it.
 POLICY = "frame-ancestors 'none'; base-uri 'none'; form-action 'none'"
-METHODS = {"": "GET", "events": "GET", "do": "POST"}
+METHODS = {"": "GET", "events": "GET", "offers": "GET", "do": "POST"}
+
+A = TypeVar("A")
+T = TypeVar("T")
 _TARGET = re.compile(r"/([^/?]*)/([^/?]*)(?:\?(.*))?")
 
 
@@ -94,8 +97,12 @@ class Visit(BaseHTTPRequestHandler):
 
     def _get(self) -> None:
         may, path, query = self._target()
-        if path:
+        if path == "events":
             self._events(query)
+        elif path:
+            self._check_may_step(may)
+            wanted = self._read(read_wanted, query)
+            self._answer(HTTPStatus.OK, JSON, json.dumps(self.server.bridge.offers(wanted)))
         else:
             self._answer(HTTPStatus.OK, HTML, self.server.bridge.page_for(may))
 
@@ -104,15 +111,22 @@ class Visit(BaseHTTPRequestHandler):
         body = self._body()
         may, _, _ = self._target()
         self._check_sender()
-        if may != STEP:
-            raise Refused(HTTPStatus.FORBIDDEN, "this address is for watching, not for stepping")
-        try:
-            typed = read_typed(body)
-        except NotTaken as why:
-            raise Refused(HTTPStatus.BAD_REQUEST, str(why)) from why
+        self._check_may_step(may)
+        typed = self._read(read_typed, body)
         self._answer(HTTPStatus.OK, JSON, json.dumps(self.server.bridge.do(typed)))
 
     # ---- what a request must have
+
+    def _check_may_step(self, may: str) -> None:
+        if may != STEP:
+            raise Refused(HTTPStatus.FORBIDDEN, "this address is for watching, not for stepping")
+
+    def _read(self, reader: Callable[[A], T], text: A) -> T:
+        """What a text of the request says, or the answer that it is not taken."""
+        try:
+            return reader(text)
+        except NotTaken as why:
+            raise Refused(HTTPStatus.BAD_REQUEST, str(why)) from why
 
     def _target(self) -> Tuple[str, str, str]:
         """What the sender may do, the path after the token, and the query; the method must be that of the path."""

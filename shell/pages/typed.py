@@ -1,16 +1,22 @@
-"""What a browser sends: a line of the language with the name of its sender, taken from the body of a request, or refused."""
+"""What a browser sends: a line of the language with the name of its sender, taken from the body of a request, or the places of a page whose
+offers it wants, taken from a query; or refused."""
 from __future__ import annotations
 
 import json
-from typing import NamedTuple, Optional
+import re
+from typing import NamedTuple, Optional, Sequence
 
-from ..language.commands import BACK, CHANGING, DROP, EXCISE, FORWARD, RESTORE
+from .offers import PLACE
+from ..language.commands import BACK, CHANGING, DROP, EXCISE, FORK, FORWARD, RESTORE
 
 # The commands that mean something else after another change of their branch.
-COUNTING = tuple(it.word for it in (BACK, FORWARD, DROP, EXCISE, RESTORE))
+COUNTING = tuple(it.word for it in (BACK, FORWARD, FORK, DROP, EXCISE, RESTORE))
 LONGEST_LINE = 4096
 LONGEST_NAME = 40
 NOBODY = "somebody"
+# Of how many places the offers are asked at once.
+MOST_PLACES = 120
+_WANTED = re.compile(r"branch=([a-z][a-z0-9-]{0,15})&places=([a-z0-9/.,]{1,8192})")
 
 
 class NotTaken(ValueError):
@@ -29,6 +35,22 @@ class Typed(NamedTuple):
         """The branch whose events it takes by their number or their place; none for any other line."""
         words = self.line.split()
         return words[1] if words[0] in COUNTING and len(words) > 1 else ""
+
+
+class Wanted(NamedTuple):
+    """The places of a branch whose offers a page wants."""
+
+    branch: str
+    places: Sequence[str]
+
+
+def read_wanted(query: str) -> Wanted:
+    """The places in a query."""
+    found = _WANTED.fullmatch(query)
+    places = [*dict.fromkeys(found[2].split(","))] if found else []
+    if not found or len(places) > MOST_PLACES or not all(map(PLACE.fullmatch, places)):
+        raise NotTaken(f"offers?branch=NAME&places=PLACE,.. is wanted, with at most {MOST_PLACES} places like a, frame/1 and b/state/1.1")
+    return Wanted(found[1], places)
 
 
 def read_typed(body: bytes) -> Typed:

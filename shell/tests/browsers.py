@@ -221,6 +221,11 @@ class Browser:
             actions += [{"type": "keyUp", "value": one} for one in reversed(pressed)]
         self._act({"type": "key", "id": "keys", "actions": actions})
 
+    def keys_at(self, css: str, *keys: str) -> None:
+        """Presses keys where an element has the focus."""
+        self.evaluate("arguments[0].focus()", self.find(css))
+        self.keys(*keys)
+
     def type(self, css: str, text: str) -> None:
         """Writes a text into a field in the place of what is in it."""
         field = self.find(css)[ELEMENT]

@@ -64,7 +64,7 @@ class Sight(PageCase):
         self.long("#main/150")
         self.assertTrue(self.browser.evaluate(IN_SIGHT))
         for key in ("End", "Home", "PageDown", "PageDown", "ArrowRight"):
-            self.browser.keys(key)
+            self.browser.keys_at("#slider", key)
             if key != "Home":
                 self.browser.wait_until(IN_SIGHT, 2)
 

@@ -15,11 +15,11 @@ from http.server import BaseHTTPRequestHandler, ThreadingHTTPServer
 from typing import Any, List
 
 from . import TOP, page_cases, program
+from .access_rules import CONTROLS, controls_have_names, tree
 from .browsers import FLAT, Browser
 from .page_cases import PLACE, QUERY, RULES, desk_folder
-from .page_probes import FAINT_TEXTS, FOCUSED, PIECES, REACHABLE, SEES_FOCUS
+from .page_probes import FAINT_TEXTS, FOCUSED, LISTEN, PIECES, REACHABLE, SEES_FOCUS
 from .test_page_looks import OVERFLOW, clashes
-from .test_page_reach import CONTROLS, heard, nameless
 
 SCRIPT = f"# A pair to play with\n{RULES}step main {QUERY}\nstep main flush a\n"
 HOSTILE = '<img src=x onerror="window.hit=1">'
@@ -92,7 +92,7 @@ class Live(unittest.TestCase):
             it.size(1440)
             it.open(self.served.steps)
             it.evaluate("document.querySelector('#name').value = arguments[0]", name)
-            it.keys("End")
+            it.keys_at("#slider", "End")
 
     def tearDown(self) -> None:
         for it in (ann, bob):
@@ -108,7 +108,12 @@ class Live(unittest.TestCase):
         self.at(browser, place.partition("/")[2] + " / " + browser.text("#place").partition(" / ")[2])
 
     def click(self, browser: Browser, event: str) -> None:
+        self.offered(browser, event)
         browser.click(f"button[data-event='{event}']")
+
+    def offered(self, browser: Browser, event: str) -> None:
+        """Waits until an event is offered: what is offered is asked after each step."""
+        browser.wait_until("document.querySelector(`button[data-event='${arguments[0]}']`)", 3, event)
 
 
 class Steps(Live):
@@ -127,6 +132,7 @@ class Steps(Live):
         bob.wait_until("/2 people/.test(document.querySelector('#people').textContent)", 3)
 
     def test_a_frame_is_lost_by_its_button(self) -> None:
+        self.offered(ann, "lose 1")
         self.assertEqual(ann.count("#frames [data-frame='1'] button[data-event]"), 4)
         ann.click("#frames [data-frame='1'] button[data-event='lose 1']")
         self.at(bob, "3 / 3")
@@ -140,10 +146,31 @@ class Steps(Live):
         self.assertRegex(ann.evaluate(SAID), "^Ann: step main purge b")
 
     def test_a_step_while_it_plays_or_by_keys_is_one_step(self) -> None:
+        self.offered(ann, "deliver 1")
         ann.evaluate("document.querySelector(\"button[data-event='deliver 1']\").focus()")
         ann.keys("Enter")
         self.at(bob, "3 / 3")
         self.at(ann, "3 / 3")
+
+    def test_a_card_is_asked_about_when_it_is_opened(self) -> None:
+        opener = "#tables [data-node=a] [data-state='1.1'] .opener"
+        self.offered(ann, "deliver 1")
+        self.assertEqual((ann.attribute(opener, "aria-expanded"), ann.count("[data-event^=kill]")), ("false", 0))
+        ann.click(opener)
+        self.click(ann, "kill a 1.1")
+        self.at(bob, "3 / 3")
+        self.assertEqual(bob.text("#event"), "kill a 1.1")
+
+    def test_a_card_that_was_closed_or_opened_stays_so(self) -> None:
+        of_state, of_frame = "#tables [data-node=a] [data-state='1.1'] .opener", "#frames [data-frame='1'] .opener"
+        self.offered(ann, "deliver 1")
+        ann.click(of_state)
+        ann.click(of_frame)
+        self.assertEqual((ann.attribute(of_frame, "aria-expanded"), ann.count("[data-event='deliver 1']")), ("false", 0))
+        self.served.say("step main tick a 1")
+        self.at(ann, "3 / 3")
+        self.offered(ann, "kill a 1.1")
+        self.assertEqual((ann.attribute(of_frame, "aria-expanded"), ann.count("[data-event='deliver 1']")), ("false", 0))
 
     def test_undo_and_redo(self) -> None:
         ann.click("#undo")
@@ -165,8 +192,29 @@ class Steps(Live):
         ann.wait_until("document.querySelector('#tables [data-node=a] .reply.refused')", 3)
         self.assertEqual(bob.text("#place"), "3 / 3")
 
+    def test_each_hears_of_a_step_once(self) -> None:
+        self.go(ann, "main/1")
+        for it in (ann, bob):
+            it.evaluate(f"{LISTEN} || document.activeElement.blur()")
+        self.click(bob, "deliver 1")
+        self.at(ann, "1 / 3")
+        for it, said in ((ann, "main: 1 event since, by Bob"), (bob, "event 3 of 3: deliver 1: taken 1, by Bob")):
+            it.wait_until("window.said.length", 3)
+            self.assertEqual(it.evaluate("window.said"), [said])
+        self.click(bob, "retry a")
+        bob.wait_until("window.said.length === 2", 3)
+        self.assertRegex(bob.evaluate("window.said")[1], "^retry a. .*waits for no bulk update")
+
+    def test_the_focus_stays_in_the_list_of_events_when_others_step(self) -> None:
+        bob.evaluate("document.querySelector(\"#events [data-place-of='1']\").focus()")
+        self.click(ann, "deliver 1")
+        self.at(bob, "3 / 3")
+        self.assertEqual(bob.evaluate("document.activeElement.dataset.placeOf"), "1")
+        self.assertEqual(bob.evaluate("document.querySelector('#events [aria-current]').dataset.placeOf"), "3")
+
     def test_a_refused_offer_says_why(self) -> None:
         button = "button[data-event='retry a']"
+        self.offered(ann, "retry a")
         self.assertEqual(ann.attribute(button, "aria-disabled"), "true")
         self.assertIn("waits for no bulk update", ann.attribute(button, "title") or "")
         ann.click(button)
@@ -180,7 +228,7 @@ class Steps(Live):
         self.assertTrue(bob.evaluate(SAID).startswith(f"{HOSTILE}: "))
         self.assertEqual((bob.text("#who"), bob.count("img")), (f"by {HOSTILE}", 0))
         bob.reload()
-        bob.keys("End")
+        bob.keys_at("#slider", "End")
         self.at(bob, "3 / 3")
         self.assertEqual((bob.text("#who"), bob.count("img")), (f"by {HOSTILE}", 0))
 
@@ -198,7 +246,7 @@ class Branches(Live):
         self.assertEqual((bob.text("#place"), bob.attribute("#branches button[aria-pressed=true]", "data-branch")), ("2 / 2", "main"))
         self.click(ann, "purge b")
         bob.click("#branches button[data-branch=other]")
-        bob.keys("End")
+        bob.keys_at("#slider", "End")
         self.at(bob, "2 / 2")
         self.assertEqual(bob.text("#event"), "purge b")
 
@@ -215,9 +263,9 @@ class Branches(Live):
         self.at(bob, "0 / 0")
         bob.wait_until("!document.querySelector('#restore').hidden", 3)
         bob.click("#restore")
-        bob.keys("End")
+        bob.keys_at("#slider", "End")
         self.at(bob, "2 / 2")
-        ann.keys("End")
+        ann.keys_at("#slider", "End")
         self.at(ann, "2 / 2")
 
 
@@ -234,7 +282,7 @@ class Watching(Live):
 
     def test_who_may_watch_alone_has_nothing_to_step_with(self) -> None:
         bob.open(self.served.watches)
-        bob.keys("End")
+        bob.keys_at("#slider", "End")
         self.at(bob, "2 / 2")
         doing = "[data-event], #undo, #redo, #fork, #excise, #name, details.packet-form"
         shown = f"Array.from(document.querySelectorAll('{doing}')).filter(it => it.offsetParent).length"
@@ -309,8 +357,8 @@ class Looks(Live):
 
     def test_each_control_has_a_name(self) -> None:
         self.prepare()
-        self.assertGreater(sum(it["role"] in CONTROLS for it in heard(ann)), 40)
-        self.assertEqual(nameless(ann), [])
+        self.assertGreater(sum(it.role in CONTROLS for it in tree(ann)), 40)
+        self.assertEqual(controls_have_names(ann), [])
 
     def test_the_key_tab_reaches_everything(self) -> None:
         self.prepare()
@@ -327,7 +375,7 @@ class Looks(Live):
         """Has all of it be there: forms, offers, what was said and a reason why not."""
         ann.click("#tables [data-node=a] details.packet-form summary")
         ann.click("#fork")
-        ann.click("button[data-event='retry a']")
+        self.click(ann, "retry a")
         self.go(bob, "main/1")
         self.click(ann, "deliver 1")
         self.at(ann, "3 / 3")
@@ -375,10 +423,11 @@ class Ends(Live):
             found = it.errors()
             self.assertLessEqual(len(found), 3)
             self.assertEqual([one for one in found if "ERR_CONNECTION_REFUSED" not in one], [])
-            it.keys("Home", "ArrowRight")
+            it.keys_at("#slider", "Home", "ArrowRight")
             self.at(it, "1 / 2")
         self.go(ann, "main/2")
-        self.click(ann, "deliver 1")
+        self.assertEqual(ann.count("button[data-event]"), 0)
+        ann.click("#undo")
         ann.wait_until("/cannot be reached/.test(document.body.innerText)", 3)
         for it in (ann, bob):
             it.open("about:blank")

@@ -2,6 +2,7 @@
 and it prints."""
 from __future__ import annotations
 
+import base64
 import re
 import shutil
 import subprocess
@@ -128,7 +129,7 @@ class Motion(PageCase):
         # (a dot comes or goes at once)
         self.assertLessEqual(self.browser.evaluate(self.MOVED), 1)
         for key in ("ArrowRight", "ArrowLeft", "End", "Home", "]"):
-            self.browser.keys(key)
+            self.browser.keys_at("#slider", key)
             self.assertEqual(self.browser.evaluate(self.RUNNING), 0)
 
 
@@ -146,6 +147,42 @@ class Paper(PageCase):
         text = " ".join(subprocess.run(("pdftotext", path, "-"), capture_output=True, text=True, check=True).stdout.split())
         for words in ("A query and its answer", "The second paragraph of what stands before the setup.", "What if the frame is lost?"):
             self.assertIn(words, text)
+
+    def pages(self, height: float = 11) -> List[str]:
+        """The text of each page as it is laid out, on paper of this height in inches."""
+        if not shutil.which("pdftotext"):
+            self.skipTest("there is no pdftotext on the path: apt-get install poppler-utils")
+        path = f"{desk_folder()}/paper.pdf"
+        with open(path, "wb") as it:
+            it.write(base64.b64decode(self.browser.cdp("Page.printToPDF", printBackground=False, paperHeight=height)["data"]))
+        return subprocess.run(("pdftotext", "-layout", path, "-"), capture_output=True, text=True, check=True).stdout.split("\f")[:-1]
+
+    def test_prints_all_branches_and_each_event_once(self) -> None:
+        self.open(RUN, "#later/2")
+        text = " ".join(" ".join(self.pages()).split())
+        heads = ("main: 4 events", "later: 4 events", "main~1 (an earlier run): 5 events")
+        stories = ("The story of main", "The story of later", "The story of main~1")
+        self.assertEqual([it for it in (*heads, *stories) if it not in text], [])
+        for words in ("The first 2 events are those of main.", "The first 3 events are those of", "The pair after event 2 of later"):
+            self.assertIn(words, text)
+        told = re.findall(r"(?<=\s)(\d) (packet|flush|deliver|lose|tick) [ab1]", text.partition("The story of main")[2])
+        of_main = [("1", "packet"), ("2", "flush"), ("3", "deliver"), ("4", "tick")]
+        self.assertEqual(told, [*of_main, ("3", "lose"), ("4", "tick"), ("4", "packet"), ("5", "flush")])
+        # (what stands before the setup is told once, and so is each paragraph of events that branches share)
+        for words in ("The second paragraph of what stands before the setup.", "The query leaves through a.", "What if the frame is lost?"):
+            self.assertEqual(text.count(words), 1, words)
+
+    def test_no_heading_is_the_last_thing_on_a_page(self) -> None:
+        parts = r"Node [ab]|clock .*|Counters|Numbers|In flight|Waits to be sent|Changed by this event|at [ab]|Setup|node [ab], boot \d"
+        heading = re.compile(rf"{parts}|The story of \S+|\S+( \(an earlier run\))?: \d+ events|The pair .*|[≠=] a and b .*")
+        for height in (8, 9.2, 10, 11, 11.7, 13):
+            self.open(example("lost-bulk-frame"), "#main/21")
+            pages = self.pages(height)
+            self.assertGreater(len(pages), 4)
+            for number, page in enumerate(pages[:-1], 1):
+                with self.subTest(height=height, page=number):
+                    last = re.split(r"\s{2,}", page.strip().splitlines()[-1].strip())
+                    self.assertFalse(all(heading.fullmatch(it) for it in last), last)
 
     def test_prints_in_the_dark_too(self) -> None:
         self.browser.dark()

@@ -162,12 +162,12 @@ class Crowd(PageCase):
         for node in "ab":
             self.assertEqual(self.cards(node), [f"1.{it}" for it in range(1, 51)])
             self.assertIn("60,000", self.browser.text(f"#tables [data-node={node}]"))
-        self.browser.keys("End")
+        self.browser.keys_at("#slider", "End")
         self.at(STEPS + 1)
         self.assertEqual((self.cards("a"), len(self.cards("b"))), ([], 50))
 
     def test_search_finds_by_name_and_by_address(self) -> None:
-        self.browser.keys(*["ArrowRight"] * 7)
+        self.browser.keys_at("#slider", *["ArrowRight"] * 7)
         self.at(7)
         for sought, number in (("1.59999", 59999), (f"{address(43210)}:", 43210), (f"multiple {address(7)}:", 7)):
             self.assertLess(self.browser.evaluate(SEEK, sought), 2000 * SLOWNESS)

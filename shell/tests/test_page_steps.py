@@ -46,7 +46,7 @@ class Opens(PageCase):
             with self.subTest(it):
                 self.open_file(it)
                 self.assertEqual(self.place()[0], 0)
-                self.browser.keys("End")
+                self.browser.keys_at("#slider", "End")
                 self.browser.wait_until(f"new Set({page_cases.PLACE}.split(' / ')).size === 1")
                 self.assertEqual(self.browser.errors(), [])
 
@@ -65,7 +65,7 @@ class Opens(PageCase):
                 moment, all_of = self.place()
                 self.assertTrue(0 <= moment <= all_of, (moment, all_of))
                 self.assertIn(self.pressed(), BRANCHES)
-                self.browser.keys("Home", "ArrowRight")
+                self.browser.keys_at("#slider", "Home", "ArrowRight")
                 self.at(1)
                 self.assertEqual(self.browser.errors(), [])
 
@@ -88,7 +88,7 @@ class Moves(PageCase):
     def test_the_ends_hold(self) -> None:
         self.open(RUN, "#main/4")
         for keys, moment in ((("ArrowRight", "ArrowRight"), 4), (("Home", "ArrowLeft"), 0), (("PageUp",), 0), (("End", "PageDown"), 4)):
-            self.browser.keys(*keys)
+            self.browser.keys_at("#slider", *keys)
             self.at(moment)
 
     def test_the_slider_by_the_mouse(self) -> None:
@@ -100,27 +100,56 @@ class Moves(PageCase):
             self.assertAlmostEqual(self.place()[0], end * last, delta=1.01 if 0 < end < 1 else 0)
         self.assertEqual(self.browser.evaluate(HASH), f"#main/{self.place()[0]}")
 
-    def test_keys_from_anywhere(self) -> None:
+    def test_the_slider_and_the_chart_take_keys_where_they_have_the_focus(self) -> None:
         self.open(RUN, "#main/2")
-        for focused in ("body", "#slider", "#forward", "#play", "#branches button"):
+        both = (("ArrowRight", 3), ("ArrowLeft", 2), ("End", 4), ("Home", 0), ("ArrowRight", 1), ("PageDown", 4), ("PageUp", 0))
+        upwards = {"#slider": (("ArrowUp", 1), ("ArrowDown", 0)), "#chart": (("ArrowDown", 1), ("ArrowUp", 0))}
+        for focused, more in upwards.items():
             self.go("main", 2)
-            self.browser.evaluate("document.activeElement.blur()")
-            self.browser.evaluate("document.querySelector(arguments[0]).focus()", focused)
-            for key, moment in (("ArrowRight", 3), ("ArrowLeft", 2), ("End", 4), ("Home", 0), ("ArrowRight", 1)):
-                self.browser.keys(key)
+            for key, moment in (*both, *more):
+                self.browser.keys_at(focused, key)
                 self.at(moment)
                 self.assertEqual(self.place()[0], moment, (focused, key))
 
+    def test_elsewhere_keys_scroll_as_on_any_page(self) -> None:
+        self.browser.size(1300, 500)
+        self.open(page_cases.example("lost-bulk-frame"), "#main/3")
+        down = (("ArrowDown", 0, "scrollY > 10"), ("PageDown", 0, "scrollY > 100"), ("End", 0, "scrollY > 400"), (" ", 0, "scrollY > 100"))
+        up = (("ArrowUp", 600, "scrollY < 590"), ("PageUp", 600, "scrollY < 500"), ("Home", 600, "scrollY < 100"))
+        for focused in ("", "#copy"):
+            self.browser.evaluate("document.activeElement.blur()")
+            if focused:
+                self.browser.evaluate("document.querySelector(arguments[0]).focus()", focused)
+            for key, start, where in (*down, *up):
+                if key != " " or not focused:
+                    self.browser.evaluate("scrollTo(0, arguments[0])", start)
+                    self.browser.keys(key)
+                    self.browser.wait_until(where)
+                    # (a page scrolls on for a while)
+                    self.browser.evaluate("new Promise(done => setTimeout(done, 300))")
+            self.browser.keys("ArrowRight", "ArrowLeft", "ArrowLeft")
+            self.assertEqual(self.place()[0], 3)
+            self.assertEqual(self.browser.attribute("#play", "aria-pressed"), "false")
+
+    def test_a_chart_that_is_wider_than_its_box_is_moved_by_arrows(self) -> None:
+        self.browser.size(320)
+        self.open(page_cases.example("lost-bulk-frame"), "#main/0")
+        self.browser.keys_at("#chart", *["ArrowRight"] * 3)
+        self.browser.wait_until("document.querySelector('#chart').scrollLeft > 20")
+        self.assertEqual(self.place()[0], 0)
+        self.browser.keys_at("#chart", "ArrowDown")
+        self.at(1)
+
     def test_long_strides(self) -> None:
         self.open(page_cases.example("lost-bulk-frame"), "#main/0")
-        self.browser.keys("PageDown")
+        self.browser.keys_at("#slider", "PageDown")
         self.browser.wait_until(f"parseInt({page_cases.PLACE}) > 1")
         stride = self.place()[0]
-        self.browser.keys("PageDown")
+        self.browser.keys_at("#slider", "PageDown")
         self.at(2 * stride)
-        self.browser.keys("PageUp")
+        self.browser.keys_at("#slider", "PageUp")
         self.at(stride)
-        self.browser.keys("PageUp")
+        self.browser.keys_at("#slider", "PageUp")
         self.at(0)
 
     def test_keys_for_branches(self) -> None:
@@ -150,15 +179,39 @@ class Moves(PageCase):
         self.browser.keys("ArrowLeft", "Escape")
         self.browser.wait_until("!/page ?up/i.test(document.body.innerText)")
         self.assertEqual(self.place()[0], 1)
-        self.browser.keys("ArrowRight")
+        self.browser.keys_at("#slider", "ArrowRight")
         self.at(2)
+
+    def test_single_key_shortcuts_can_be_turned_off_until_the_page_is_closed(self) -> None:
+        self.open(RUN, "#main/1")
+        self.browser.keys("?")
+        self.browser.wait_until("document.querySelector('#keys').open")
+        self.browser.click("#shortcuts")
+        self.browser.keys("Escape")
+        for _ in range(2):
+            self.browser.evaluate("document.activeElement.blur()")
+            self.browser.keys("]", "[", "?", "/", "k")
+            self.assertEqual(self.browser.evaluate(HASH), "#main/1")
+            self.assertFalse(self.browser.evaluate("document.querySelector('#keys').open"))
+            self.assertNotEqual(self.browser.evaluate(FOCUS), "search")
+            self.browser.reload()
+            self.at(1)
+        # (what is off is said where they are listed, and the other keys are as they were)
+        self.browser.keys_at("#slider", "ArrowRight")
+        self.at(2)
+        self.browser.click("#help")
+        self.assertFalse(self.browser.evaluate("document.querySelector('#shortcuts').checked"))
+        self.browser.click("#shortcuts")
+        self.browser.keys("Escape", "]")
+        self.browser.wait_until("location.hash.startsWith('#later/')")
 
     def test_keys_of_the_browser_itself_are_left_alone(self) -> None:
         self.open(RUN, "#main/1")
         for held in ("ctrlKey", "altKey", "metaKey"):
             for key in ("ArrowRight", "ArrowLeft", "]", " ", "Home"):
                 event = "new KeyboardEvent('keydown', {key: arguments[0], [arguments[1]]: true, bubbles: true, cancelable: true})"
-                self.assertTrue(self.browser.evaluate(f"document.dispatchEvent({event})", key, held), (held, key))
+                for place in ("document", "document.querySelector('#slider')", "document.querySelector('#chart')"):
+                    self.assertTrue(self.browser.evaluate(f"{place}.dispatchEvent({event})", key, held), (held, key, place))
         self.assertEqual(self.place()[0], 1)
 
 
@@ -176,10 +229,10 @@ class Plays(PageCase):
 
     def test_space_plays_and_pauses(self) -> None:
         self.open(page_cases.example("lost-bulk-frame"), "#main/0")
-        self.browser.keys(" ")
+        self.browser.keys_at("#slider", " ")
         self.assertTrue(self.plays())
         self.browser.wait_until(f"parseInt({page_cases.PLACE}) > 0", 15)
-        self.browser.keys(" ")
+        self.browser.keys_at("#slider", " ")
         self.assertFalse(self.plays())
         paused = self.place()[0]
         with self.assertRaises(AssertionError):
@@ -189,15 +242,14 @@ class Plays(PageCase):
     def test_any_step_pauses(self) -> None:
         self.open(page_cases.example("lost-bulk-frame"), "#main/3")
         for key in ("ArrowRight", "Home", "PageDown", "]"):
-            self.browser.keys(" ")
+            self.browser.keys_at("#slider", " ")
             self.assertTrue(self.plays())
-            self.browser.keys(key)
+            self.browser.keys_at("#slider", key)
             self.assertFalse(self.plays(), key)
 
     def test_space_on_a_button_presses_it_once(self) -> None:
         self.open(RUN, "#main/1")
-        self.browser.evaluate("document.querySelector('#forward').focus()")
-        self.browser.keys(" ")
+        self.browser.keys_at("#forward", " ")
         self.at(2)
         self.assertFalse(self.plays())
 
@@ -205,7 +257,7 @@ class Plays(PageCase):
 class Addresses(PageCase):
     def test_the_address_follows(self) -> None:
         self.open(RUN, "#main/0")
-        self.browser.keys("ArrowRight", "ArrowRight")
+        self.browser.keys_at("#slider", "ArrowRight", "ArrowRight")
         self.browser.wait_until(f"{HASH} === '#main/2'")
         self.browser.click("#branches button[data-branch='main~1']")
         self.browser.wait_until("/^#main(~|%7E)1\\/\\d+$/.test(location.hash)")
@@ -217,14 +269,14 @@ class Addresses(PageCase):
         self.go("main", 1)
         for wrong in ("#nobody/7", "#main/999", "#main/-1", "#%", "#%E0%A4%A/1", ""):
             self.browser.evaluate("location.hash = arguments[0]", wrong)
-            self.browser.keys("Home", "ArrowRight")
+            self.browser.keys_at("#slider", "Home", "ArrowRight")
             self.at(1)
             self.assertEqual(self.browser.errors(), [], wrong)
 
     def test_the_back_button_leaves_no_trap(self) -> None:
         self.open(RUN, "#main/0")
         before = self.browser.evaluate("history.length")
-        self.browser.keys(*["ArrowRight"] * 4, *["ArrowLeft"] * 4, "End")
+        self.browser.keys_at("#slider", *["ArrowRight"] * 4, *["ArrowLeft"] * 4, "End")
         self.at(4)
         self.assertLessEqual(self.browser.evaluate("history.length") - before, 1)
 
@@ -244,7 +296,7 @@ class Addresses(PageCase):
 
     def test_a_reload_stays_where_it_was(self) -> None:
         self.open(RUN, "#later/1")
-        self.browser.keys("ArrowRight")
+        self.browser.keys_at("#slider", "ArrowRight")
         self.at(2)
         self.browser.reload()
         self.at(2)

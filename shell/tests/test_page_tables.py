@@ -252,11 +252,11 @@ class Unknown(PageCase):
         self.open_file(path, "#main/1")
         self.assertEqual(self.browser.text("#as-of"), "")
         for moment in (2, 3):
-            self.browser.keys("ArrowRight")
+            self.browser.keys_at("#slider", "ArrowRight")
             self.at(moment)
             self.assertIn("Tables as after event 1", self.browser.text("#as-of"))
             self.assertEqual(list(self.browser.evaluate(SHOWN)["a"]), ["1.1"])
-        self.browser.keys("ArrowRight")
+        self.browser.keys_at("#slider", "ArrowRight")
         self.at(4)
         self.assertEqual(self.browser.text("#as-of"), "")
 
