@@ -14,13 +14,16 @@ EXAMPLES = "share/pfl_lab/examples"
 DISSECTOR = "share/pfl_lab/wireshark/pfsync.lua"
 START = "import sys\n\nfrom shell.installed import main\n\nsys.exit(main())\n"
 RUNNABLE, READABLE = 0o755, 0o644
-_OF_SHELL = ("shell", "verify", "annotate", "chart", "page", "frames", "whatif", "depends", "compare", "import")
+# The scripts among the examples and what stands beside them; captures and a pf.conf are installed as they are.
+_WRITTEN, _FOUND = (".pfl", ".md", ".svg", ".html"), (".pcap", ".conf")
+_OF_SHELL = ("shell", "verify", "annotate", "chart", "page", "frames", "whatif", "depends", "compare", "capture", "import")
 # The commands of a checkout, as the examples have them, and what replaces them if there is no checkout.
 INSTALLED_WORDS = (
     *((f"./lab {word}", f"pfl_lab {word}") for word in ("run", "check", "serve")),
     *((f"./lab {word}", f"pfl_shell {word}") for word in _OF_SHELL),
     ("[docs/FORMATS.md](../docs/FORMATS.md)", "pfl_lab(1)"),
     ("[page](../docs/PAGE.md)", "page"),
+    ("[docs/FIELD.md](../docs/FIELD.md#captures-of-a-night)", "pfl_shell(1)"),
     ("[docs/KERNEL.md](../docs/KERNEL.md)", "`help kernel` of pfl_shell"),
     *((f"[`{word}`](../docs/REAL.md#{word})", f"`{word}`") for word in SWITCHES),
     ("docs/KERNEL.md", "`help kernel` of pfl_shell"),
@@ -56,10 +59,11 @@ def completions() -> Iterator[File]:
 
 
 def examples() -> Iterator[File]:
-    """The examples with their pictures, pages and descriptions, in the words of the installed commands."""
+    """The examples with their pictures, pages and descriptions, in the words of the installed commands, and the files of firewalls."""
     for path in sorted((TOP / "examples").iterdir()):
-        if path.suffix in (".pfl", ".md", ".svg", ".html"):
-            text = path.read_text(encoding="utf-8")
+        content = path.read_bytes()
+        if path.suffix in _WRITTEN:
             for old, new in INSTALLED_WORDS:
-                text = text.replace(old, new)
-            yield File(f"{EXAMPLES}/{path.name}", READABLE, text.encode())
+                content = content.replace(old.encode(), new.encode())
+        if path.suffix in (*_WRITTEN, *_FOUND):
+            yield File(f"{EXAMPLES}/{path.name}", READABLE, content)

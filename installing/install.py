@@ -169,7 +169,7 @@ def report(prefix: str, wanted: Sequence[File]) -> List[str]:
     lines = [
         f"installed in {prefix}:",
         "  bin/pfl_lab               the program, which is proved",
-        "  bin/pfl_shell             the shell, with verify, annotate, chart, page, frames, whatif, depends, compare and import",
+        "  bin/pfl_shell             the shell, with verify, annotate, chart, page, frames, whatif, depends, compare, capture and import",
         f"  share/man/man1            {' and '.join(f'{it}(1)' for it in COMMANDS)}",
         f"  {EXAMPLES}    {scripts} scripts, and a page about them",
         "  share/bash-completion, share/zsh/site-functions",

@@ -5,14 +5,20 @@ import argparse
 import ipaddress
 import os
 import re
-from typing import Callable, List, Optional, Tuple
+from itertools import takewhile
+from typing import Callable, List, Optional, Sequence, Tuple
 
+from .captures.asked import CaptureOptions, add_options as add_capture
 from .captures.run_options import add_options as add_frames
 from .charts.windows import read_flow, read_place
 from .depends.asked import add_options as add_depends
+from .dumps.asked import OUT, About
+from .dumps.asked import add_options as add_compare
 from .dumps.comparing import Tolerance
 from .importing.about import ENDS, Wanted
 from .importing.firewall import Own
+from .inferring.asked import SCRIPT, ScriptOptions
+from .inferring.asked import add_options as add_script
 from .laboratory import Unknown
 from .language.names import Name
 from .outputs import print_help
@@ -21,7 +27,7 @@ from .shell import STRICT_STATUS
 from .whatif.asked import Options, add_options
 
 
-class Words(Options):
+class Words(Options, CaptureOptions, ScriptOptions):
     """The parsed command line. Only the attributes of its own word are set."""
 
     name: str
@@ -46,6 +52,8 @@ class Words(Options):
     stats: List[str]
     apart: Optional[int]
     all: bool
+    rules: Optional[str]
+    of_flow: Optional[About]
     conf: str
     on: str
     address: Optional[List[Tuple[str, Own]]]
@@ -60,8 +68,17 @@ class Words(Options):
     pfsync: bool
 
 
-# The words that run no program, besides those that ask for help.
-WITHOUT_PROGRAM = ("compare", "import")
+# The words that run no program, besides those that ask for help; each with its option that does run it, if there is one, which is not
+# to be abbreviated.
+WITHOUT_PROGRAM = {"compare": OUT, "capture": SCRIPT, "import": ""}
+
+
+def needs_program(words: Sequence[str]) -> bool:
+    """Whether the words of a command line run the program."""
+    option = WITHOUT_PROGRAM.get(words[0], words[0])
+    return not {"-h", "--help"} & {*words} and bool(option) and (
+        option == words[0] or any(it.partition("=")[0] == option for it in takewhile(lambda it: it != "--", words))
+    )
 
 
 class Parser(argparse.ArgumentParser):
@@ -126,9 +143,11 @@ def _further(add: Callable[..., argparse.ArgumentParser], name: str) -> None:
         add(
             "compare",
             help="compares the state tables of two firewalls, as pfctl printed them",
-            usage=f"{name} compare A B [--stats A B] [--apart S] [--all]",
+            usage=f"{name} compare A B [--stats A B] [--apart S] [--all] [--out PAIR.pfl [--rules SETUP.pfl] [--flow ADDRESS[:PORT]]]",
             description="Compares two files with the output of `pfctl -ss -vv` at the two firewalls of a pair: which states only one"
-            " has, and which differ, field by field. Status: 0 if they agree, 1 if they differ, 2 if a file could not be read.",
+            " has, and which differ, field by field. Status: 0 if they agree, 1 if they differ, 2 if a file could not be read, or the"
+            " script not be written.",
+            allow_abbrev=False,
         )
     )
     add_frames(
@@ -137,6 +156,18 @@ def _further(add: Callable[..., argparse.ArgumentParser], name: str) -> None:
             help="writes the frames of a script as captures, in the layout of FreeBSD's messages",
             description="Writes the frames of a script as two captures: what tcpdump(1) would have written at each node, had the frames"
             " been messages of FreeBSD 13.",
+        )
+    )
+    _capture(
+        add(
+            "capture",
+            help="reads captures of the sync interface: what the nodes of a pair sent one another, and what calls for a look",
+            usage=f"{name} capture A [B] [--a ADDRESS] [--flow ADDRESS[:PORT]] [--from TIME] [--to TIME] [--states] [--all]"
+            " [--script NIGHT.pfl [--rules PAIR.pfl] [--log-a PFLOG] [--log-b PFLOG] [--data-a PCAP] [--data-b PCAP]]",
+            description="Reads captures of the sync interface of a pair, pcap or pcapng of `tcpdump -s 0 -w FILE ip proto 240`, of one node"
+            " or of both: frames that are not in the other capture, requests, bulk updates and the like, and a timeline. Status: 0 if"
+            " nothing is found, 1 if something is, 2 if a file could not be read to its end, or the script not be written.",
+            allow_abbrev=False,
         )
     )
     _import(
@@ -204,6 +235,11 @@ def _whatif(words: argparse.ArgumentParser) -> None:
     add_options(words)
 
 
+def _capture(words: argparse.ArgumentParser) -> None:
+    add_capture(words)
+    add_script(words)
+
+
 def _depends(words: argparse.ArgumentParser) -> None:
     words.add_argument("files", nargs="+", metavar="SCRIPT")
     add_depends(words)
@@ -222,6 +258,7 @@ def _compare(words: argparse.ArgumentParser) -> None:
         f" {Tolerance().seconds} seconds",
     )
     words.add_argument("--all", action="store_true", help="lists every state, not only the first of those that have something in common")
+    add_compare(words)
 
 
 def tolerance(word: str) -> int:

@@ -2,12 +2,14 @@
 from __future__ import annotations
 
 import hashlib
+from functools import lru_cache
 from typing import List, Sequence
 
 from .language.setups import OPTIONS
 from .setups import Rule
 
 
+@lru_cache(1 << 12)
 def canonical_text(rule: Rule) -> str:
     """The canonical text of a rule that the program has taken. Its words are already in order."""
     canonical: List[str] = []

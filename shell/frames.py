@@ -3,7 +3,7 @@ from __future__ import annotations
 
 from collections import Counter
 from dataclasses import dataclass
-from typing import Optional, Sequence, Tuple, Union
+from typing import Iterable, Optional, Sequence, Tuple, Union
 
 from .language.names import ALL_STATES, Name, number_or_none
 from .language.records import BULK_STATUS, BY_WORD, CLEAR, SHORT_UPDATE, RecordKind
@@ -89,8 +89,13 @@ class Frame:
         """What it carries, in a few words: `2 inserts, 1 bulk status`."""
         if self.broken:
             return f"broken: {self.broken}"
-        counts = Counter(it.kind.name for it in self.records)
-        return ", ".join(f"{n} {_plural(name) if n > 1 else name}" for name, n in counts.items()) or "no records"
+        return kinds_counted(it.kind for it in self.records)
+
+
+def kinds_counted(kinds: Iterable[RecordKind]) -> str:
+    """How many records there are of each kind, in the order of the first ones."""
+    counts = Counter(it.name for it in kinds)
+    return ", ".join(f"{n} {_plural(name) if n > 1 else name}" for name, n in counts.items()) or "no records"
 
 
 def _plural(name: str) -> str:

@@ -5,7 +5,7 @@ import os
 import shutil
 import sys
 
-from .arguments import WITHOUT_PROGRAM
+from .arguments import needs_program
 from .chosen import NoProgram, chosen
 from .main import main as shell
 
@@ -17,9 +17,8 @@ NO_PROGRAM_STATUS = 125
 def main() -> int:
     """Carries out the words of the command line, or `shell` if there are none, with the program next to it or that of PFL_LAB."""
     words = sys.argv[1:] or ["shell"]
-    needs_none = {"-h", "--help"} & {*words} or words[0] in WITHOUT_PROGRAM
     try:
-        program = "" if needs_none else program_of(os.path.dirname(os.path.realpath(sys.argv[0])))
+        program = program_of(os.path.dirname(os.path.realpath(sys.argv[0]))) if needs_program(words) else ""
     except NoProgram as why:
         print(f"{NAME}: {why}", file=sys.stderr)
         return NO_PROGRAM_STATUS

@@ -1,5 +1,5 @@
 """The words that need the shell, of `./lab` and of the installed `pfl_shell`: shell, verify, annotate, chart, page, frames, whatif,
-depends, compare and import."""
+depends, compare, capture and import."""
 from __future__ import annotations
 
 import io
@@ -15,6 +15,7 @@ from . import scripts
 from .arguments import Words, page_fault, parser
 from .branches import Branch
 from .captures import runs
+from .captures.command import NotRead, captured
 from .charts.chart import NO_TEXTS, Texts, chart as chart_of
 from .charts.picture import draw
 from .charts.rows import Chart
@@ -25,12 +26,17 @@ from .depends.answers import of_script
 from .depends.marks import marks_of, notes_of
 from .dumps.command import TROUBLE, NothingRead, compared
 from .dumps.comparing import Tolerance
+from .dumps.opening import Asked, NotOpened, opening
 from .dumps.report import Shown
 from .fitting import columns_of, fitted
 from .importing.command import carry_out as import_
+from .inferring.asked import script_fault
+from .inferring.command import Captured, infer
+from .inferring.night import Part
 from .laboratory import Laboratory, Unknown
 from .language.forms import one_of
 from .language.lines import has_word, lines_of, opens
+from .language.names import NODES
 from .outputs import discard_output
 from .pages.live import OPENING, begun, joined, serve
 from .pages.packing import NotPacked, page as page_of
@@ -55,6 +61,10 @@ def main(arguments: Sequence[str], name: str = "./lab") -> int:
         kinds.error(f"a word is missing: {one_of(WORDS)}")
     if words.word == "shell" and words.setup and not words.port:
         kinds.error("--setup says what a server read, and goes with --port; a pair of your own has its setup from lines")
+    if words.word == "compare" and not words.out and (words.rules or words.of_flow):
+        kinds.error("--rules and --flow say what the script of --out has, and go with it")
+    if words.word == "capture" and script_fault(words):
+        kinds.error(script_fault(words))
     if words.word == "page" and page_fault(words):
         kinds.error(page_fault(words))
     for stream in (sys.stdin, sys.stdout):
@@ -72,9 +82,9 @@ def main(arguments: Sequence[str], name: str = "./lab") -> int:
         say(words, f"{error.filename}: {error.strerror}" if error.filename else error)
     except SetupFault as fault:
         say(words, f"setup line {fault.line}: {fault.words}")
-    except (Ended, Unknown, NotPacked, scripts.NotWritten, NothingRead) as why:
+    except (Ended, Unknown, NotPacked, scripts.NotWritten, NothingRead, NotOpened, NotRead) as why:
         say(words, why)
-    return TROUBLE if words.word in ("compare", "depends") else 1
+    return TROUBLE if words.word in ("compare", "depends", "capture") else 1
 
 
 def say(words: Words, what: object) -> None:
@@ -193,15 +203,54 @@ def compare(words: Words) -> int:
     """Compares two dumps; the status is that of diff(1)."""
     tolerance = Tolerance() if words.apart is None else Tolerance(words.apart, True)
     how = Shown(paint(sys.stdout.isatty()), tolerance, words.all)
-    answer = compared(words.dumps, words.stats, how, partial(say, words))
+    answer = compared(words.dumps, words.stats, how, partial(say, words), bool(words.out))
+    said: Sequence[str] = ()
     try:
-        show(answer.lines)
+        if words.out:
+            asked_for = Asked(words.out, words.rules, words.of_flow)
+            made = opening(words.program, answer.found, dict(zip(NODES, words.dumps)), tolerance, asked_for)
+            scripts.write(words.out, made.text)
+            said = made.said
+    finally:
+        # (whoever reads the answer may have had enough of it before the script is written)
+        show_answer(answer.lines)
+    for it in said:
+        say(words, f"{words.out}: {it}")
+    return answer.status
+
+
+def capture(words: Words) -> int:
+    """Reads captures of the sync interface; the status is 1 where something is found, and 2 where a file cannot be read, or a script that
+    is asked for cannot be written."""
+    answer = captured(words, paint(sys.stdout.isatty()), partial(say, words))
+    if not words.script:
+        show_answer(answer.lines)
+        return answer.status
+    lines = answer.lines
+    try:
+        asked_for = Captured(answer.overlay, Part.of(answer.selection), answer.times)
+        made = infer(words, words.program, words.captures, asked_for, words.all)
+        scripts.write(words.script, "".join(f"{line}\n" for line in made.lines))
+        # (what was blocked is the last part, before the line about what no frame says, and the frames, which an empty line begins)
+        at = lines.index("") - 1
+        lines = [*lines[:at], *made.blocked, *lines[at:]]
+    finally:
+        # (whoever reads it may stop reading: the script is written by then)
+        show_answer(lines)
+    for it in made.said:
+        say(words, f"{words.script}: {it}")
+    return answer.status
+
+
+def show_answer(lines: Sequence[str]) -> None:
+    """Prints an answer; a fault names standard output."""
+    try:
+        show(lines)
     except BrokenPipeError:
         raise
     except OSError as error:
         discard_output()
         raise OSError(error.errno, error.strerror, "standard output") from error
-    return answer.status
 
 
 def save(path: str, text: str) -> None:
@@ -234,7 +283,8 @@ def faulty_lines(program: str, script: Sequence[str]) -> Iterator[str]:
 
 
 def drawn_from(program: str, script: Sequence[str], branch: str, window: Window = WHOLE, with_notes: bool = False) -> Chart:
-    """A chart of what a script makes of a branch; with notes also the comments of the script, and what comes of its events by other rules."""
+    """A chart of what a script makes of a branch; with notes also the comments of the script, and what comes of its events by other
+    rules."""
     lab = Laboratory(program)
     try:
         story = story_of(lab, script)
@@ -350,5 +400,6 @@ WORDS: Dict[str, Callable[[Words], int]] = {
     "whatif": whatif,
     "depends": depends,
     "compare": compare,
+    "capture": capture,
     "import": import_,
 }

@@ -6,7 +6,7 @@ from .language.names import level_name
 from .language.records import BULK_STATUS, CLEAR, UPDATE_REQUEST
 from .pair import Cleared
 from .states import End
-from .words import bulk_status, cleared, near_and_far, request, rule_number, sequence, state_line
+from .words import bulk_status, cleared, flow, levels, near_and_far, request, rule_number, sequence
 
 
 def _end(protocol: str, end: End) -> str:
@@ -14,8 +14,9 @@ def _end(protocol: str, end: End) -> str:
     return level_name(protocol, end.level) + numbers
 
 
-def _state(state: Carried) -> str:
-    parts = [state_line(state)]
+def state_words(state: Carried) -> str:
+    """A state that a record carries, after its name."""
+    parts = [f"{flow(state)}  {levels(state)}"]
     if state.protocol == "tcp":
         parts.append("  ".join(map(sequence, near_and_far(state))))
     parts.append(f"{state.remaining} s left of {state.timeout_class}, {rule_number(state.rule)}")
@@ -24,7 +25,8 @@ def _state(state: Carried) -> str:
     return "  ".join(parts)
 
 
-def _changes(changes: Changes) -> str:
+def changes_words(changes: Changes) -> str:
+    """What a short update carries, after the name of its state."""
     # A short update has no protocol; the levels are TCP's if the class is.
     protocol = changes.timeout_class.partition(".")[0]
     ends = f"source {_end(protocol, changes.source)}, destination {_end(protocol, changes.destination)}"
@@ -34,9 +36,9 @@ def _changes(changes: Changes) -> str:
 def record_line(record: Record) -> str:
     """A record after its kind."""
     if isinstance(record.state, Carried):
-        said = _state(record.state)
+        said = f"{record.name}  {state_words(record.state)}"
     elif isinstance(record.state, Changes):
-        said = f"{record.name}  {_changes(record.state)}"
+        said = f"{record.name}  {changes_words(record.state)}"
     elif record.kind is CLEAR:
         said = cleared(Cleared(*map(int, record.about)))
     elif record.kind is BULK_STATUS:

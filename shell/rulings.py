@@ -6,7 +6,7 @@ from typing import Optional, Sequence
 
 from .language.packets import PacketEvent
 from .language.setups import FLAGS_ANY, FROM, FROM_PORT, PROTO, QUICK, TO, TO_PORT, Option
-from .setups import Rule
+from .setups import Pool, Rule
 
 
 def deciding(rules: Sequence[Rule], packet: PacketEvent, any_flags: Optional[int] = None) -> Optional[int]:
@@ -23,15 +23,19 @@ def deciding(rules: Sequence[Rule], packet: PacketEvent, any_flags: Optional[int
 
 def _matches(rule: Rule, packet: PacketEvent, any_flags: bool) -> bool:
     """Whether a rule matches the packet; a pass rule takes a TCP packet that begins a connection, or any TCP packet if it says so."""
-    pool = rule.pool
     return (
         rule.words[1] in ("any", packet.direction)
         and (not rule.has(PROTO) or rule.value(PROTO) == packet.protocol)
         and _meets(rule, packet.source, FROM, FROM_PORT, packet.protocol)
         and _meets(rule, packet.destination, TO, TO_PORT, packet.protocol)
         and (rule.action == "block" or any_flags or not packet.is_tcp or packet.is_request)
-        and (rule.action == "block" or pool is None or pool.is_v6 == packet.source.startswith("["))
+        and (rule.action == "block" or _is_of_family(rule.pool, packet))
     )
+
+
+def _is_of_family(pool: Optional[Pool], packet: PacketEvent) -> bool:
+    """Whether a translation is to an address of the packet's family, if there is one."""
+    return pool is None or pool.is_v6 == packet.source.startswith("[")
 
 
 def _meets(rule: Rule, end: str, net: Option, port: Option, protocol: str) -> bool:

@@ -67,6 +67,8 @@ class Compared:
     without_rule: List[Two] = field(default_factory=list)
     differing: Dict[Kind, List[Two]] = field(default_factory=lambda: {it: [] for it in Kind})
     agreeing: int = 0
+    # Those that agree, if they are kept.
+    agreed: Optional[List[Two]] = None
     # How many of the states that agree differ in their windows by less than a window.
     moved: int = 0
 
@@ -80,9 +82,9 @@ class Compared:
         return not (self.differ or self.twice or any(self.only.values()))
 
 
-def compare(a: Iterable[Dumped], b: Iterable[Dumped], tolerance: Tolerance) -> Compared:
-    """Reads the first dump, and compares the states of the second with it as they come."""
-    found = Compared()
+def compare(a: Iterable[Dumped], b: Iterable[Dumped], tolerance: Tolerance, keeps_all: bool = False) -> Compared:
+    """Reads the first dump, and compares the states of the second with it as they come. Those that agree are kept or only counted."""
+    found = Compared(agreed=[] if keeps_all else None)
     table = Table.read(a, found)
     rest: Dict[object, Dumped] = {}
     for state in b:
@@ -199,6 +201,8 @@ def _judge(two: Two, found: Compared, tolerance: Tolerance) -> None:
         found.differing[kind].append(two)
     else:
         found.agreeing += 1
+        if found.agreed is not None:
+            found.agreed.append(two)
         found.moved += has_windows(two) and two.a.windows != two.b.windows
         found.without_rule += [two] * (has_details(two) and two.a.marks.rule != two.b.marks.rule)
 

@@ -47,6 +47,17 @@ class PacketEvent:
         return cls(node, direction, protocol, source, destination, length, flags, seq, ack, window, *scale)
 
     @property
+    def line(self) -> str:
+        """The event as a log has it."""
+        words = ["packet", self.node, self.direction, self.protocol, self.source, self.destination]
+        if self.is_tcp:
+            scale = () if self.scale is None else (self.scale,)
+            words += [self.flags, *map(str, (self.seq, self.ack, self.window, self.length, *scale))]
+        else:
+            words.append(str(self.length))
+        return " ".join(words)
+
+    @property
     def is_tcp(self) -> bool:
         return self.protocol == "tcp"
 

@@ -64,7 +64,7 @@ class Words(unittest.TestCase):
 
     def test_there_are_words(self) -> None:
         self.assertEqual({*OPTIONS["pfl_lab"]}, {"run", "check", "serve"})
-        words = {"shell", "verify", "annotate", "chart", "page", "frames", "whatif", "depends", "compare", "import"}
+        words = {"shell", "verify", "annotate", "chart", "page", "frames", "whatif", "depends", "compare", "capture", "import"}
         self.assertEqual({*OPTIONS["pfl_shell"]}, words)
         self.assertIn("--port", OPTIONS["pfl_lab"]["serve"])
         self.assertIn("--strict", OPTIONS["pfl_shell"]["shell"])

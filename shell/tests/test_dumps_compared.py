@@ -355,7 +355,7 @@ class Documents(DumpCase):
 
     def test_each_lesson_is_there(self) -> None:
         texts = "".join(read(it) for it in glob(f"{TOP}/shell/dumps/*.py"))
-        lessons = {*re.findall(r"[\w-]+\.pfl", texts)}
+        lessons = {*re.findall(r"\b[a-z][a-z-]*\.pfl", texts)}
         self.assertGreaterEqual(len(lessons), 4)
         self.assertLessEqual(lessons, {*os.listdir(f"{TOP}/examples")})
 

@@ -97,9 +97,8 @@ class Installing(Room):
     def test_examples_name_commands_that_are_installed(self) -> None:
         self.install()
         for it in (self.prefix / "share/pfl_lab/examples").iterdir():
-            self.assertNotIn("./lab", it.read_text(), it.name)
-            self.assertNotIn("](..", it.read_text(), it.name)
-            self.assertNotIn("docs/", it.read_text(), it.name)
+            for words in (b"./lab", b"](..", b"docs/"):
+                self.assertNotIn(words, it.read_bytes(), it.name)
 
     def test_the_list_has_what_is_there(self) -> None:
         self.install()

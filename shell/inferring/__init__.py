@@ -1,0 +1,1 @@
+"""Events of the laboratory that would have led to what is known of a pair."""
