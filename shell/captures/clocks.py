@@ -99,9 +99,9 @@ def _is_step(one: Tuple[int, int], two: Tuple[int, int]) -> bool:
 
 
 class Measured(NamedTuple):
-    """The clocks; how much longer after a than the others the messages of each sender are at b (a median, in nanoseconds), which is twice the
-    time of the way, above 0 for the messages of a; and the standard error of that. Nothing where only one sender has messages in both
-    captures."""
+    """The clocks; how much longer after a than the others the messages of each sender are at b (a median, in nanoseconds), which is twice
+    the time of the way, above 0 for the messages of a; and the standard error of that. Nothing where only one sender has messages in
+    both captures."""
 
     clocks: Clocks
     later: Dict[str, int]
@@ -173,8 +173,8 @@ def _groups(them: List[Both]) -> List[List[Both]]:
 
 
 def _middles(them: List[Both], slope: float, first: str) -> Dict[str, _Middle]:
-    """By sender, how far apart its messages are at the two nodes, at the time of the middle one of all, where the clocks drift apart by this
-    much: a median, or if it is known whose are seen at the first node first, by those that took the least time."""
+    """By sender, how far apart its messages are at the two nodes, at the time of the middle one of all, where the clocks drift apart by
+    this much: a median, or if it is known whose are seen at the first node first, by those that took the least time."""
     middle = them[len(them) // 2].a
     by_sender: Dict[str, List[int]] = {}
     for it in them:

@@ -95,13 +95,14 @@ class Run:
 
 
 class Lost(NamedTuple):
-    """What is lost of a state that a node sent: short updates, which any later record makes up for, and whole records, which a whole one does."""
+    """What is lost of a state that a node sent: short updates, which any later record makes up for, and whole records, for which a whole
+    one does."""
 
     short: Run
     whole: Run
 
 
-class Part(NamedTuple):
+class LostState(NamedTuple):
     """A state of a lost frame: its name, the run that its record belongs to, and how many tries of that were before it or are itself."""
 
     name: str
@@ -116,7 +117,7 @@ class LostFrame:
 
     def __init__(self, frame: Frame, summary: str):
         self.frame, self.summary = frame, summary
-        self.parts: List[Part] = []
+        self.parts: List[LostState] = []
 
 
 class Asked:

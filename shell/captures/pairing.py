@@ -24,6 +24,8 @@ _MOST_WAITING, _MOST_BYTES, _MOST_ALIKE = 1 << 17, 1 << 26, 256
 _BESIDE = 3
 # How far a message that was captured out of order is put back.
 _MOST_STEPS = 64
+# How many cut messages are kept, until those that were sent are looked at.
+_MOST_CUT = 64
 
 # What a message is known by: its sender's node, its length, and its bytes.
 _Key = Tuple[str, int, bytes]
@@ -56,7 +58,8 @@ class Overlay:
             self.surveys = [surveyed(file, path, max(shortest, LEAST_COMPARED)) for file, path in zip(files, paths)]
         for it in self.surveys:
             if not it.messages:
-                raise BadCapture(it.fault or f"{it.name} has no message of pfsync: is it a capture of the sync interface?")
+                alone = "; if it is, its node sent and heard nothing: give the other capture alone" * (len(paths) == 2)
+                raise BadCapture(it.fault or f"{it.name} has no message of pfsync: is it a capture of the sync interface?{alone}")
         self.sides = sides(self.surveys, a)
         # From when to when each capture is, by the clock of a.
         self.covered = [self._period(which, it) for which, it in enumerate(self.surveys)]
@@ -69,7 +72,7 @@ class Overlay:
         self.cut: Dict[str, int] = dict.fromkeys(NODES, 0)
 
     def _period(self, which: int, survey: Survey) -> Tuple[int, int]:
-        """From when to when a capture is, by the clock of a. (Where a clock was set back, its earliest time is not that of its beginning.)"""
+        """From when to when a capture is, by the clock of a. (Where a clock was set back, it does not begin with its earliest time.)"""
         times = survey.first, survey.last, survey.begun, survey.ended
         by_a = [self.sides.clocks.to_a(it) for it in times] if which else times
         return min(by_a), max(by_a)
@@ -159,7 +162,7 @@ class Overlay:
         if entry.partner:
             return max(entry.partner.time, entry.time), True
         if NODES[entry.which] == entry.node:
-            return None, False if self.covers(1 - entry.which, entry.time) else None
+            return None, False if entry.is_cut or self.covers(1 - entry.which, entry.time) else None
         if entry.is_again:
             self.repeated[entry.node] += 1
             return None
@@ -179,7 +182,7 @@ def _refuse_the_same(files: Sequence[str], paths: Sequence[str]) -> None:
 class _Entry:
     """A message of a capture, which waits for the same one in the other. At its sender it has a partner then, and that one is a copy."""
 
-    __slots__ = ("time", "which", "node", "length", "payload", "key", "partner", "is_copy", "is_open", "is_again")
+    __slots__ = ("time", "which", "node", "length", "payload", "key", "partner", "is_copy", "is_open", "is_again", "is_cut")
 
     def __init__(self, time: int, which: int, node: str, length: int, payload: bytes):
         self.time, self.which, self.node, self.length, self.payload = time, which, node, length, payload
@@ -187,6 +190,8 @@ class _Entry:
         self.partner: Optional[_Entry] = None
         self.is_open = True
         self.is_copy = self.is_again = False
+        # Whether it came with fewer bytes than were sent.
+        self.is_cut = False
 
     @property
     def bytes(self) -> bytes:
@@ -225,6 +230,8 @@ class _Waiting:
         self._entries: Deque[_Entry] = deque()
         # (nearly always one message, or one of each capture)
         self._alike: Dict[_Key, Union[List[_Entry], _Crowd]] = {}
+        # The last ones that came with fewer bytes than their headers say.
+        self._cut: Deque[_Entry] = deque(maxlen=_MOST_CUT)
 
     def resolved(self, entries: Iterator[_Entry]) -> Iterator[_Entry]:
         """The messages in order, once it is known which of the other capture is the same."""
@@ -233,6 +240,8 @@ class _Waiting:
         for entry in entries:
             payload = entry.payload
             key = entry.key = (entry.node, entry.length, payload if compared is None else payload[:compared])
+            if NODES[entry.which] != entry.node and is_cut(payload, entry.length):
+                self._cut.append(entry)
             its = alike.get(key)
             if its is None:
                 alike[key] = [entry]
@@ -255,6 +264,14 @@ class _Waiting:
                 self._resolve(head)
             yield head
 
+    def _find_cut(self, head: _Entry) -> None:
+        """Marks a message of which fewer bytes came."""
+        for it in self._cut:
+            if it.node == head.node and 0 <= it.time - head.time <= WINDOW and head.payload.startswith(it.payload):
+                head.is_cut = True
+                self._cut.remove(it)
+                return
+
     def _put_back(self, entry: _Entry) -> None:
         """Puts an entry in its place among those that were captured later."""
         waiting, steps = self._entries, 1
@@ -269,6 +286,8 @@ class _Waiting:
             if len(alike) == 1:
                 del self._alike[head.key]
                 head.is_open = False
+                if self._cut and NODES[head.which] == head.node:
+                    self._find_cut(head)
                 return
             if len(alike) == 2 and alike[0].which != alike[1].which and abs(alike[0].time - alike[1].time) <= WINDOW:
                 alike[0].meet(alike[1])

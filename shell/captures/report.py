@@ -95,8 +95,9 @@ def _way(node: str, story: Story, overlay: Overlay) -> str:
 
 def _oddities(overlay: Overlay) -> List[str]:
     """What is in the captures besides."""
+    within = f"within {lasting(WINDOW)}"
     lines = [
-        f"{counted(number, 'frame')} of {node} came, and the capture of {node} does not have {'it' if number == 1 else 'them'} within {lasting(WINDOW)}"
+        f"{counted(number, 'frame')} of {node} came, and the capture of {node} does not have {'it' if number == 1 else 'them'} {within}"
         for node, number in overlay.not_captured.items()
         if number
     ]
@@ -112,7 +113,7 @@ def _oddities(overlay: Overlay) -> List[str]:
     ]
     lines += [
         f"{counted(number, 'frame')} of {node} came with fewer bytes than {'its header says' if number == 1 else 'their headers say'}: "
-        f"the kernel drops {'it' if number == 1 else 'them'} whole, and here {'it does' if number == 1 else 'they do'} not count as come"
+        f"the kernel drops {'it' if number == 1 else 'them'} whole, and here {'it counts' if number == 1 else 'they count'} as not captured"
         for node, number in overlay.cut.items()
         if number
     ]

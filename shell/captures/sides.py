@@ -23,8 +23,8 @@ class NoSuchSender(Exception):
 
 
 class Sides(NamedTuple):
-    """The node of each sender, and how that is known; the clocks; the time of the way in nanoseconds, 0 if it is not known; and if the captures
-    seem to be exchanged, whose the first one seems to be, and why."""
+    """The node of each sender, and how that is known; the clocks; the time of the way in nanoseconds, 0 if it is not known; and if the
+    captures seem to be exchanged, whose the first one seems to be, and why."""
 
     nodes: Dict[str, str]
     why: str
@@ -141,7 +141,7 @@ def _thin(surveys: Sequence[Survey]) -> None:
 
 
 def _by_loss(surveys: Sequence[Survey], those: List[str], clocks: Clocks, latency: int) -> Optional[_Order]:
-    """Whatever one capture alone has was sent by its own node, and lost on the way: as far as both captures cover that time, and none of them
+    """Whatever one capture alone has was sent by its own node, and lost on the way: as far as both captures cover that time, and neither
     lacks what its own node sent."""
     one, two = surveys
     begin = max(one.first, min(clocks.to_a(two.first), clocks.to_a(two.begun))) + latency
@@ -164,7 +164,8 @@ def _by_loss(surveys: Sequence[Survey], those: List[str], clocks: Clocks, latenc
             compared = "" if is_all else "of those that are compared, "
             but = f", and {against} in the other alone" * (against > 0)
             is_clear = agree >= _TO_ONE * against if against else agree >= _LEAST_ALONE
-            return _Order(order, f"{compared}{counted(agree, 'message is', 'messages are')} in the capture of the sender alone{but}", is_clear)
+            messages = counted(agree, "message is", "messages are")
+            return _Order(order, f"{compared}{messages} in the capture of the sender alone{but}", is_clear)
     return None
 
 
@@ -176,5 +177,5 @@ def _by_latency(those: List[str], its: Measured, least: int) -> Optional[_Order]
         return None
     way = twice // 2
     before = f"{way} ns" if way < 1000 else f"{way / 1e6:.3f} ms"
-    why = f"messages are in the capture of the sender first, {before} before the other beside the clocks"
+    why = f"messages are in the capture of the sender first, {before} before the other, the difference of the clocks taken off"
     return _Order(order, why, twice > max(least, _ERRORS * its.error))

@@ -23,7 +23,7 @@ from .bulk import Bulk
 from .decoding import Decoded, Peer, Record
 from .files import NANOSECONDS
 from .findings import Findings, Kind
-from .known import Asked, Frame, Known, Last, Lost, LostFrame, Part, Run, Table, flow_keys
+from .known import Asked, Frame, Known, Last, Lost, LostFrame, LostState, Run, Table, flow_keys
 from .pairing import Sent
 from .wording import OTHER, UNKNOWN_FLOW, cleared, flow_words, lasting, some, summary
 
@@ -299,7 +299,7 @@ class Story:
             run = its.whole if record.kind.number in _WHOLE else its.short
             run.waiting += 1
             if lost:
-                lost.parts.append(Part(state.text, run, run.tries))
+                lost.parts.append(LostState(state.text, run, run.tries))
 
     def _send_again(self, frame: Frame, state: Known, which: int, is_whole: bool) -> None:
         """A node sends a state again of which a record was lost; a short update does not make up for a whole one, nor does a frame that is
@@ -442,7 +442,7 @@ def _lost_words(lost: LostFrame) -> str:
     return "; ".join(said)
 
 
-def _tried_words(frame: Frame, parts: List[Part]) -> str:
+def _tried_words(frame: Frame, parts: List[LostState]) -> str:
     """States of a lost frame that were sent again only in frames that are not in the other capture either."""
     them = f"{some([it.name for it in parts])} {'was' if len(parts) == 1 else 'were'} sent again only in"
     tries = {it.run.tried for it in parts if it.run.tried}

@@ -13,7 +13,7 @@ from ..language.lines import opens
 from ..language.names import NODES
 from ..language.packets import Key, PacketEvent
 from ..language.records import DELETE, INSERT, SHORT_DELETE
-from ..language.setups import AEND, ASTART, BATCH, BULK_MS, DEFER, FRAMES, MOST_RULES, MTU, QUEUE, STATES, TIMEOUT
+from ..language.setups import AEND, ASTART, BATCH, BULK_MS, DEFER, FRAMES, MOST_RULES, MTU, QUEUE, STATES, TIMEOUT, Limit
 from ..rulings import deciding
 from ..setups import Rule, Setup
 from .night import Night
@@ -62,9 +62,11 @@ _FITTING = "# Limits that fit what the captures have."
 def _limits(night: Night, setup: Optional[Setup]) -> Iterator[str]:
     """Lines that set limits, beside those of a setup."""
     records = [record for sent in night.sent for record in sent.message.records]
-    limits = {QUEUE: QUEUE.most, FRAMES: FRAMES.most, MTU: _mtu(night), BATCH: _TURN}
+    room, has = _room(night, records), setup.limits if setup else Setup().limits
+    limits = {it: number for it, number in room.items() if it is not STATES and has[it] < number}
+    limits.update({MTU: _mtu(night), BATCH: _TURN})
     if not setup or not any(it.split()[:2] == [SET.word, STATES.word] for it in setup.lines):
-        limits = {STATES: STATES.most, **limits, ASTART: 0, AEND: 0}
+        limits = {STATES: room[STATES], **limits, ASTART: 0, AEND: 0}
     if setup and any(it.split()[:2] == [SET.word, MTU.word] for it in setup.lines) and setup.limits[MTU] >= limits[MTU]:
         del limits[MTU]
     if sum(it.asks_for_all for it in records) > 1:
@@ -72,6 +74,13 @@ def _limits(night: Night, setup: Optional[Setup]) -> Iterator[str]:
     if any(it.kind is INSERT and it.asks_for_acknowledgement for it in records):
         limits[DEFER] = 1
     return (f"{SET.word} {limit.word} {number}" for limit, number in limits.items())
+
+
+def _room(night: Night, records: Sequence[Record]) -> Dict[Limit, int]:
+    """Room for the states that messages name and that packets can make, for their entries in queues, and for all frames at once."""
+    states = len({(it.id, it.creator) for it in records}) + len(night.carried) + len(night.logged)
+    wanted = {STATES: 2 * states, QUEUE: 8 * states, FRAMES: 2 * len(night.sent)}
+    return {it: max(it.default, min(it.most, number)) for it, number in wanted.items()}
 
 
 def _mtu(night: Night) -> int:

@@ -181,7 +181,7 @@ class Selected(CaptureCase):
     def test_the_address_of_a(self) -> None:
         said = self.run_with(*self.files(both(NIGHT)), "--a", B)
         self.assertEqual(said.out[1], f"a is {B}, b is {A}: as --a says")
-        why = "messages are in the capture of the sender first, 0.200 ms before the other beside the clocks"
+        why = "messages are in the capture of the sender first, 0.200 ms before the other, the difference of the clocks taken off"
         self.assertEqual(said.out[2], f"but the first capture seems to be that of {A}: {why}")
         said = self.run_with(self.files(both(NIGHT))[0], "--a", B)
         self.assertEqual(said.out[1], f"a is {B}, b is {A}: as --a says, and one capture alone is taken as that of a")
@@ -236,14 +236,15 @@ class Faults(CaptureCase):
         self.assertEqual((said.status, said.err), (2, [f"lab: {why}"]))
         self.assertIn(f"{why}; what comes before that counts", said.out)
         self.assertEqual(len(timeline(said.out)), 18)
+        alone = "; if it is, its node sent and heard nothing: give the other capture alone"
         for content, why in (
             (b"", "A.pcap: the file is empty"),
             (b"all udp 192.0.2.1", "A.pcap: the file is neither pcap nor pcapng"),
             (pcap([]), "A.pcap has no message of pfsync: is it a capture of the sync interface?"),
         ):
-            for words in ((), (whole,)):
+            for words, more in (((), ""), ((whole,), alone if why.endswith("?") else "")):
                 said = self.run_with(self.file("A.pcap", content), *words)
-                self.assertEqual((said.status, said.out, said.err), (2, [], [f"lab: {why}"]))
+                self.assertEqual((said.status, said.out, said.err), (2, [], [f"lab: {why}{more}"]))
         said = self.run_with(str(self.room / "none.pcap"))
         self.assertEqual((said.status, said.err), (2, ["lab: none.pcap: No such file or directory"]))
         said = self.run_with("/dev/zero")

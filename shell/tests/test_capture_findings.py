@@ -61,7 +61,8 @@ class Findings(CaptureCase):
         self.assertEqual(
             said.out[1:7],
             [
-                f"a is {A}, b is {B}: messages are in the capture of the sender first, 0.200 ms before the other beside the clocks",
+                f"a is {A}, b is {B}: messages are in the capture of the sender first, 0.200 ms before the other,"
+                " the difference of the clocks taken off",
                 "a: 5 messages in A.pcap, from 11:59:59 to 12:01:30",
                 "b: 5 messages in B.pcap, from 11:59:59 to 12:01:30",
                 "a -> b: 3 frames: 3 came",
@@ -134,7 +135,8 @@ class Findings(CaptureCase):
 
     def test_late_frames_do_not_move_the_clocks(self) -> None:
         """Of the four frames of b three come 100 ms late: the other one says what the clocks are."""
-        given = [(100.0 * nth, "ab"[nth % 2], inserted(state(nth, wire=(("192.0.2.9", nth), ("10.0.0.1", 1)))), True) for nth in range(1, 8)]
+        flows = {nth: (("192.0.2.9", nth), ("10.0.0.1", 1)) for nth in range(1, 8)}
+        given = [(100.0 * nth, "ab"[nth % 2], inserted(state(nth, wire=its)), True) for nth, its in flows.items()]
         a, b = ([*its] for its in captures(given))
         a = [(time + 100 * 10**6 * (nth in (1, 3, 5)), its) for nth, (time, its) in enumerate(a, 1)]
         files = self.files([pcap(sorted(its, key=lambda one: one[0]), nanoseconds=True) for its in (a, b)])

@@ -71,6 +71,8 @@ def own(node: str, ahead: int = 0) -> bytes:
 def fates(those: List[Sent]) -> List[Tuple[int, str, Optional[bool]]]:
     return [(it.message.records[0].id, it.node, it.arrived) for it in those]
 
+# How the sides are known by who saw a message first.
+FIRST = "messages are in the capture of the sender first, {} ms before the other, the difference of the clocks taken off"
 
 class Laid(CaptureCase):
     def test_what_is_missing(self) -> None:
@@ -96,12 +98,12 @@ class Laid(CaptureCase):
     def test_why_a_is_a(self) -> None:
         it = self.overlay(*both(FIVE)).sides
         self.assertEqual((it.nodes, it.is_guess), ({A: "a", B: "b"}, False))
-        why = "messages are in the capture of the sender first, 0.200 ms before the other beside the clocks"
+        why = FIRST.format("0.200")
         self.assertEqual(it.said(), f"a is {A}, b is {B}: {why}")
         whole = [(*it[:3], True) for it in FIVE]
         it = self.overlay(*both(whole, HOUR)).sides
         self.assertEqual((it.nodes, it.is_guess), ({A: "a", B: "b"}, False))
-        why = "messages are in the capture of the sender first, 0.200 ms before the other beside the clocks"
+        why = FIRST.format("0.200")
         self.assertEqual(it.said(), f"a is {A}, b is {B}: {why}")
         it = self.overlay(*both(whole, HOUR)[::-1]).sides
         self.assertEqual(it.nodes, {B: "a", A: "b"})
@@ -114,7 +116,7 @@ class Laid(CaptureCase):
         self.assertEqual(it.said(), f"a is {B}, b is {A}: as --a says")
 
     def test_what_the_captures_did_not_get(self) -> None:
-        """Nothing is lost, and tcpdump at a drops three messages of a, or each drops a few of all: the time of the way says whose they are."""
+        """Nothing is lost, and tcpdump at a drops three messages of a, or each one drops a few of all: the time of the way decides."""
         rng = random.Random(1)
         given = [(1000.0 * nth, "ab"[nth % 2], deletion(nth), True) for nth in range(100)]
         a, b = ([(time, packet) for time, packet in captured(given, node)] for node in "ab")
@@ -123,7 +125,7 @@ class Laid(CaptureCase):
         for first, second in ((without, b), some):
             it = self.overlay(*(pcap(its, nanoseconds=True) for its in (first, second))).sides
             self.assertEqual((it.nodes, it.is_guess), ({A: "a", B: "b"}, False))
-            self.assertEqual(it.why, "messages are in the capture of the sender first, 0.200 ms before the other beside the clocks")
+            self.assertEqual(it.why, FIRST.format("0.200"))
         it = self.overlay(*(pcap(its, nanoseconds=True) for its in (b, without))).sides
         self.assertEqual(it.nodes, {B: "a", A: "b"})
 
@@ -195,6 +197,9 @@ class Laid(CaptureCase):
         it = self.overlay(a, b[:24] + b"".join(_in_order(b[24:] + cut)))
         self.assertEqual(fates([*it.sent()]), fates(self.sent(a, b)))
         self.assertEqual((it.cut, it.not_captured), ({"a": 1, "b": 0}, {"a": 0, "b": 0}))
+        # (also where the capture of b does not cover the moment when it was sent)
+        it = self.overlay(a, b[:24] + b"".join(_in_order(b[24:] + cut)[2:]))
+        self.assertEqual(fates([*it.sent()])[2], (3, "a", False))
 
     def test_captured_twice(self) -> None:
         # The capture of a is of two interfaces, and has everything twice.
@@ -261,7 +266,7 @@ class Drift(CaptureCase):
             for contents, nodes in ((files, {A: "a", B: "b"}), (files[::-1], {B: "a", A: "b"})):
                 it = self.overlay(*contents).sides
                 self.assertEqual((it.nodes, it.is_guess), (nodes, False), drift)
-                self.assertEqual(it.why, "messages are in the capture of the sender first, 0.020 ms before the other beside the clocks")
+                self.assertEqual(it.why, FIRST.format("0.020"))
 
     def test_a_clock_that_is_set(self) -> None:
         given = [(1000.0 * nth, "ab"[nth % 2], deletion(nth), True) for nth in range(400)]
@@ -328,10 +333,11 @@ class OtherCaptures(CaptureCase):
         self.assertEqual(said, [(2, True), (2, True), (1, False), (2, False), (2, True), (2, True)])
 
     def test_no_message(self) -> None:
+        alone = "; if it is, its node sent and heard nothing: give the other capture alone"
         for files, why in (
             ([pcap([])], "A.pcap has no message of pfsync: is it a capture of the sync interface?"),
-            ([pcap([(NOON, b"what")]), both(FIVE)[1]], "A.pcap has no message of pfsync: is it a capture of the sync interface?"),
-            ([both(FIVE)[0], pcap([(NOON, b"what")])], "B.pcap has no message of pfsync: is it a capture of the sync interface?"),
+            ([pcap([(NOON, b"what")]), both(FIVE)[1]], f"A.pcap has no message of pfsync: is it a capture of the sync interface?{alone}"),
+            ([both(FIVE)[0], pcap([(NOON, b"what")])], f"B.pcap has no message of pfsync: is it a capture of the sync interface?{alone}"),
             ([both(FIVE)[0], both(FIVE)[0]], "A.pcap and B.pcap are one capture: one of node a and one of node b are compared"),
             ([b"no capture"], "A.pcap: the file is neither pcap nor pcapng"),
         ):
@@ -351,7 +357,7 @@ class OtherCaptures(CaptureCase):
         """The address of a is given, and the captures show another one."""
         self.assertEqual(self.overlay(*both(FIVE), a=A).sides.exchanged, "")
         exchanged = self.overlay(*both(FIVE)[::-1], a=A).sides.exchanged
-        why = "messages are in the capture of the sender first, 0.200 ms before the other beside the clocks"
+        why = FIRST.format("0.200")
         self.assertEqual(exchanged, f"{B}: {why}")
         self.assertEqual(self.overlay(own("a"), both(FIVE)[1], a=A).sides.exchanged, "")
         exchanged = self.overlay(own("a"), both(FIVE)[1], a=B).sides.exchanged
