@@ -82,7 +82,7 @@ def main(arguments: Sequence[str], name: str = "./lab") -> int:
         say(words, f"{error.filename}: {error.strerror}" if error.filename else error)
     except SetupFault as fault:
         say(words, f"setup line {fault.line}: {fault.words}")
-    except (Ended, Unknown, NotPacked, scripts.NotWritten, NothingRead, NotOpened, NotRead) as why:
+    except (Ended, Unknown, NotPacked, scripts.NotWritten, scripts.FaultyRules, NothingRead, NotOpened, NotRead) as why:
         say(words, why)
     return TROUBLE if words.word in ("compare", "depends", "capture") else 1
 

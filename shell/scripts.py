@@ -11,7 +11,7 @@ from itertools import takewhile
 from typing import Dict, Iterator, List, Sequence, Tuple
 
 from .language.lines import content_of, has_word, lines_of, opens
-from .programs import run_lines
+from .programs import check_setup, run_lines
 
 REPLY, FAULT, CHECKED, STATUS = "#> ", "#! ", "#? ", "#= "
 LONGEST_TITLE = 120
@@ -32,6 +32,10 @@ def title_of(script: Sequence[str]) -> str:
     text = " ".join(line.strip("# \t\r") for line in begin)
     title = re.split(r"(?<=[.?!]) ", text)[0].rstrip(".").replace("`", "")
     return title if len(title) <= LONGEST_TITLE else ""
+
+
+class FaultyRules(Exception):
+    """A file of rules has a fault."""
 
 
 class NotWritten(Exception):
@@ -94,6 +98,15 @@ def read(path: str) -> str:
     """The text of a script, whatever bytes it has."""
     with open(path, encoding="utf-8", errors="surrogateescape", newline="") as it:
         return it.read()
+
+
+def rules_of(program: str, path: str) -> List[str]:
+    """The lines of a setup in a file, up to `open` if that is there, comments among them; raises the first fault of them."""
+    lines = [*takewhile(lambda line: not opens(line), lines_of(read(path)))]
+    fault = check_setup(program, lines)
+    if fault:
+        raise FaultyRules(f"{path}:{fault.line}: {fault.words}; --rules takes a setup, such as `import --unopened` writes")
+    return lines
 
 
 def write(path: str, text: str) -> None:

@@ -2,16 +2,18 @@
 from __future__ import annotations
 
 from collections import deque
-from typing import Deque, Dict, List, NamedTuple, Optional, Tuple
+from typing import Deque, Dict, Iterator, List, NamedTuple, Optional, Tuple
 
 from .decoding import Peer, Record
 from .files import NANOSECONDS
 from .pairing import Sent
 
 # How long a state is remembered after its deletion, and after its time is up.
-_REMEMBERED = 10 * NANOSECONDS
+_REMEMBERED = 120 * NANOSECONDS
 # (in seconds)
 _OVERDUE = 60
+# How many requests for a state wait for one answer.
+_MOST_WAITING = 16
 # How many deleted states are remembered at most, and how many states there are before those whose time is up are sought.
 _MOST_DELETED, _LEAST_SWEPT = 1 << 16, 1 << 14
 # How many creators are remembered that were cleared.
@@ -121,13 +123,24 @@ class LostFrame:
 
 
 class Asked:
-    """A request for a state: why its node may lack it, and what came of it."""
+    """A request for a state: why its node may lack it, the one before it if that waits for an answer, too, and what came of it."""
 
-    __slots__ = ("frame", "state", "why", "answer")
+    __slots__ = ("frame", "state", "why", "before", "answer")
 
-    def __init__(self, frame: Frame, state: Known, why: str):
-        self.frame, self.state, self.why = frame, state, why
+    def __init__(self, frame: Frame, state: Known, why: str, before: Optional[Asked]):
+        self.frame, self.state, self.why, self.before = frame, state, why, before
         self.answer: Optional[Frame] = None
+
+    def waiting(self) -> Iterator[Asked]:
+        """Those that the next answer is for: the last requests, and no more of them than a node sends in a row."""
+        ask: Optional[Asked] = self
+        for _ in range(_MOST_WAITING):
+            if ask is None:
+                return
+            yield ask
+            ask = ask.before
+        if ask is not None:
+            ask.before = None
 
 
 class Table:

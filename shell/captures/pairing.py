@@ -140,8 +140,8 @@ class Overlay:
         return min(it.compared for it in self.surveys)
 
     def _entries(self, which: int) -> Iterator[_Entry]:
-        """The messages of a capture, by the clock of a. Where it has most of them twice, each is one; but what comes from the other node may be
-        repeated on the way, which the other capture tells apart."""
+        """The messages of a capture, by the clock of a. Where it has most of them twice, each is one; but what comes from the other node may
+        be repeated on the way, which the other capture tells apart."""
         survey, nodes, to_a = self.surveys[which], self.sides.nodes, self.sides.clocks.to_a
         is_own, is_alone, is_doubled = survey.is_own, len(self.surveys) == 1, survey.is_doubled
         before, before_time, before_node = b"", 0, ""
@@ -318,8 +318,8 @@ class _Crowd:
         return not any(self._its)
 
     def resolve(self, head: _Entry) -> None:
-        """Pairs the first ones, the nearest in time first. Those beyond a window after the oldest one belong together so far, and wait on. What
-        came once more than it was sent was repeated on the way."""
+        """Pairs the first ones, the nearest in time first. Those beyond a window after the oldest one belong together so far, and wait on.
+        What came once more than it was sent was repeated on the way."""
         self._drop()
         ones, twos = self._first()
         last = head.time + WINDOW
@@ -340,7 +340,8 @@ class _Crowd:
         self._drop()
 
     def _first(self) -> Tuple[List[_Entry], List[_Entry]]:
-        """The first ones of both captures. Where there are more of one, those of the other beyond them are left out, which may belong to these."""
+        """The first ones of both captures. Where there are more of one, those of the other beyond them are left out, which may belong to
+        these."""
         ones, twos = ([*islice(its, _MOST_ALIKE)] for its in self._its)
         ends = [its[-1].time for its in (ones, twos) if len(its) == _MOST_ALIKE]
         first = [[it for it in its if it.is_open and not (ends and it.time > min(ends))] for its in (ones, twos)]

@@ -87,7 +87,7 @@ def _way(node: str, story: Story, overlay: Overlay) -> str:
     if came[None]:
         by_later = [f"{shown[True]:,} came"] * bool(shown[True])
         what = "it" if shown[False] == 1 else "each"
-        by_later += [f"{shown[False]:,} did not come, or a state of {what} was not kept"] * bool(shown[False])
+        by_later += [f"{shown[False]:,} did not come in time, or a state of {what} was not kept"] * bool(shown[False])
         later = f" (later frames show that {' and '.join(by_later)})" if by_later else ""
         parts.append(f"no capture says whether {came[None]:,} came{later}")
     return f"{node} -> {OTHER[node]}: {counted(sum(came.values()), 'frame')}: {', '.join(parts)}"

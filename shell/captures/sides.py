@@ -114,13 +114,17 @@ def _of_two(surveys: Sequence[Survey], a: Optional[str]) -> Sides:
     its = measured(met)
     latency = abs(next(iter(its.later.values()), 0)) // 2
     least = 0 if any(it.a % 1000 or it.b % 1000 for it in met) else _TOO_NEAR
-    found = [_by_latency(those, its, least), _by_loss(surveys, those, its.clocks, latency)]
+    way, loss = _by_latency(those, its, least), _by_loss(surveys, those, its.clocks, latency)
+    if loss and not (way and way.those == loss.those):
+        # (a tcpdump that misses what its own node sends makes it look lost at the other one)
+        loss = loss._replace(is_clear=False)
+    found = [way, loss]
     clear = next((it for it in found if it and it.is_clear), None)
     if a:
         exchanged = f"{clear.those[0] or 'the other node'}: {clear.why}" if clear and clear.those[0] != a else ""
         return Sides(dict(zip(those, NODES)), _SAID, False, its.clocks, latency, exchanged)
     order = clear or next((it for it in reversed(found) if it), None) or _Order(those, "", False)
-    guess = "a guess, since neither the time of the way nor what one capture alone has shows it clearly; --a ADDRESS says it"
+    guess = f"a guess: {order.why or 'nothing shows it'}, and nothing else shows it clearly; --a ADDRESS says it"
     nodes = {it: node for it, node in zip(order.those, NODES) if it}
     return Sides(nodes, clear.why if clear else guess, not clear, its.clocks, latency)
 

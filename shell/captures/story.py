@@ -151,8 +151,10 @@ class Story:
                 if ask is None and not is_bulk:
                     self._compare(frame, record, state, before, which)
         if ask is not None:
-            ask.answer, state.asked[1 - which] = frame, None
-            self.answered += self.selects(ask.frame, state)
+            state.asked[1 - which] = None
+            for it in ask.waiting():
+                it.answer = frame
+                self.answered += self.selects(it.frame, state)
         self._remember(frame, record, state, which)
         state.whole[which] = frame
         if state.first[which] is None:
@@ -261,7 +263,7 @@ class Story:
         why = _why_asked(frame, whole, gone)
         if whole is not None and not gone and not _is_later(whole, frame):
             self._evidence(whole, False, f"{frame.node} asks for {state.text} in frame {frame.number}")
-        ask = state.asked[which] = Asked(frame, state, why)
+        ask = state.asked[which] = Asked(frame, state, why, state.asked[which])
         if self._counts(Kind.REQUESTS, frame, state):
             self.findings.keep(Kind.REQUESTS, frame.time, partial(_asked_words, ask, self._hears(OTHER[frame.node])))
         return state
@@ -391,7 +393,7 @@ def is_behind(old: Peer, new: Peer, is_tcp: bool) -> bool:
 def _why_asked(frame: Frame, whole: Optional[Frame], gone: str) -> str:
     """Why a node may lack a state that it asks for: the last frame with it, and what may have taken it away since."""
     if whole is None:
-        return "no frame here has brought it"
+        return "no frame that is known here has brought it"
     before = f"frame {whole.number} had it {lasting(frame.time - whole.time)} before"
     if whole.arrived is False:
         return f"{before}, and is not in the capture of {frame.node}"

@@ -115,4 +115,4 @@ def came_words(frame: Frame, paint: Paint) -> str:
         return paint.dim("not known whether it came")
     if frame.shown:
         return f"came, since {frame.why}"
-    return paint.note(f"did not come, or a state of it was not kept: {frame.why}")
+    return paint.note(f"did not come in time, or a state of it was not kept: {frame.why}")

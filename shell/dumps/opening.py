@@ -2,12 +2,11 @@
 from __future__ import annotations
 
 import os
-from itertools import takewhile
-from typing import Dict, List, Mapping, NamedTuple, Optional, Sequence, Tuple
+from typing import Dict, List, Mapping, NamedTuple, Optional, Tuple
 
 from .. import scripts
 from ..language.commands import OPEN, SET
-from ..language.lines import has_word, lines_of, opens
+from ..language.lines import has_word
 from ..language.names import NODES
 from ..language.setups import AEND, ASTART, CLASSES, DEFER, FRAMES, QUEUE, STATES, TIMEOUT, Limit
 from ..programs import check_setup
@@ -50,7 +49,7 @@ def opening(program: str, found: Compared, files: Dict[str, str], tolerance: Tol
         _check_room(found.sizes)
     items = items_of(found, asked.about)
     _check_made(items, asked)
-    lines = _setup(items, _given(program, asked.rules) if asked.rules else None)
+    lines = _setup(items, scripts.rules_of(program, asked.rules) if asked.rules else None)
     fault = check_setup(program, [it for it in lines if has_word(it)])
     if fault:
         raise fault
@@ -84,15 +83,6 @@ def _about(asked: Asked) -> List[str]:
 
 
 # ---- the setup
-
-
-def _given(program: str, path: str) -> List[str]:
-    """The lines of a given setup, up to `open` if that is there; raises the first fault of them."""
-    lines = [*takewhile(lambda line: not opens(line), lines_of(scripts.read(path)))]
-    fault = check_setup(program, lines)
-    if fault:
-        raise NotOpened(f"{path}:{fault.line}: {fault.words}")
-    return lines
 
 
 def _setup(items: Items, given: Optional[List[str]]) -> List[str]:

@@ -124,7 +124,7 @@ class Blocking:
         if reason == MISMATCH:
             return f"it fits the state that {node} has, {has}: what else had moved the state there is in no capture"
         if reason == MATCH:
-            return f"{node} has its state, {has}: so a frame was refused there, or the state was gone"
+            return f"{node} has its state, {has}; on the pair what would have brought it did not come or was not kept, or it was gone"
         return f"nothing in the laboratory is blocked for `{reason}`"
 
     # ---- the frames that had its state
@@ -147,7 +147,7 @@ class Blocking:
         """Which frame had the state of a packet, and what became of it."""
         told = [one for one in (self._whole(node, name, it.time) for name in names) if one]
         if not told:
-            return "no frame before it had one"
+            return f"no frame of {other(node)} before it had one"
         one = max(told, key=lambda it: it.place)
         sent = one.sent
         return f"frame {sent.number} of {sent.node} had it {lasting(it.time - sent.time)} before, and {self._came(node, one, it.time)}"
@@ -158,9 +158,9 @@ class Blocking:
         if sent.arrived is None:
             return "nothing says whether it came"
         if sent.arrived is False and one.place in self.night.shown:
-            return f"later frames of {node} show that it did not come, or that the state was not kept"
+            return f"later frames of {node} show that it did not come in time, or that the state was not kept"
         if sent.arrived is False:
-            return f"is not in the capture of {node} (lost on the way, or not captured)"
+            return f"is not in the capture of {node} (lost on the way, late, or not captured)"
         if sent.came is not None and sent.came > time:
             return f"it came {lasting(sent.came - time)} after the packet"
         return "; ".join(["it came there", *self._gone(node, one, time)])

@@ -45,8 +45,8 @@ class Causes:
         # The laboratory's names of the captured states, and the other way round.
         self.names: Dict[str, Name] = {}
         self.captured: Dict[Name, str] = {}
-        # How many records there is nothing to explain by, and of how many of these the rules block the first packet.
-        self.unexplained = self.blocked = 0
+        # How many records there is nothing to explain by.
+        self.unexplained = 0
         # The nodes that wait for a bulk update, and the places of requests for all whose node has begun anew already.
         self._asking: Set[str] = set()
         self._begun: Set[int] = set()
@@ -383,7 +383,6 @@ class Causes:
             rules, number = self.playing.followed.setup.rules[node], self.playing.followed.rule_of(packet)
             which = "no rule matches" if number is None else f"rule {number} of {node} ({rules[number].described}) blocks"
             self._missed(record, f"{which} its first packet, and on the pair it passed")
-            self.blocked += 1
             return False
         return True
 

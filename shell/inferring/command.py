@@ -3,8 +3,7 @@ from __future__ import annotations
 
 import os
 from contextlib import closing
-from itertools import takewhile
-from typing import Callable, Iterator, List, NamedTuple, Sequence, Tuple, Union
+from typing import Callable, Iterator, NamedTuple, Sequence, Tuple, Union
 
 from .. import scripts
 from ..captures.carried import Carried, Unread, carried
@@ -13,9 +12,7 @@ from ..captures.links import PFSYNC_LINKS
 from ..captures.pairing import Overlay
 from ..captures.pflog import LINK, Logged, Passed, logged
 from ..captures.wording import Times
-from ..language.lines import lines_of, opens
 from ..laboratory import Unknown
-from ..programs import check_setup
 from .asked import SCRIPT, ScriptOptions
 from .happening import Happening
 from .night import Night, Part, night_of
@@ -45,7 +42,7 @@ def infer(words: ScriptOptions, program: str, captures: Sequence[str], captured:
         _refuse_empty(night)
         _refuse_long(night)
         _add_others(night, sources, captured.overlay)
-        setting = setting_of(night, _rules(program, sources.rules) if sources.rules else None)
+        setting = setting_of(night, scripts.rules_of(program, sources.rules) if sources.rules else None)
         with closing(Playing(program, setting)) as playing:
             happening = Happening(night, playing, setting)
             happening.play()
@@ -61,15 +58,6 @@ def _refuse_own(script: str, sources: Sources) -> None:
     files = [*sources.captures, *(path for _, path in (*sources.logs, *sources.data)), *[sources.rules] * bool(sources.rules)]
     if os.path.realpath(script) in {os.path.realpath(it) for it in files}:
         raise Unknown(f"{script} is one of the files that the script is inferred from: {SCRIPT} writes another one")
-
-
-def _rules(program: str, path: str) -> List[str]:
-    """The lines of a setup up to `open`, if the program finds no fault in them."""
-    lines = [*takewhile(lambda it: not opens(it), lines_of(scripts.read(path)))]
-    fault = check_setup(program, lines)
-    if fault:
-        raise Unknown(f"{path}:{fault.line}: {fault.words}; --rules takes a setup, such as `import --unopened` writes")
-    return lines
 
 
 def _refuse_empty(night: Night) -> None:

@@ -83,9 +83,9 @@ class Happening:
         if sent.arrived is None:
             return "nothing says whether it came"
         if place in self.night.shown:
-            what = "it came" if sent.arrived else "it did not come, or that a state of it was refused"
+            what = "it came" if sent.arrived else "it did not come in time, or that a state of it was refused"
             return f"later messages of {receiver} show that {what}"
-        return f"it came to {receiver}" if sent.arrived else f"it is not in the capture of {receiver} (lost on the way, or not captured)"
+        return f"it came to {receiver}" if sent.arrived else f"it is not in the capture of {receiver} (lost on the way, late, or not captured)"
 
     def _come(self, place: int) -> None:
         """The frame came, or was lost; one of which nothing is known comes at once."""

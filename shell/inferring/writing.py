@@ -90,11 +90,7 @@ def _agreement(happening: Happening, setting: Setting) -> Iterator[str]:
     yield f"Not compared: {', '.join([*['rules'] * (not setting.has_rules), *_NOT_COMPARED])}."
     unexplained = happening.causes.unexplained
     if unexplained:
-        why = "no packets that the laboratory passes lead to the levels, or the keys are not known"
-        yield f"{counted(unexplained, 'record')} could not be explained: {why}."
-    if happening.causes.blocked:
-        of = "as they do with states of other interfaces than theirs"
-        yield f"Of {happening.causes.blocked} of these the rules block the first packet, {of}."
+        yield f"{counted(unexplained, 'record')} could not be explained: the comments in {_they(unexplained, 'their places', 'its place')} say why."
     yield f"The first frame that parts: {it.first}." if it.first else "No frame parts."
 
 

@@ -201,7 +201,7 @@ class Findings(CaptureCase):
         self.assertEqual(came, f"frame 5 of b asks for {ONE}  {FLOW}: {before}: the state was {refused}; {end}")
         never = self.request((10, "a", update, True), (20, "b", ask, True))
         self.assertEqual(
-            never, f"frame 4 of b asks for {ONE}  (its flow is not known here): no frame here has brought it; no answer of a is here"
+            never, f"frame 4 of b asks for {ONE}  (its flow is not known here): no frame that is known here has brought it; no answer of a is here"
         )
         lost = self.request((0, "a", update, True), (10, "b", ask, True), (20, "a", answer, False))
         self.assertTrue(lost.endswith("; answered in frame 5 after 10.000 ms, which is not in the capture of b"), lost)
@@ -437,7 +437,7 @@ class Alone(CaptureCase):
             (50, "b", asked(2), True),
         )
         said = self.run_with(self.file("A.pcap", both(given)[0]), "--a", A)
-        later = "later frames show that 3 came and 1 did not come, or a state of it was not kept"
+        later = "later frames show that 3 came and 1 did not come in time, or a state of it was not kept"
         self.assertIn(f"a -> b: 6 frames: no capture says whether 6 came ({later})", said.out)
         came = [it.split("  ")[3] for it in said.out if "  a -> b  " in it]
         self.assertEqual(
@@ -445,7 +445,7 @@ class Alone(CaptureCase):
             [
                 "not known whether it came",
                 f"came, since b knows {ONE} in frame 6",
-                f"did not come, or a state of it was not kept: b asks for {TWO} in frame 8",
+                f"did not come in time, or a state of it was not kept: b asks for {TWO} in frame 8",
                 f"came, since b acknowledges {THREE} in frame 6",
                 "came, since b asks for a state of it in frame 8",
                 "not known whether it came",

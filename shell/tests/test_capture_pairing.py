@@ -12,7 +12,7 @@ from ..captures.files import BadCapture
 from ..captures.pairing import Overlay, Sent
 from ..captures.sides import NoSuchSender
 from . import capture_files as made
-from .capture_cases import MILLISECOND, WAY, CaptureCase, Given, both
+from .capture_cases import MILLISECOND, WAY, CaptureCase, Given, both, captures
 from .capture_files import A, B, ETHERNET, NOON, PFSYNC, SECOND, ethernet, group, ip, message, name, pcap, pcapng, sent
 
 HOUR = 3600 * SECOND
@@ -71,7 +71,8 @@ def own(node: str, ahead: int = 0) -> bytes:
 def fates(those: List[Sent]) -> List[Tuple[int, str, Optional[bool]]]:
     return [(it.message.records[0].id, it.node, it.arrived) for it in those]
 
-# How the sides are known by who saw a message first.
+# A guess of the sides, by something; and how they are known by who saw a message first.
+GUESS = "a guess: {}, and nothing else shows it clearly; --a ADDRESS says it"
 FIRST = "messages are in the capture of the sender first, {} ms before the other, the difference of the clocks taken off"
 
 class Laid(CaptureCase):
@@ -130,8 +131,8 @@ class Laid(CaptureCase):
         self.assertEqual(it.nodes, {B: "a", A: "b"})
 
     def test_a_way_that_is_too_short_to_be_seen(self) -> None:
-        """Where times are in microseconds, and as many of each node are late: only what is far from even decides."""
-        for lost_of_a, lost_of_b, is_guess in ((2, 0, False), (1, 0, True), (4, 1, False), (3, 1, True)):
+        """Where times are in microseconds, and as many of each node are late: what one capture alone has makes a guess."""
+        for lost_of_a, lost_of_b in ((2, 0), (1, 0), (4, 1), (3, 1)):
             given = [(10.0 * nth, "ab"[nth % 2], deletion(nth), True) for nth in range(40)]
             for nth in range(lost_of_a):
                 given[10 + 2 * nth] = (*given[10 + 2 * nth][:3], False)
@@ -139,22 +140,30 @@ class Laid(CaptureCase):
             at_a = [it for nth, it in enumerate(given) if not (lost_of_b and nth == 4)]
             files = [pcap([(at(it), packet(it)) for it in its if it[1] == node or it[3]]) for its, node in ((at_a, "a"), (given, "b"))]
             it = self.overlay(*files).sides
-            self.assertEqual((it.nodes, it.is_guess), ({A: "a", B: "b"}, is_guess), (lost_of_a, lost_of_b))
+            self.assertEqual((it.nodes, it.is_guess), ({A: "a", B: "b"}, True), (lost_of_a, lost_of_b))
+            alone = "1 message is" if lost_of_a == 1 else f"{lost_of_a} messages are"
             but = ", and 1 in the other alone" * lost_of_b
-            guess = "a guess, since neither the time of the way nor what one capture alone has shows it clearly; --a ADDRESS says it"
-            self.assertEqual(it.why, guess if is_guess else f"{lost_of_a} messages are in the capture of the sender alone{but}")
+            self.assertEqual(it.why, GUESS.format(f"{alone} in the capture of the sender alone{but}"))
 
     def test_messages_of_the_same_bytes_count_each(self) -> None:
         """Of fourteen messages of a, twelve are lost, ten of these of the same bytes as the last one, which comes."""
         given = [(1000.0 * nth, "a", deletion(min(nth, 3)), nth in (0, 13)) for nth in range(14)]
         for files, node in ((both(given), "a"), (both(given)[::-1], "b")):
             it = self.overlay(*files).sides
-            self.assertEqual(it.said(), f"{node} is {A}: 12 messages are in the capture of the sender alone")
+            self.assertEqual(it.said(), f"{node} is {A}: {GUESS.format('12 messages are in the capture of the sender alone')}")
 
     def test_of_many_messages_a_part_is_compared(self) -> None:
         given = [(1.0 * nth, "a", deletion(nth), nth % 2 == 0) for nth in range(20_001)]
         why = self.overlay(*both(given)).sides.why
-        self.assertRegex(why, r"^of those that are compared, [0-9]+ messages are in the capture of the sender alone$")
+        self.assertRegex(why, r"^a guess: of those that are compared, [0-9]+ messages are in the capture of the sender alone, and nothing else")
+
+    def test_a_tcpdump_that_misses_what_its_own_node_sends(self) -> None:
+        """Two frames of a are in the capture of b alone: nothing was lost, and who saw a frame first says whose captures they are."""
+        given = [(10.0 * nth, "ab"[nth % 2], deletion(nth), True) for nth in range(40)]
+        a, b = (sorted(it, key=lambda one: one[0]) for it in captures(given, 0))
+        files = (pcap(its, ETHERNET, nanoseconds=True) for its in ([it for nth, it in enumerate(a) if nth not in (4, 8)], b))
+        it = self.overlay(*files).sides
+        self.assertEqual((it.nodes, it.is_guess, it.why), ({A: "a", B: "b"}, False, FIRST.format("0.200")))
 
     def test_an_address_that_sent_nothing(self) -> None:
         with self.assertRaises(NoSuchSender) as why:

@@ -4,7 +4,6 @@ from __future__ import annotations
 
 import io
 import os
-import re
 import subprocess
 import sys
 from contextlib import redirect_stderr, redirect_stdout
@@ -348,7 +347,7 @@ class Options(OpeningCase):
     def test_faults(self) -> None:
         rules = self.file("rules.pfl", "rule a pass sideways\n")
         said = self.opened(WEB, WEB, "--rules", rules)
-        self.assertEqual((said.status, said.err[-1]), (2, "lab: rules.pfl:1: bad 5 Number"))
+        self.assertEqual((said.status, said.err[-1]), (2, "lab: rules.pfl:1: bad 5 Number; --rules takes a setup, such as `import --unopened` writes"))
         for path in ("a", "b"):
             said = self.opened_with(self.file("a", WEB), self.file("b", WEB), "--out", str(self.room / path))
             self.assertEqual(said.status, 2)

@@ -25,6 +25,8 @@ CONNECTION = (
     "packet a in tcp 192.0.2.9:80 10.0.0.1:1000 SA 500 101 1000 0",
     "packet a out tcp 10.0.0.1:1000 192.0.2.9:80 A 101 501 1000 0",
 )
+# Why pf blocked what passes here.
+GONE = "on the pair what would have brought it did not come or was not kept, or it was gone"
 # The second frame comes, whose state b does not have and asks for, and a sends all of it.
 ASKED = ["flush a", "deliver 2", "flush b", "deliver 3", "flush a", "deliver 4"]
 
@@ -51,7 +53,7 @@ class Scripts(Nights):
         wanted = [QUERY, "flush a", "lose 1", "tick a 3000", "tick b 3000", "packet a in udp 192.0.2.9:53 10.0.0.1:1000 40"]
         self.assertEqual([*wanted, *ASKED], made.events)
         self.assertEqual(1, made.status)
-        self.assertIn("# 00:00:00.000000 frame 1 of a; it is not in the capture of b (lost on the way, or not captured)", made.script)
+        self.assertIn("# 00:00:00.000000 frame 1 of a; it is not in the capture of b (lost on the way, late, or not captured)", made.script)
         self.assertIn("# The records in these agree in levels (all 3), class (all 3), keys (all 2).", made.script)
 
     def test_what_is_said(self) -> None:
@@ -112,8 +114,7 @@ class Scripts(Nights):
         self.assertEqual([], made.events)
         self.assertIn(f"# {NAME}: its keys are in no message, so nothing is stepped for it", made.script)
         self.assertIn("# parts: nothing is pending here, so no frame is sent", made.script)
-        why = "no packets that the laboratory passes lead to the levels, or the keys are not known"
-        self.assertIn(f"# 1 record could not be explained: {why}.", made.script)
+        self.assertIn("# 1 record could not be explained: the comments in its place say why.", made.script)
 
     def without_first_message(self, path: str) -> None:
         """Takes the second packet out of a capture: the first one shows only that it has begun."""
@@ -130,7 +131,7 @@ class Scripts(Nights):
         lab = self.ran([QUERY, "flush a", "lose 1", "tick a 50", "tick b 50", ANSWER.format("a"), *ASKED])
         made = self.infer(self.captured(lab, lab.branch("main"))[:1])
         self.assertEqual(["lose 1", "deliver 2"], [it for it in made.events if it in ("lose 1", "deliver 1", "deliver 2")])
-        shown = "later messages of b show that it did not come, or that a state of it was refused"
+        shown = "later messages of b show that it did not come in time, or that a state of it was refused"
         self.assertIn(f"# 00:00:00.000000 frame 1 of a; {shown}", made.script)
         self.assertIn("# Of 2 frames no capture says whether they came: later ones of the receiver show it.", made.script)
         self.assertIn("# Of 1 frame no capture says whether it came: here it comes at once, since nothing shows it.", made.script)
@@ -152,7 +153,7 @@ class Scripts(Nights):
         made = self.inferred([QUERY, "flush a", "lose 1"], *self.log("b", answer, time=500 * 10**6))
         self.assertEqual([QUERY, "flush a", "lose 1", "tick a 500", "tick b 500", ANSWER.format("b")], made.events)
         self.assertIn("rule b block in quick proto udp from 192.0.2.9/32 fport 53 to 10.0.0.1/32 tport 1000", made.script)
-        lost = "frame 1 of a had it 500.000 ms before, and is not in the capture of b (lost on the way, or not captured)"
+        lost = "frame 1 of a had it 500.000 ms before, and is not in the capture of b (lost on the way, late, or not captured)"
         self.assertIn(f"# blocked here, too, for want of a state: {lost}", made.script)
         self.assertIn("# Rules that are made of the log block 1 of them: that these are blocked here says nothing.", made.script)
         head = "1 packet that pf logged as blocked, of 1 flow; in the script 1 blocked for the same reason"
@@ -179,7 +180,7 @@ class Scripts(Nights):
         """By the frames b has the state, and the log says that it blocked a packet of it."""
         answer = PacketEvent("b", "in", "udp", "192.0.2.9:53", "10.0.0.1:1000", 80)
         made = self.inferred([QUERY, "flush a", "deliver 1"], *self.log("b", answer, time=500 * 10**6))
-        why = "b has its state, by frame 1 of a, which came: so a frame was refused there, or the state was gone"
+        why = f"b has its state, by frame 1 of a, which came; {GONE}"
         self.assertIn(f"# here it passes: {why}", made.script)
         self.assertIn("# Of 1 packet that pf logged as blocked, 1 is passed here.", made.script)
 
@@ -189,7 +190,7 @@ class Scripts(Nights):
         lab = self.ran([QUERY, "flush a", "deliver 1"])
         made = self.infer(self.captured(lab, lab.branch("main"))[:1], *self.log("b", answer, time=500 * 10**6))
         has = "by frame 1 of a, of which nothing says whether it came: here it did"
-        self.assertIn(f"# here it passes: b has its state, {has}: so a frame was refused there, or the state was gone", made.script)
+        self.assertIn(f"# here it passes: b has its state, {has}; {GONE}", made.script)
         self.assertIn("How the clock of b differs from that of a is not known", " ".join(made.said))
 
     def test_a_state_that_was_gone(self) -> None:
@@ -247,8 +248,8 @@ class Scripts(Nights):
         data, rules = self.save("data-a.pcap", pcap(its, 1)), self.save("pair.pfl", b"rule a block any\nrule a pass out\n")
         made = self.infer(self.captured(lab, lab.branch("main")), "--data-a", data, "--rules", rules)
         self.assertEqual([outside, *events[2:], "flush a", "deliver 2"], made.events)
-        said = "Of 1 of these the rules block the first packet, as they do with states of other interfaces than theirs."
-        self.assertIn(f"# {said}", made.script)
+        why = "rule 0 of a (block any) blocks its first packet, and on the pair it passed"
+        self.assertIn(why, " ".join(it.lstrip("# ") for it in made.script))
 
     def test_which_way_is_not_known(self) -> None:
         """Neither end is one of a flow that a message tells of."""
