@@ -9,7 +9,7 @@ from .files import NANOSECONDS
 from .pairing import Sent
 
 # How long a state is remembered after its deletion, and after its time is up.
-_REMEMBERED = 120 * NANOSECONDS
+REMEMBERED = 10 * NANOSECONDS
 # (in seconds)
 _OVERDUE = 60
 # How many requests for a state wait for one answer.
@@ -193,7 +193,7 @@ class Table:
         """Notes that a node deleted a state."""
         state.is_alive, state.deleted = False, frame
         self._deleted.append((frame.time, state))
-        while self._deleted and (self._deleted[0][0] + _REMEMBERED < frame.time or len(self._deleted) > _MOST_DELETED):
+        while self._deleted and (self._deleted[0][0] + REMEMBERED < frame.time or len(self._deleted) > _MOST_DELETED):
             _, old = self._deleted.popleft()
             if not old.is_alive:
                 self._forget(old)

@@ -140,8 +140,8 @@ class Overlay:
         return min(it.compared for it in self.surveys)
 
     def _entries(self, which: int) -> Iterator[_Entry]:
-        """The messages of a capture, by the clock of a. Where it has most of them twice, each is one; but what comes from the other node may
-        be repeated on the way, which the other capture tells apart."""
+        """The messages of a capture, by the clock of a. Where it has most of them twice, each is one; but what comes from the other node
+        may be repeated on the way, which the other capture tells apart."""
         survey, nodes, to_a = self.surveys[which], self.sides.nodes, self.sides.clocks.to_a
         is_own, is_alone, is_doubled = survey.is_own, len(self.surveys) == 1, survey.is_doubled
         before, before_time, before_node = b"", 0, ""

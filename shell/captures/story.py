@@ -23,7 +23,7 @@ from .bulk import Bulk
 from .decoding import Decoded, Peer, Record
 from .files import NANOSECONDS
 from .findings import Findings, Kind
-from .known import Asked, Frame, Known, Last, Lost, LostFrame, LostState, Run, Table, flow_keys
+from .known import REMEMBERED, Asked, Frame, Known, Last, Lost, LostFrame, LostState, Run, Table, flow_keys
 from .pairing import Sent
 from .wording import OTHER, UNKNOWN_FLOW, cleared, flow_words, lasting, some, summary
 
@@ -393,7 +393,7 @@ def is_behind(old: Peer, new: Peer, is_tcp: bool) -> bool:
 def _why_asked(frame: Frame, whole: Optional[Frame], gone: str) -> str:
     """Why a node may lack a state that it asks for: the last frame with it, and what may have taken it away since."""
     if whole is None:
-        return "no frame that is known here has brought it"
+        return f"no frame here has brought it, unless it was gone more than {REMEMBERED // NANOSECONDS} s before"
     before = f"frame {whole.number} had it {lasting(frame.time - whole.time)} before"
     if whole.arrived is False:
         return f"{before}, and is not in the capture of {frame.node}"

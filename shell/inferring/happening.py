@@ -85,7 +85,9 @@ class Happening:
         if place in self.night.shown:
             what = "it came" if sent.arrived else "it did not come in time, or that a state of it was refused"
             return f"later messages of {receiver} show that {what}"
-        return f"it came to {receiver}" if sent.arrived else f"it is not in the capture of {receiver} (lost on the way, late, or not captured)"
+        if sent.arrived:
+            return f"it came to {receiver}"
+        return f"it is not in the capture of {receiver} (lost on the way, late, or not captured)"
 
     def _come(self, place: int) -> None:
         """The frame came, or was lost; one of which nothing is known comes at once."""

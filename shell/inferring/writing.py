@@ -90,7 +90,8 @@ def _agreement(happening: Happening, setting: Setting) -> Iterator[str]:
     yield f"Not compared: {', '.join([*['rules'] * (not setting.has_rules), *_NOT_COMPARED])}."
     unexplained = happening.causes.unexplained
     if unexplained:
-        yield f"{counted(unexplained, 'record')} could not be explained: the comments in {_they(unexplained, 'their places', 'its place')} say why."
+        places = _they(unexplained, "their places", "its place")
+        yield f"{counted(unexplained, 'record')} could not be explained: the comments in {places} say why."
     yield f"The first frame that parts: {it.first}." if it.first else "No frame parts."
 
 

@@ -201,7 +201,9 @@ class Findings(CaptureCase):
         self.assertEqual(came, f"frame 5 of b asks for {ONE}  {FLOW}: {before}: the state was {refused}; {end}")
         never = self.request((10, "a", update, True), (20, "b", ask, True))
         self.assertEqual(
-            never, f"frame 4 of b asks for {ONE}  (its flow is not known here): no frame that is known here has brought it; no answer of a is here"
+            never,
+            f"frame 4 of b asks for {ONE}  (its flow is not known here): no frame here has brought it, unless it was gone more than 10 s before;"
+            " no answer of a is here",
         )
         lost = self.request((0, "a", update, True), (10, "b", ask, True), (20, "a", answer, False))
         self.assertTrue(lost.endswith("; answered in frame 5 after 10.000 ms, which is not in the capture of b"), lost)
