@@ -158,6 +158,7 @@ class Check:
 
     lane: Lane
     process: subprocess.Popen[bytes]
+    jobs: int
 
 
 class Build:
@@ -166,9 +167,8 @@ class Build:
     def __init__(self, crates: Crates, program: str, room: str, progress: Progress):
         self.crates, self.program, self.progress = crates, program, progress
         self.idle = [Lane(f"{room}/{it}") for it in range(checks_at_once())]
-        self.jobs = str(jobs_of_check())
-        length = chains(crates, progress.costs)
-        self.left = sorted(crates, key=lambda it: -length[it])
+        self.length = chains(crates, progress.costs)
+        self.left = sorted(crates, key=lambda it: -self.length[it])
         self.running: Dict[str, Check] = {}
         self.seconds: Dict[str, float] = {}
 
@@ -191,11 +191,14 @@ class Build:
 
     def begin(self) -> None:
         """Begins checks while there are lanes for them, the one with the most expensive chain above it first."""
-        for name in [it for it in self.left if self.is_ready(it)][: len(self.idle)]:
-            words = ["run", "--jobs", self.jobs, "--", "--help"] if name == self.program else ["lib", "--jobs", self.jobs]
+        ready = [it for it in self.left if self.is_ready(it)][: len(self.idle)]
+        for place, name in enumerate(ready):
+            is_first = self.length[name] >= max(self.length[it] for it in (*self.running, *ready))
+            jobs = jobs_of_check(sum(it.jobs for it in self.running.values()), len(ready) - place, is_first)
+            words = ["run", "--jobs", f"{jobs}", "--", "--help"] if name == self.program else ["lib", "--jobs", f"{jobs}"]
             self.left.remove(name)
             lane = self.idle.pop()
-            self.running[name] = Check(lane, lane.prove(name, words, not self.running))
+            self.running[name] = Check(lane, lane.prove(name, words, is_first), jobs)
 
     def take_done(self) -> Optional[str]:
         """Keeps what the checks that have ended have made; returns the name of one that failed, if any."""

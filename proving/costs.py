@@ -73,17 +73,21 @@ def checks_at_once() -> int:
     return max(1, min(processors(), memory() // MEMORY))
 
 
-def jobs_of_check() -> int:
-    """How many jobs a check gets: one for each processor, so that a check that runs alone takes them all, as far as memory goes."""
-    return max(1, min(processors(), memory() // checks_at_once() // MEMORY_OF_JOB - 1))
+def jobs_of_check(given: int, ready: int, is_first: bool) -> int:
+    """How many jobs the next of the checks that are ready gets, where those that run have been given some: its share of the processors
+    that are left, and half of all if it is on the dearest chain, as far as memory goes. Each job states anew what the crate is stated
+    over, so that a job more costs processor seconds."""
+    share = max(-(-(processors() - given) // ready), processors() // 2 if is_first else 1)
+    return max(1, min(share, memory() // ready // MEMORY_OF_JOB - 1))
 
 
 class Estimate:
     """The course of a build, second by second, if the checks under way took equal shares of the processors, and none of them more than
     it has jobs."""
 
-    def __init__(self, crates: Crates, seconds: Dict[str, float], at_once: int, jobs: int):
-        self.crates, self.at_once, self.jobs = crates, at_once, jobs
+    def __init__(self, crates: Crates, seconds: Dict[str, float], at_once: int):
+        self.crates, self.at_once = crates, at_once
+        self.jobs: Dict[str, int] = {}
         self.chains = chains(crates, seconds)
         self.alone = {name: ALONE * seconds[name] for name in crates}
         self.shared = {name: seconds[name] - self.alone[name] for name in crates}
@@ -97,13 +101,20 @@ class Estimate:
 
     def go_on(self) -> None:
         """A second passes."""
-        ready = [it for it in self.alone if not any(lib in self.alone for lib in self.crates[it].libraries)]
-        running = sorted(ready, key=lambda it: -self.chains[it])[: self.at_once]
-        share = processors() / len(running)
-        for name in running:
+        self.begin()
+        share = processors() / len(self.jobs)
+        for name in list(self.jobs):
             if self.alone[name] > 0:
                 self.alone[name] -= min(1.0, share)
             else:
-                self.shared[name] -= min(share, self.jobs)
+                self.shared[name] -= min(share, self.jobs[name])
             if self.alone[name] <= 0 and self.shared[name] <= 0:
-                del self.alone[name]
+                del self.alone[name], self.jobs[name]
+
+    def begin(self) -> None:
+        """Gives jobs to the checks that begin, as a build does."""
+        ready = [it for it in self.alone if it not in self.jobs and not any(lib in self.alone for lib in self.crates[it].libraries)]
+        begun = sorted(ready, key=lambda it: -self.chains[it])[: self.at_once - len(self.jobs)]
+        for place, name in enumerate(begun):
+            is_first = self.chains[name] >= max(self.chains[it] for it in (*self.jobs, *begun))
+            self.jobs[name] = jobs_of_check(sum(self.jobs.values()), len(begun) - place, is_first)
