@@ -42,11 +42,24 @@ class Words(unittest.TestCase):
                 it = ran(*words.split())
                 self.assertEqual((it.returncode, it.stdout, it.stderr[:7]), (2, b"", b"error: "))
 
+    def test_what_the_first_fault_of_words_is(self) -> None:
+        for words, fault in (("fly", b"unrecognized subcommand 'fly'"), ("run now", b"unexpected argument 'now' found")):
+            with self.subTest(words):
+                self.assertTrue(ran(*words.split()).stderr.startswith(b"error: " + fault))
+
     def test_help_is_no_fault(self) -> None:
-        for words in ("--help", "serve --help"):
+        for words, first in (("--help", b"A laboratory for a pair of pf firewalls that share states by pfsync\n"), ("serve --help", b"")):
             with self.subTest(words):
                 it = ran(*words.split())
                 self.assertEqual((it.returncode, it.stderr), (0, b""))
+                self.assertTrue(it.stdout.startswith(first))
+
+    def test_a_run_goes_on_after_a_faulty_line_and_a_check_counts_the_others(self) -> None:
+        script = b"rule a pass out\nopen\n# nothing to undo\nback main 0\nview\nnames\n"
+        for word, written in (("run", b"at 0\nbad 3 Unknown\nnames main\n"), ("check", b"line 5 bad 3 Unknown\ngood 2\n")):
+            with self.subTest(word):
+                it = ran(word, given=script)
+                self.assertEqual((it.returncode, it.stdout, it.stderr), (1, written, b""))
 
     def test_words_with_an_empty_script(self) -> None:
         for words in (

@@ -6,15 +6,15 @@ import http.server
 import select
 import signal
 import socket
-import subprocess
 import threading
 import time
 import unittest
-from typing import Iterator, List, Sequence, Tuple
+from typing import Iterator, List, Sequence
 
 from .browsers import Browser, driver_of_module
-from .followers import QUERY, STEP, Followers
-from .servers import RULES, Proved, proved_server
+from .followers import QUERY, STEP
+from .served import PROMPT, End, Served
+from .servers import RULES
 from ..programs import VIEW, Client, commands_of
 
 REPORT = "pfl_lab: a browser was turned away"
@@ -23,8 +23,6 @@ LINES = f"{LINE}\n{LINE}\n"
 NOBODY = ["log main events 0 cursor 0", "end"]
 # How long a server waits for the first bytes of a connection, in seconds, and how long it is certain that it has waited long enough.
 FIRST, LONGER = 0.02, 0.3
-# In how many seconds something is there that takes some milliseconds: the machine may do other work.
-PROMPT = 10.0
 # How long a browser may take until all that it was told to send is sent.
 SENDING = 1.0
 # Methods that need the whole line of their request: a word of sessions, and what begins as a comment. And a length that no line of a session has.
@@ -57,15 +55,8 @@ def request(method: str = "POST", target: str = "/", body: str = LINES) -> bytes
     ).encode()
 
 
-class Turned(Followers):
-    """Tests over a server of two sessions, whose end is looked at."""
-
-    proved: Proved
-
-    def serve(self, sessions: int = 2, setup: Sequence[str] = RULES, port: int = 0) -> int:
-        self.proved = self.ends.enter_context(proved_server(sessions, setup, subprocess.PIPE, port))
-        self.proved.process.stdin = None
-        return self.proved.port
+class Turned(Served):
+    """Tests over a server of two sessions."""
 
     @contextlib.contextmanager
     def held(self) -> Iterator[None]:
@@ -110,16 +101,11 @@ class Turned(Followers):
         self.assertEqual(clients[-1].ask("show main")[0], "branch main events 1 cursor 1")
         self.assertEqual([commands_of(it.ask(VIEW)[0]) for it in clients], [3] * len(clients))
 
-    def end(self, clients: Sequence[Client]) -> Tuple[List[str], List[str], int]:
-        """What the server writes once these sessions have ended, what it has reported, and its status."""
-        for it in clients:
-            it.close()
-        out, faults = self.proved.process.communicate(timeout=PROMPT)
-        return out.splitlines(), faults.splitlines(), self.proved.process.returncode
-
     def assert_ends(self, clients: Sequence[Client], reports: int) -> None:
         """That the sessions end with the three commands of `assert_nothing_taken`, and as many browsers were turned away."""
-        self.assertEqual(self.end(clients), (["closed 3"], [REPORT] * reports, 0))
+        for it in clients:
+            it.close()
+        self.assertEqual(self.end(), End(["closed 3"], [REPORT] * reports, 0))
 
 
 class Requests(Turned):
@@ -234,7 +220,7 @@ class Requests(Turned):
         for it in strangers:
             it.sendall(request())
             self.assert_shut(it)
-        self.assertEqual(self.end([]), (["closed 0"], [REPORT] * 2, 0))
+        self.assertEqual(self.end(), End(["closed 0"], [REPORT] * 2, 0))
 
     def test_what_is_no_request(self) -> None:
         unknown = (" POST /", "POST\t/", "POST  /", "POST", "POST x/", "/", "step / HTTP/1.1 x", "step /x HTTP/2", "x" * 512, " / HTTP/1.1")
@@ -252,7 +238,7 @@ class Requests(Turned):
                     self.assertEqual(commands_of(next(lines)), int(line.startswith("show")))
                 for it in clients:
                     it.close()
-                self.assertEqual(self.end([]), ([f"closed {int(line.startswith('show'))}"], [], 0))
+                self.assertEqual(self.end(), End.after(int(line.startswith("show"))))
 
     def test_a_request_after_other_lines(self) -> None:
         port = self.serve()

@@ -1,24 +1,82 @@
-"""The wrong bodies of crates: each edit fits the sources, so that `./wrong-bodies` and the gate can try it."""
+"""The wrong bodies of crates: each edit fits the sources, so that `./wrong-bodies` and the gate can try it, and callers see what it edits."""
 from __future__ import annotations
 
+import functools
+import re
 import runpy
 import unittest
+from pathlib import Path
+from typing import Dict, Iterator, List, Tuple
 
 from . import TOP
+
+FUNCTION = re.compile(r" *(?P<pub>pub )?(?:pub\(\w+\) )?(?:const )?(?:unsafe )?fn (?P<name>\w+)")
+BLOCK = re.compile(r"(?:unsafe )?impl\b|(?:pub )?trait ")
+ANGLES = re.compile(r"<[^<>]*>")
+
+
+def read(path: Path) -> str:
+    return path.read_text(encoding="utf-8")
+
+
+class Seen:
+    """What callers outside a crate see: what its `lib.rt` declares and passes on, by name."""
+
+    def __init__(self, folder: Path) -> None:
+        passed_on = re.findall(r"^pub use [^;]*|^pub (?:fn|struct|enum|trait) \w+", read(folder / "src/lib.rt"), re.MULTILINE)
+        self.names = set(re.findall(r"\w+", " ".join(passed_on)))
+        self.text = "\n".join(read(it) for it in folder.glob("src/**/*.rt"))
+
+    def has_block(self, head: str) -> bool:
+        """Whether callers see the trait of this head, or the type of this `impl`; of another crate's type, whether they see the trait, or
+        what is given to it."""
+        plain = head
+        while ANGLES.search(plain):
+            plain = ANGLES.sub("", plain)
+        name = re.findall(r"\w+", plain)[-1]
+        if re.search(rf"(?:struct|enum|trait) {name}\b", self.text):
+            return name in self.names
+        return bool(self.names & set(re.findall(r"\w+", head)))
+
+    def has_line(self, lines: List[str], at: int) -> bool:
+        """Whether callers see the function that a line is in. What is in no function, as a constant, is of those that use it."""
+        start = next((i for i in range(at, -1, -1) if FUNCTION.match(lines[i]) or lines[i].startswith("}")), 0)
+        function = FUNCTION.match(lines[start])
+        if not function:
+            return True
+        if not lines[start].startswith(" "):
+            return bool(function["pub"]) and function["name"] in self.names
+        top = next(i for i in range(start, -1, -1) if BLOCK.match(lines[i]))
+        head = re.split(r"\bwhere\b|{", " ".join(lines[top:start]))[0]
+        is_of_trait = " for " in head or "trait " in head
+        return (is_of_trait or bool(function["pub"])) and self.has_block(head)
+
+
+seen_of = functools.lru_cache(maxsize=None)(Seen)
+
+
+def changed(folder: Path, texts: Dict[str, str]) -> Iterator[Tuple[List[str], int]]:
+    """The lines that an edit changes, each as the lines of its file and its place among them."""
+    for path, text in texts.items():
+        lines = read(folder / path).split("\n")
+        yield from ((lines, at) for at, line in enumerate(text.split("\n")) if line != lines[at])
 
 
 class Fit(unittest.TestCase):
     """What `./wrong-bodies` makes of an edit, before any check."""
 
-    def test_each_one_fits_the_sources(self) -> None:
+    def test_each_one_fits_the_sources_and_a_public_function(self) -> None:
         tool = runpy.run_path(f"{TOP}/wrong-bodies")
         for crate in tool["crates_listed"]():
+            folder = Path(TOP, "crates", crate)
             for body in tool["bodies_of"](crate):
                 with self.subTest(body=tool["name_of"](body), crate=crate):
                     try:
-                        tool["edited"](body, f"{TOP}/crates/{crate}")
+                        texts = tool["edited"](body, str(folder))
                     except tool["Unfit"] as fault:
                         self.fail(fault)
+                    seen = seen_of(folder)
+                    self.assertTrue(any(seen.has_line(*it) for it in changed(folder, texts)), "no caller sees what it edits")
 
 
 if __name__ == "__main__":
