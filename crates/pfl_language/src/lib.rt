@@ -3,6 +3,7 @@
 //! said to.
 #![tactic(auto)]
 
+mod ask;
 mod branch_word;
 mod choice;
 mod command;
@@ -15,6 +16,7 @@ mod outcome;
 mod refused;
 mod retried;
 
+pub use ask::Ask;
 pub use branch_word::BranchWord;
 pub use choice::{Choice, Move};
 pub use command::Command;

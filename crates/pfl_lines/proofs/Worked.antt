@@ -18,6 +18,7 @@ use Rattle.pfl_language.specs.declared.goal.Question.TheVariants.{Apart, Differ,
 use Rattle.pfl_language.specs.declared.goal.Scope.{Scope}
 use Rattle.pfl_language.specs.declared.goal.Scope.TheVariants.{Everywhere, Landed, Quiet, Settled}
 use Rattle.pfl_language.specs.BranchWords.{main_name}
+use Rattle.pfl_language.specs.declared.ask.Ask.TheVariants as ask
 use Rattle.pfl_language.specs.declared.command.Command.TheVariants as command
 use Rattle.pfl_language.specs.declared.node_event.NodeEvent.TheVariants as own
 use Rattle.pfl_lines.specs.declared.fault.LineFault.TheVariants.{Unknown, Missing, Number, Extra, Packet}
@@ -25,8 +26,8 @@ use Rattle.pfl_lines.specs.declared.search.ScriptLine.{ScriptLine}
 use Rattle.pfl_lines.specs.declared.search.ScriptLine.TheVariants as script
 use Rattle.pfl_lines.specs.declared.session.SessionLine.TheVariants as session
 use Rattle.pfl_lines.specs.Addresses.{end_of, v4_end, v4_of}
-use Rattle.pfl_lines.specs.Commands.{event_at, flush_at, packet_at, bare_frame_event_at, command_of, command_at, past_at, why_event_at, why_place_at}
-use Rattle.pfl_lines.specs.Commands.{why_at, frame_at, step_at, whole_step, whole_why, parsed}
+use Rattle.pfl_lines.specs.Commands.{event_at, flush_at, packet_at, bare_frame_event_at, command_of, command_at, ask_at, why_event_at}
+use Rattle.pfl_lines.specs.Commands.{numbered_ask_at, step_at, whole_step, whole_why, whole_on, parsed}
 use Rattle.pfl_lines.specs.Numbers.{number_of}
 use Rattle.pfl_lines.specs.Packets.{fields_at, plain_at}
 use Rattle.pfl_lines.specs.Search.{parsed_script, script_of, search_of, each_choice, choice_of, move_of, move_at, given_at, any_frame_at}
@@ -36,8 +37,8 @@ use Rattle.pfl_lines.specs.Session.{follow_after, session_of, parsed_session}
 
 -- what events and commands need to compute on literals
 unfoldable of_commands : ℕ
-unfolding number_of v4_of v4_end end_of plain_at fields_at packet_at flush_at bare_frame_event_at event_at step_at past_at why_event_at
-    why_place_at why_at frame_at command_at whole_step whole_why command_of
+unfolding number_of v4_of v4_end end_of plain_at fields_at packet_at flush_at bare_frame_event_at event_at step_at why_event_at
+    numbered_ask_at ask_at command_at whole_step whole_why whole_on command_of
 of_commands = 0
 
 -- what goals need
@@ -193,21 +194,21 @@ other_word : parsed_script (codes "search; main 8 100 apart") ≡ Err Unknown
 unfolding computing
 other_word = refl
 
-stepped : parsed_script (codes "step main flush a") ≡ Ok (script.Command (command.Step main_name (event.Flush A)))
+stepped : parsed_script (codes "step main flush a") ≡ Ok (script.Command (command.On main_name (ask.Step (event.Flush A))))
 unfolding computing
 stepped = refl
 
 -- ---- an earlier pair
 
-past_script : parsed_script (codes "past main 3") ≡ Ok (script.Command (command.Past main_name 3))
+past_script : parsed_script (codes "past main 3") ≡ Ok (script.Command (command.On main_name (ask.Past 3)))
 unfolding computing
 past_script = refl
 
-past_opening : parsed (codes "  past  main  000  ") ≡ Ok (command.Past main_name 0)
+past_opening : parsed (codes "  past  main  000  ") ≡ Ok (command.On main_name (ask.Past 0))
 unfolding computing parsed
 past_opening = refl
 
-past_greatest : parsed (codes "past main 4294967295") ≡ Ok (command.Past main_name 4294967295)
+past_greatest : parsed (codes "past main 4294967295") ≡ Ok (command.On main_name (ask.Past 4294967295))
 unfolding computing parsed
 past_greatest = refl
 
@@ -235,7 +236,7 @@ past_other_word : parsed (codes "pasts main 3") ≡ Err Unknown
 unfolding computing parsed
 past_other_word = refl
 
-why_script : parsed_script (codes "why main 3") ≡ Ok (script.Command (command.Why main_name 3))
+why_script : parsed_script (codes "why main 3") ≡ Ok (script.Command (command.On main_name (ask.Why 3)))
 unfolding computing
 why_script = refl
 
@@ -255,12 +256,12 @@ why_no_number : parsed (codes "why main x") ≡ Err Number
 unfolding computing parsed
 why_no_number = refl
 
-why_event : parsed_script (codes "why main flush a") ≡ Ok (script.Command (command.WhyStep main_name (event.Flush A)))
+why_event : parsed_script (codes "why main flush a") ≡ Ok (script.Command (command.On main_name (ask.WhyStep (event.Flush A))))
 unfolding computing
 why_event = refl
 
 why_event_packet : parsed (codes "why main packet b in udp 192.0.2.9:53 10.0.0.1:1000 80")
-    ≡ Ok (command.WhyStep main_name (event.At B (own.Packet Inbound query)))
+    ≡ Ok (command.On main_name (ask.WhyStep (event.At B (own.Packet Inbound query))))
 unfolding computing parsed query
 why_event_packet = refl
 
@@ -287,11 +288,11 @@ why_event_no_branch = refl
 
 -- ---- a frame
 
-frame_script : parsed_script (codes "frame main 7") ≡ Ok (script.Command (command.Frame main_name 7))
+frame_script : parsed_script (codes "frame main 7") ≡ Ok (script.Command (command.On main_name (ask.Frame 7)))
 unfolding computing
 frame_script = refl
 
-frame_greatest : parsed (codes "frame main 4294967295") ≡ Ok (command.Frame main_name 4294967295)
+frame_greatest : parsed (codes "frame main 4294967295") ≡ Ok (command.On main_name (ask.Frame 4294967295))
 unfolding computing parsed
 frame_greatest = refl
 
@@ -312,7 +313,7 @@ frame_left_over = refl
 abbrev aside : List ℕ
 aside = codes "aside-2"
 
-back_line : (n : ℕ) → command_text (command.Back main_name n) ≡ codes "back main " ++ decimal n
+back_line : (n : ℕ) → command_text (command.On main_name (ask.Back n)) ≡ codes "back main " ++ decimal n
 back_line n = refl
 
 fork_line : (k : ℕ) → command_text (command.Fork main_name k aside) ≡ codes "fork main " ++ decimal k ++ codes " " ++ codes "aside-2"
@@ -321,10 +322,10 @@ fork_line k = refl
 drop_line : command_text (command.Drop aside) ≡ codes "drop aside-2"
 drop_line = refl
 
-why_line : (k : ℕ) → command_text (command.Why main_name k) ≡ codes "why main " ++ decimal k
+why_line : (k : ℕ) → command_text (command.On main_name (ask.Why k)) ≡ codes "why main " ++ decimal k
 why_line k = refl
 
-why_event_line : command_text (command.WhyStep main_name (event.Flush A)) ≡ codes "why main flush a"
+why_event_line : command_text (command.On main_name (ask.WhyStep (event.Flush A))) ≡ codes "why main flush a"
 unfolding event_text
 why_event_line = refl
 
@@ -379,7 +380,7 @@ follow_no_number_left_over : parsed_session (codes "follow x 2") ≡ Err Number
 unfolding of_sessions
 follow_no_number_left_over = refl
 
-asked : parsed_session (codes "step main flush a") ≡ Ok (session.Ask (command.Step main_name (event.Flush A)))
+asked : parsed_session (codes "step main flush a") ≡ Ok (session.Ask (command.On main_name (ask.Step (event.Flush A))))
 unfolding of_sessions
 asked = refl
 

@@ -23,6 +23,7 @@ use Rattle.pfl_lines.specs.declared.draft.EventDraft.{EventDraft}
 use Rattle.pfl_lines.specs.declared.draft.EventDraft.TheVariants as event_draft
 use Rattle.pfl_lines.specs.Commands.{packet_at, tick_at, kill_at, bare_node_event_at, flush_at, restart_at, cut_event_at, bare_frame_event_at}
 use Rattle.pfl_lines.specs.Commands.{event_at, whole_event, packet_unless}
+use Rattle.pfl_lines.specs.EventWords.{frame_event_word, node_event_word}
 use Rattle.pfl_lines.specs.Laws.{IsTyped, IsStateName, IsTypedEvent, is_mark}
 use Rattle.pfl_lines.specs.Numbers.{number_of, cut_at}
 use Rattle.pfl_lines.specs.Parts.{node_at, dir_at, name_of}
@@ -102,35 +103,17 @@ number n small = number-reads greatest n small (omega arith)
 pub event-reads : (e : Event) → IsTypedEvent e → event_at (event_words e) ≡ Ok (draft_of e, [])
 unfolding event_at tick_at kill_at bare_node_event_at flush_at restart_at cut_event_at bare_frame_event_at
 event-reads (events.At node (own.Packet dir p)) is = packet_reads node dir p is
-event-reads (events.Flush node) is = rw (node-reads node []) refl
-event-reads (events.Of ticket frame.Deliver) is = rw (number ticket is.0) refl
-event-reads (events.Of ticket frame.Lose) is = rw (number ticket is.0) refl
-event-reads (events.Of ticket frame.Repeat) is = rw (number ticket is.0) refl
-event-reads (events.Of ticket (frame.Cut len)) is = rw (number ticket is.0, number len is.1) refl
 event-reads (events.At node (own.Tick ms)) is = rw (node-reads node (decimal ms ∷ []), number-reads 18446744073709551615 ms (omega arith) is) refl
-event-reads (events.At node own.Purge) is = rw (node-reads node []) refl
-event-reads (events.At node own.Release) is = rw (node-reads node []) refl
 event-reads (events.At node (own.Kill name)) is = rw (node-reads node (name_text name ∷ []), name-reads name is) refl
-event-reads (events.At node own.Clear) is = rw (node-reads node []) refl
+event-reads (events.At node e) is = rw (node-reads node []) refl
+event-reads (events.Of ticket (frame.Cut len)) is = rw (number ticket is.0, number len is.1) refl
+event-reads (events.Of ticket e) is = rw (number ticket is.0) refl
+event-reads (events.Flush node) is = rw (node-reads node []) refl
 event-reads (events.Restart node) is = rw (node-reads node []) refl
-event-reads (events.At node own.BulkTurn) is = rw (node-reads node []) refl
-event-reads (events.At node own.BulkRetry) is = rw (node-reads node []) refl
 
 pub whole-reads : (e : Event) → IsTypedEvent e → whole_event (draft_of e) ≡ Ok e
 whole-reads (events.At node (own.Packet dir p)) is = ap (packet_unless node dir p) (packet-is p is.packet)
-whole-reads (events.Flush node) is = refl
-whole-reads (events.Of ticket frame.Deliver) is = refl
-whole-reads (events.Of ticket frame.Lose) is = refl
-whole-reads (events.Of ticket frame.Repeat) is = refl
-whole-reads (events.Of ticket (frame.Cut len)) is = refl
-whole-reads (events.At node (own.Tick ms)) is = refl
-whole-reads (events.At node own.Purge) is = refl
-whole-reads (events.At node own.Release) is = refl
-whole-reads (events.At node (own.Kill name)) is = refl
-whole-reads (events.At node own.Clear) is = refl
-whole-reads (events.Restart node) is = refl
-whole-reads (events.At node own.BulkTurn) is = refl
-whole-reads (events.At node own.BulkRetry) is = refl
+whole-reads e is = refl
 
 -- ---- the words of an event
 
@@ -163,32 +146,18 @@ name-plain name is =
 
 abbrev pub event_bounds : Event → List ℕ
 event_bounds (events.At node (own.Packet dir p)) = 6 ∷ 1 ∷ 3 ∷ fields_bounds p
-event_bounds (events.Flush node) = 5 ∷ 1 ∷ []
-event_bounds (events.Of ticket frame.Deliver) = 7 ∷ 10 ∷ []
-event_bounds (events.Of ticket frame.Lose) = 4 ∷ 10 ∷ []
-event_bounds (events.Of ticket frame.Repeat) = 6 ∷ 10 ∷ []
-event_bounds (events.Of ticket (frame.Cut len)) = 3 ∷ 10 ∷ 10 ∷ []
 event_bounds (events.At node (own.Tick ms)) = 4 ∷ 1 ∷ 20 ∷ []
-event_bounds (events.At node own.Purge) = 5 ∷ 1 ∷ []
-event_bounds (events.At node own.Release) = 7 ∷ 1 ∷ []
 event_bounds (events.At node (own.Kill name)) = 4 ∷ 1 ∷ 31 ∷ []
-event_bounds (events.At node own.Clear) = 5 ∷ 1 ∷ []
-event_bounds (events.Restart node) = 7 ∷ 1 ∷ []
-event_bounds (events.At node own.BulkTurn) = 4 ∷ 1 ∷ []
-event_bounds (events.At node own.BulkRetry) = 5 ∷ 1 ∷ []
+event_bounds (events.Of ticket (frame.Cut len)) = 3 ∷ 10 ∷ 10 ∷ []
+event_bounds (events.Of ticket e) = 7 ∷ 10 ∷ []
+event_bounds e = 7 ∷ 1 ∷ []
 
 pub event-plain : (e : Event) → IsTypedEvent e → ArePlain (event_bounds e) (event_words e)
 event-plain (events.At node (own.Packet dir p)) is = (plain-is 6 (codes "packet") refl, (node-plain node, (dir-plain dir, fields-plain p is)))
-event-plain (events.Flush node) is = (plain-is 5 (codes "flush") refl, (node-plain node, tt))
-event-plain (events.Of ticket frame.Deliver) is = (plain-is 7 (codes "deliver") refl, (number_plain ticket is.0, tt))
-event-plain (events.Of ticket frame.Lose) is = (plain-is 4 (codes "lose") refl, (number_plain ticket is.0, tt))
-event-plain (events.Of ticket frame.Repeat) is = (plain-is 6 (codes "repeat") refl, (number_plain ticket is.0, tt))
-event-plain (events.Of ticket (frame.Cut len)) is = (plain-is 3 (codes "cut") refl, (number_plain ticket is.0, (number_plain len is.1, tt)))
 event-plain (events.At node (own.Tick ms)) is = (plain-is 4 (codes "tick") refl, (node-plain node, (long_plain ms is, tt)))
-event-plain (events.At node own.Purge) is = (plain-is 5 (codes "purge") refl, (node-plain node, tt))
-event-plain (events.At node own.Release) is = (plain-is 7 (codes "release") refl, (node-plain node, tt))
 event-plain (events.At node (own.Kill name)) is = (plain-is 4 (codes "kill") refl, (node-plain node, (name-plain name is, tt)))
-event-plain (events.At node own.Clear) is = (plain-is 5 (codes "clear") refl, (node-plain node, tt))
+event-plain (events.At node e) is = (plain-is 7 (node_event_word e) refl, (node-plain node, tt))
+event-plain (events.Of ticket (frame.Cut len)) is = (plain-is 3 (codes "cut") refl, (number_plain ticket is.0, (number_plain len is.1, tt)))
+event-plain (events.Of ticket e) is = (plain-is 7 (frame_event_word e) refl, (number_plain ticket is.0, tt))
+event-plain (events.Flush node) is = (plain-is 7 (codes "flush") refl, (node-plain node, tt))
 event-plain (events.Restart node) is = (plain-is 7 (codes "restart") refl, (node-plain node, tt))
-event-plain (events.At node own.BulkTurn) is = (plain-is 4 (codes "turn") refl, (node-plain node, tt))
-event-plain (events.At node own.BulkRetry) is = (plain-is 5 (codes "retry") refl, (node-plain node, tt))

@@ -4,6 +4,7 @@ use Rattle.std.proofs.Common.{le-ltb, le-leb, leb-true, eqb-true}
 use Rattle.std.specs.Prelude.{Option, Some, None, Ok, Err, nat_le, ◌==◌, bytes_eq, codes}
 use Rattle.std.specs.Fmt.{decimal}
 use Rattle.std.specs.List.{AllByRecursion, list_all, list_any, join_with_byte}
+use Rattle.std.proofs.lemmas.List.{append-nil}
 use Rattle.std.proofs.lemmas.Slice.Eq.{bytes_eq-Decides}
 use Rattle.pfl_base.specs.Numbers.{greatest}
 use Rattle.pfl_base.specs.declared.proto.Proto.{Proto}
@@ -12,18 +13,21 @@ use Rattle.pfl_language.specs.declared.event.Event.{Event}
 use Rattle.pfl_language.specs.declared.node_event.NodeEvent.TheVariants as own
 use Rattle.pfl_language.specs.declared.event.Event.TheVariants as events
 use Rattle.pfl_language.specs.declared.event.FrameEvent.TheVariants as frame
+use Rattle.pfl_language.specs.declared.ask.Ask.{Ask}
+use Rattle.pfl_language.specs.declared.ask.Ask.TheVariants as ask
 use Rattle.pfl_language.specs.declared.command.Command.{Command}
 use Rattle.pfl_language.specs.declared.command.Command.TheVariants as commands
 use Rattle.pfl_language.specs.BranchWords.{is_letter, is_name_byte}
-use Rattle.pfl_lines.specs.Commands.{begins_event, step_at, back_at, forward_at, fork_at, drop_at, show_at, past_at, why_at, why_event_at}
-use Rattle.pfl_lines.specs.Commands.{why_place_at, frame_at, excise_at, restore_at, log_at, command_at, command_of, whole_step, whole_why, parsed}
+use Rattle.pfl_lines.specs.AskWords.{AskRest, AnEvent, ANumber, Nothing, ask_rest, ask_word}
+use Rattle.pfl_lines.specs.Commands.{begins_event, step_at, why_event_at, numbered_ask_at, ask_at, fork_at, drop_at, command_at, command_of}
+use Rattle.pfl_lines.specs.Commands.{whole_step, whole_why, whole_on, parsed}
 use Rattle.pfl_lines.specs.declared.fault.LineFault.TheVariants.{Number}
 use Rattle.pfl_lines.specs.EventWords.{is_event_word, words_of_events}
 use Rattle.pfl_lines.specs.Numbers.{number_of}
-use Rattle.pfl_lines.specs.Laws.{CommandsReadBack, EventWordsAreNoNumbers, IsBranchWord, IsTypedCommand, IsTypedEvent, NamesAreWords, StepsReadBack}
+use Rattle.pfl_lines.specs.Laws.{CommandsReadBack, EventWordsAreNoNumbers, IsBranchWord, IsTypedCommand, IsTypedRest, NamesAreWords, StepsReadBack}
 use Rattle.pfl_lines.specs.Laws.{WhysReadBack, is_mark, is_plain}
 use Rattle.pfl_lines.specs.Parts.{branch_at}
-use Rattle.pfl_lines.specs.Written.{command_text, event_words, event_text}
+use Rattle.pfl_lines.specs.Written.{command_text, event_words, event_text, on_branch, rest_text}
 use Rattle.pfl_lines.proofs.WrittenNumbers.{and-first, and-second, and-both, all_weaker}
 use Rattle.pfl_lines.proofs.WrittenWords.{ArePlain, room, words-joined, checked-joined}
 use Rattle.pfl_lines.proofs.WrittenPackets.{plain-is, segment_bounds}
@@ -63,48 +67,41 @@ branch-reads name ws is = rw (le-ltb 32 (length name) (plain-is 32 name is).shor
 
 -- ---- the line is its words
 
+abbrev rest_words : AskRest → List (List ℕ)
+rest_words (AnEvent e) = event_words e
+rest_words (ANumber n) = decimal n ∷ []
+rest_words Nothing = []
+
 abbrev command_words : Command → List (List ℕ)
-command_words (commands.Step name e) = codes "step" ∷ name ∷ event_words e
-command_words (commands.Back name n) = codes "back" ∷ name ∷ decimal n ∷ []
-command_words (commands.Forward name n) = codes "forward" ∷ name ∷ decimal n ∷ []
+command_words (commands.On name q) = ask_word q ∷ name ∷ rest_words (ask_rest q)
 command_words (commands.Fork from place name) = codes "fork" ∷ from ∷ decimal place ∷ name ∷ []
 command_words (commands.Drop name) = codes "drop" ∷ name ∷ []
-command_words (commands.Show name) = codes "show" ∷ name ∷ []
-command_words (commands.Past name place) = codes "past" ∷ name ∷ decimal place ∷ []
-command_words (commands.Why name place) = codes "why" ∷ name ∷ decimal place ∷ []
-command_words (commands.WhyStep name e) = codes "why" ∷ name ∷ event_words e
-command_words (commands.Frame name ticket) = codes "frame" ∷ name ∷ decimal ticket ∷ []
 command_words commands.Names = codes "names" ∷ []
-command_words (commands.Excise name place) = codes "excise" ∷ name ∷ decimal place ∷ []
-command_words (commands.Restore name) = codes "restore" ∷ name ∷ []
-command_words (commands.Log name) = codes "log" ∷ name ∷ []
 
 join-next : (w : List ℕ) (ws : List (List ℕ)) → 0 < length ws → join_with_byte 32 (w ∷ ws) ≡ w ++ 32 ∷ join_with_byte 32 ws
 join-next w [] some = absurd (omega arith)
 join-next w (v ∷ ws) some = refl
 
 some_words : (e : Event) → 0 < length (event_words e)
-some_words (events.At node (own.Packet dir p)) = omega arith
 some_words (events.Flush node) = omega arith
-some_words (events.Of ticket frame.Deliver) = omega arith
-some_words (events.Of ticket frame.Lose) = omega arith
-some_words (events.Of ticket frame.Repeat) = omega arith
-some_words (events.Of ticket (frame.Cut len)) = omega arith
-some_words (events.At node (own.Tick ms)) = omega arith
-some_words (events.At node own.Purge) = omega arith
-some_words (events.At node own.Release) = omega arith
-some_words (events.At node (own.Kill name)) = omega arith
-some_words (events.At node own.Clear) = omega arith
-some_words (events.Restart node) = omega arith
-some_words (events.At node own.BulkTurn) = omega arith
-some_words (events.At node own.BulkRetry) = omega arith
+some_words e = omega arith
 
 -- two words, one after the other
 two-joined : (w text : List ℕ) → (w ++ codes " ") ++ text ≡ w ++ 32 ∷ text
 two-joined w text = append_assoc w (codes " ") text
 
-event-joined : (name : List ℕ) (e : Event) → (name ++ codes " ") ++ join_with_byte 32 (event_words e) ≡ join_with_byte 32 (name ∷ event_words e)
-event-joined name e = two-joined name (join_with_byte 32 (event_words e)) ∙ sym (join-next name (event_words e) (some_words e))
+-- a word and two texts, one after the other
+three-joined : (w name text : List ℕ) → on_branch w name ++ codes " " ++ text ≡ w ++ 32 ∷ (name ++ 32 ∷ text)
+three-joined w name text = two-joined ((w ++ codes " ") ++ name) text ∙ append_assoc (w ++ codes " ") name (32 ∷ text) ∙ two-joined w (name ++ 32 ∷ text)
+
+rest-joined : (w name : List ℕ) (rest : AskRest) → on_branch w name ++ rest_text rest ≡ join_with_byte 32 (w ∷ name ∷ rest_words rest)
+unfolding event_text
+rest-joined w name (AnEvent e) =
+    sym (append_assoc (on_branch w name) (codes " ") (join_with_byte 32 (event_words e)))
+    ∙ three-joined w name (join_with_byte 32 (event_words e))
+    ∙ ap (λ line. w ++ 32 ∷ line) (sym (join-next name (event_words e) (some_words e)))
+rest-joined w name (ANumber n) = sym (append_assoc (on_branch w name) (codes " ") (decimal n)) ∙ three-joined w name (decimal n)
+rest-joined w name Nothing = append-nil (on_branch w name) ∙ two-joined w name
 
 fork-joined : (from place name : List ℕ) → (((from ++ codes " ") ++ place) ++ codes " ") ++ name ≡ from ++ 32 ∷ (place ++ 32 ∷ name)
 fork-joined from place name =
@@ -113,39 +110,23 @@ fork-joined from place name =
     ∙ two-joined from (place ++ 32 ∷ name)
 
 command-joined : (c : Command) → command_text c ≡ join_with_byte 32 (command_words c)
-unfolding event_text
-command-joined (commands.Step name e) = ap (λ rest. codes "step " ++ rest) (event-joined name e)
-command-joined (commands.Back name n) = ap (λ rest. codes "back " ++ rest) (two-joined name (decimal n))
-command-joined (commands.Forward name n) = ap (λ rest. codes "forward " ++ rest) (two-joined name (decimal n))
+command-joined (commands.On name q) = rest-joined (ask_word q) name (ask_rest q)
 command-joined (commands.Fork from place name) = ap (λ rest. codes "fork " ++ rest) (fork-joined from (decimal place) name)
 command-joined (commands.Drop name) = refl
-command-joined (commands.Show name) = refl
-command-joined (commands.Past name place) = ap (λ rest. codes "past " ++ rest) (two-joined name (decimal place))
-command-joined (commands.Why name place) = ap (λ rest. codes "why " ++ rest) (two-joined name (decimal place))
-command-joined (commands.WhyStep name e) = ap (λ rest. codes "why " ++ rest) (event-joined name e)
-command-joined (commands.Frame name ticket) = ap (λ rest. codes "frame " ++ rest) (two-joined name (decimal ticket))
 command-joined commands.Names = refl
-command-joined (commands.Excise name place) = ap (λ rest. codes "excise " ++ rest) (two-joined name (decimal place))
-command-joined (commands.Restore name) = refl
-command-joined (commands.Log name) = refl
 
 -- ---- the words are plain, and the line has room for them
 
+abbrev rest_bounds : AskRest → List ℕ
+rest_bounds (AnEvent e) = event_bounds e
+rest_bounds (ANumber n) = 10 ∷ []
+rest_bounds Nothing = []
+
 abbrev command_bounds : Command → List ℕ
-command_bounds (commands.Step name e) = 4 ∷ 32 ∷ event_bounds e
-command_bounds (commands.Back name n) = 4 ∷ 32 ∷ 10 ∷ []
-command_bounds (commands.Forward name n) = 7 ∷ 32 ∷ 10 ∷ []
+command_bounds (commands.On name q) = 7 ∷ 32 ∷ rest_bounds (ask_rest q)
 command_bounds (commands.Fork from place name) = 4 ∷ 32 ∷ 10 ∷ 32 ∷ []
 command_bounds (commands.Drop name) = 4 ∷ 32 ∷ []
-command_bounds (commands.Show name) = 4 ∷ 32 ∷ []
-command_bounds (commands.Past name place) = 4 ∷ 32 ∷ 10 ∷ []
-command_bounds (commands.Why name place) = 3 ∷ 32 ∷ 10 ∷ []
-command_bounds (commands.WhyStep name e) = 3 ∷ 32 ∷ event_bounds e
-command_bounds (commands.Frame name ticket) = 5 ∷ 32 ∷ 10 ∷ []
 command_bounds commands.Names = 5 ∷ []
-command_bounds (commands.Excise name place) = 6 ∷ 32 ∷ 10 ∷ []
-command_bounds (commands.Restore name) = 7 ∷ 32 ∷ []
-command_bounds (commands.Log name) = 3 ∷ 32 ∷ []
 
 segment_room : (proto : Proto) (scale : Option ℕ) → room (segment_bounds proto scale) ≤ 44
 segment_room Tcp None = omega arith
@@ -156,84 +137,42 @@ segment_room (Other n) scale = omega arith
 
 event_room : (e : Event) → room (event_bounds e) ≤ 400
 event_room (events.At node (own.Packet dir p)) = let h : room (segment_bounds p.proto p.scale) ≤ 44 = segment_room p.proto p.scale in omega arith
-event_room (events.Flush node) = omega arith
-event_room (events.Of ticket frame.Deliver) = omega arith
-event_room (events.Of ticket frame.Lose) = omega arith
-event_room (events.Of ticket frame.Repeat) = omega arith
 event_room (events.Of ticket (frame.Cut len)) = omega arith
-event_room (events.At node (own.Tick ms)) = omega arith
-event_room (events.At node own.Purge) = omega arith
-event_room (events.At node own.Release) = omega arith
-event_room (events.At node (own.Kill name)) = omega arith
-event_room (events.At node own.Clear) = omega arith
-event_room (events.Restart node) = omega arith
-event_room (events.At node own.BulkTurn) = omega arith
-event_room (events.At node own.BulkRetry) = omega arith
+event_room e = omega arith
+
+rest_room : (rest : AskRest) → room (rest_bounds rest) ≤ 400
+rest_room (AnEvent e) = event_room e
+rest_room (ANumber n) = omega arith
+rest_room Nothing = omega arith
 
 command_room : (c : Command) → room (command_bounds c) ≤ 512
-command_room (commands.Step name e) = omega (arith, event_room e)
-command_room (commands.Back name n) = omega arith
-command_room (commands.Forward name n) = omega arith
+command_room (commands.On name q) = omega (arith, rest_room (ask_rest q))
 command_room (commands.Fork from place name) = omega arith
 command_room (commands.Drop name) = omega arith
-command_room (commands.Show name) = omega arith
-command_room (commands.Past name place) = omega arith
-command_room (commands.Why name place) = omega arith
-command_room (commands.WhyStep name e) = omega (arith, event_room e)
-command_room (commands.Frame name ticket) = omega arith
 command_room commands.Names = omega arith
-command_room (commands.Excise name place) = omega arith
-command_room (commands.Restore name) = omega arith
-command_room (commands.Log name) = omega arith
 
--- a command's word and a branch
-branch-plain : (most : ℕ) (word name : List ℕ) → is_plain most word ≡ true → IsBranchWord name → ArePlain (most ∷ 32 ∷ []) (word ∷ name ∷ [])
-branch-plain most word name first is = (plain-is most word first, (plain-is 32 name is, tt))
+word-plain : (q : Ask) → is_plain 7 (ask_word q) ≡ true
+word-plain (ask.Step e) = refl
+word-plain q = refl
 
--- a command's word, a branch and a number
-count-plain : (most : ℕ) (word name : List ℕ) (n : ℕ) → is_plain most word ≡ true → IsBranchWord name × (n ≤ greatest) →
-    ArePlain (most ∷ 32 ∷ 10 ∷ []) (word ∷ name ∷ decimal n ∷ [])
-count-plain most word name n first is = (plain-is most word first, (plain-is 32 name is.0, (number_plain n is.1, tt)))
-
--- a command's word, a branch and an event
-step-plain : (most : ℕ) (word name : List ℕ) (e : Event) → is_plain most word ≡ true → IsBranchWord name × IsTypedEvent e →
-    ArePlain (most ∷ 32 ∷ event_bounds e) (word ∷ name ∷ event_words e)
-step-plain most word name e first is = (plain-is most word first, (plain-is 32 name is.0, event-plain e is.1))
+rest-plain : (rest : AskRest) → IsTypedRest rest → ArePlain (rest_bounds rest) (rest_words rest)
+rest-plain (AnEvent e) is = event-plain e is
+rest-plain (ANumber n) is = (number_plain n is, tt)
+rest-plain Nothing is = tt
 
 command-plain : (c : Command) → IsTypedCommand c → ArePlain (command_bounds c) (command_words c)
-command-plain (commands.Step name e) is = step-plain 4 (codes "step") name e refl is
-command-plain (commands.Back name n) is = count-plain 4 (codes "back") name n refl is
-command-plain (commands.Forward name n) is = count-plain 7 (codes "forward") name n refl is
+command-plain (commands.On name q) is = (plain-is 7 (ask_word q) (word-plain q), (plain-is 32 name is.0, rest-plain (ask_rest q) is.1))
 command-plain (commands.Fork from place name) is =
     (plain-is 4 (codes "fork") refl, (plain-is 32 from is.0, (number_plain place is.1, (plain-is 32 name is.2, tt))))
-command-plain (commands.Drop name) is = branch-plain 4 (codes "drop") name refl is
-command-plain (commands.Show name) is = branch-plain 4 (codes "show") name refl is
-command-plain (commands.Past name place) is = count-plain 4 (codes "past") name place refl is
-command-plain (commands.Why name place) is = count-plain 3 (codes "why") name place refl is
-command-plain (commands.WhyStep name e) is = step-plain 3 (codes "why") name e refl is
-command-plain (commands.Frame name ticket) is = count-plain 5 (codes "frame") name ticket refl is
+command-plain (commands.Drop name) is = (plain-is 4 (codes "drop") refl, (plain-is 32 name is, tt))
 command-plain commands.Names is = (plain-is 5 (codes "names") refl, tt)
-command-plain (commands.Excise name place) is = count-plain 6 (codes "excise") name place refl is
-command-plain (commands.Restore name) is = branch-plain 7 (codes "restore") name refl is
-command-plain (commands.Log name) is = branch-plain 3 (codes "log") name refl is
 
 -- ---- the words of events
 
 begins : (e : Event) → begins_event (event_words e) ≡ true
 begins (events.At node (own.Packet dir p)) = refl
-begins (events.Flush node) = refl
-begins (events.Of ticket frame.Deliver) = refl
-begins (events.Of ticket frame.Lose) = refl
-begins (events.Of ticket frame.Repeat) = refl
 begins (events.Of ticket (frame.Cut len)) = refl
-begins (events.At node (own.Tick ms)) = refl
-begins (events.At node own.Purge) = refl
-begins (events.At node own.Release) = refl
-begins (events.At node (own.Kill name)) = refl
-begins (events.At node own.Clear) = refl
-begins (events.Restart node) = refl
-begins (events.At node own.BulkTurn) = refl
-begins (events.At node own.BulkRetry) = refl
+begins e = refl
 
 -- a word that is one of these, none of which is a number
 no_number : (word : List ℕ) (ws : List (List ℕ)) → AllByRecursion (λ w. number_of greatest w ≡ Err Number) ws → list_any (bytes_eq word) ws ≡ true
@@ -257,25 +196,27 @@ no_event_word word n false is reads = refl
 
 -- ---- the commands
 
+ask-reads : (q : Ask) (name : List ℕ) → IsBranchWord name → IsTypedRest (ask_rest q)
+    → command_of (ask_word q ∷ name ∷ rest_words (ask_rest q)) ≡ Ok (commands.On name q)
+unfolding command_of command_at ask_at step_at why_event_at numbered_ask_at whole_step whole_why whole_on
+ask-reads (ask.Step e) name named is = rw (branch-reads name (event_words e) named, event-reads e is, whole-reads e is) refl
+ask-reads (ask.WhyStep e) name named is = rw (branch-reads name (event_words e) named, begins e, event-reads e is, whole-reads e is) refl
+ask-reads (ask.Why k) name named is =
+    let reads : number_of greatest (decimal k) ≡ Ok k = number k is in
+    rw (branch-reads name (decimal k ∷ []) named, no_event_word (decimal k) k (is_event_word (decimal k)) refl reads, reads) refl
+ask-reads (ask.Back n) name named is = rw (branch-reads name (decimal n ∷ []) named, number n is) refl
+ask-reads (ask.Forward n) name named is = rw (branch-reads name (decimal n ∷ []) named, number n is) refl
+ask-reads (ask.Past k) name named is = rw (branch-reads name (decimal k ∷ []) named, number k is) refl
+ask-reads (ask.Frame ticket) name named is = rw (branch-reads name (decimal ticket ∷ []) named, number ticket is) refl
+ask-reads (ask.Excise k) name named is = rw (branch-reads name (decimal k ∷ []) named, number k is) refl
+ask-reads q name named is = rw (branch-reads name [] named) refl
+
 command-reads : (c : Command) → IsTypedCommand c → command_of (command_words c) ≡ Ok c
-unfolding command_of command_at step_at back_at forward_at fork_at drop_at show_at past_at why_at why_event_at why_place_at frame_at
-    excise_at restore_at log_at whole_step whole_why
-command-reads (commands.Step name e) is = rw (branch-reads name (event_words e) is.0, event-reads e is.1, whole-reads e is.1) refl
-command-reads (commands.Back name n) is = rw (branch-reads name (decimal n ∷ []) is.0, number n is.1) refl
-command-reads (commands.Forward name n) is = rw (branch-reads name (decimal n ∷ []) is.0, number n is.1) refl
+unfolding command_of command_at fork_at drop_at
+command-reads (commands.On name q) is = ask-reads q name is.0 is.1
 command-reads (commands.Fork from place name) is = rw (branch-reads from (decimal place ∷ name ∷ []) is.0, number place is.1, branch-reads name [] is.2) refl
 command-reads (commands.Drop name) is = rw (branch-reads name [] is) refl
-command-reads (commands.Show name) is = rw (branch-reads name [] is) refl
-command-reads (commands.Past name place) is = rw (branch-reads name (decimal place ∷ []) is.0, number place is.1) refl
-command-reads (commands.Why name place) is =
-    let reads : number_of greatest (decimal place) ≡ Ok place = number place is.1 in
-    rw (branch-reads name (decimal place ∷ []) is.0, no_event_word (decimal place) place (is_event_word (decimal place)) refl reads, reads) refl
-command-reads (commands.WhyStep name e) is = rw (branch-reads name (event_words e) is.0, begins e, event-reads e is.1, whole-reads e is.1) refl
-command-reads (commands.Frame name ticket) is = rw (branch-reads name (decimal ticket ∷ []) is.0, number ticket is.1) refl
 command-reads commands.Names is = refl
-command-reads (commands.Excise name place) is = rw (branch-reads name (decimal place ∷ []) is.0, number place is.1) refl
-command-reads (commands.Restore name) is = rw (branch-reads name [] is) refl
-command-reads (commands.Log name) is = rw (branch-reads name [] is) refl
 
 -- a line of plain words for which it has room says what the words say
 line-reads : (bounds : List ℕ) (ws : List (List ℕ)) (c : Command) → ArePlain bounds ws → room bounds ≤ 512 → command_of ws ≡ Ok c
@@ -287,7 +228,11 @@ pub commands_read : CommandsReadBack
 commands_read c is = ap parsed (command-joined c) ∙ line-reads (command_bounds c) (command_words c) c (command-plain c is) (command_room c) (command-reads c is)
 
 pub steps-read : StepsReadBack
-steps-read name e named is = commands_read (commands.Step name e) (names_are_words name named, is)
+steps-read name e named is =
+    ap (λ text. parsed (codes "step " ++ text)) (append_assoc name (codes " ") (event_text e))
+    ∙ commands_read (commands.On name (ask.Step e)) (names_are_words name named, is)
 
 pub whys-read : WhysReadBack
-whys-read name e named is = commands_read (commands.WhyStep name e) (names_are_words name named, is)
+whys-read name e named is =
+    ap (λ text. parsed (codes "why " ++ text)) (append_assoc name (codes " ") (event_text e))
+    ∙ commands_read (commands.On name (ask.WhyStep e)) (names_are_words name named, is)

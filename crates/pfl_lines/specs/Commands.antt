@@ -2,7 +2,7 @@
 use Rattle.std.specs.Prelude.{ℕ, Bool, false, ◌&&◌, ◌||◌, ◌==◌, nat_le, nat_lt, List, [], ◌∷◌, length, codes, bytes_eq, if◌then◌else◌, Option, Some}
 use Rattle.std.specs.Prelude.{None, Result, Ok, Err}
 use Rattle.std.specs.List.{list_all}
-use Rattle.std.specs.Option.{option_map_or}
+use Rattle.std.specs.Option.{ok_or, option_map_or}
 use Rattle.pfl_base.specs.declared.direction.Dir.{Dir}
 use Rattle.pfl_base.specs.declared.node_id.NodeId.{NodeId}
 use Rattle.pfl_base.specs.declared.fields.PacketFields.{PacketFields}
@@ -15,14 +15,19 @@ use Rattle.pfl_language.specs.declared.node_event.NodeEvent.TheVariants as own
 use Rattle.pfl_language.specs.declared.event.Event.TheVariants as events
 use Rattle.pfl_language.specs.declared.event.FrameEvent.{FrameEvent}
 use Rattle.pfl_language.specs.declared.event.FrameEvent.TheVariants as frame
+use Rattle.pfl_language.specs.declared.ask.Ask.{Ask}
+use Rattle.pfl_language.specs.declared.ask.Ask.TheVariants as ask
 use Rattle.pfl_language.specs.declared.command.Command.{Command}
 use Rattle.pfl_language.specs.declared.command.Command.TheVariants as commands
 use Rattle.pfl_lines.specs.declared.fault.LineFault.{LineFault}
 use Rattle.pfl_lines.specs.declared.fault.LineFault.TheVariants as faults
 use Rattle.pfl_lines.specs.declared.draft.EventDraft.{EventDraft}
 use Rattle.pfl_lines.specs.declared.draft.EventDraft.TheVariants as event_draft
+use Rattle.pfl_lines.specs.declared.draft.AskDraft.{AskDraft}
+use Rattle.pfl_lines.specs.declared.draft.AskDraft.TheVariants as ask_draft
 use Rattle.pfl_lines.specs.declared.draft.CommandDraft.{CommandDraft}
 use Rattle.pfl_lines.specs.declared.draft.CommandDraft.TheVariants as draft
+use Rattle.pfl_lines.specs.AskWords.{bare_ask, is_ask_word, numbered_ask}
 use Rattle.pfl_lines.specs.EventWords.{bare_frame_event, bare_node_event, is_event_word}
 use Rattle.pfl_lines.specs.Words.{words}
 use Rattle.pfl_lines.specs.Readings.{◌>>=◌, Reading, word_at}
@@ -116,26 +121,43 @@ event_at ws = do
 
 -- ---- commands
 
--- BR EVENT
-unfoldable pub step_at : List (List ℕ) → Reading CommandDraft
+-- EVENT
+unfoldable pub step_at : List (List ℕ) → Reading AskDraft
 step_at ws = do
-  branch ← branch_at ws
-  event ← event_at branch.1
-  Ok (draft.Step branch.0 event.0, event.1)
+  event ← event_at ws
+  Ok (ask_draft.Step event.0, event.1)
 
--- BR N
-unfoldable pub back_at : List (List ℕ) → Reading CommandDraft
-back_at ws = do
-  branch ← branch_at ws
-  n ← number_at greatest branch.1
-  Ok (draft.Whole (commands.Back branch.0 n.0), n.1)
+-- the words begin with an event's
+abbrev pub begins_event : List (List ℕ) → Bool
+begins_event [] = false
+begins_event (word ∷ ws) = is_event_word word
 
--- BR N
-unfoldable pub forward_at : List (List ℕ) → Reading CommandDraft
-forward_at ws = do
+-- EVENT, asked about
+unfoldable pub why_event_at : List (List ℕ) → Reading AskDraft
+why_event_at ws = do
+  event ← event_at ws
+  Ok (ask_draft.WhyStep event.0, event.1)
+
+-- N
+unfoldable pub numbered_ask_at : List ℕ → List (List ℕ) → Reading AskDraft
+numbered_ask_at word ws = do
+  n ← number_at greatest ws
+  q ← ok_or (numbered_ask word n.0) faults.Unknown
+  Ok (ask_draft.Whole q, n.1)
+
+-- what belongs to the word of a question after the branch: of `why`, EVENT where an event's word comes, and N where none does
+abbrev pub ask_by : List ℕ → List (List ℕ) → Reading AskDraft
+ask_by word ws =
+    if bytes_eq word (codes "step") then step_at ws else
+    if bytes_eq word (codes "why") && begins_event ws then why_event_at ws else
+    option_map_or (λ q. Ok (ask_draft.Whole q, ws)) (bare_ask word) (numbered_ask_at word ws)
+
+-- BR, and what is asked of it
+unfoldable pub ask_at : List ℕ → List (List ℕ) → Reading CommandDraft
+ask_at word ws = do
   branch ← branch_at ws
-  n ← number_at greatest branch.1
-  Ok (draft.Whole (commands.Forward branch.0 n.0), n.1)
+  q ← ask_by word branch.1
+  Ok (draft.On branch.0 q.0, q.1)
 
 -- BR K NEW
 unfoldable pub fork_at : List (List ℕ) → Reading CommandDraft
@@ -151,68 +173,6 @@ drop_at ws = do
   branch ← branch_at ws
   Ok (draft.Whole (commands.Drop branch.0), branch.1)
 
--- BR
-unfoldable pub show_at : List (List ℕ) → Reading CommandDraft
-show_at ws = do
-  branch ← branch_at ws
-  Ok (draft.Whole (commands.Show branch.0), branch.1)
-
--- BR K
-unfoldable pub past_at : List (List ℕ) → Reading CommandDraft
-past_at ws = do
-  branch ← branch_at ws
-  place ← number_at greatest branch.1
-  Ok (draft.Whole (commands.Past branch.0 place.0), place.1)
-
--- the words begin with an event's
-abbrev pub begins_event : List (List ℕ) → Bool
-begins_event [] = false
-begins_event (word ∷ ws) = is_event_word word
-
--- EVENT, asked about on the branch
-unfoldable pub why_event_at : List ℕ → List (List ℕ) → Reading CommandDraft
-why_event_at branch ws = do
-  event ← event_at ws
-  Ok (draft.WhyStep branch event.0, event.1)
-
--- K, asked about on the branch
-unfoldable pub why_place_at : List ℕ → List (List ℕ) → Reading CommandDraft
-why_place_at branch ws = do
-  place ← number_at greatest ws
-  Ok (draft.Whole (commands.Why branch place.0), place.1)
-
--- BR EVENT where an event's word comes after the branch, and BR K where none does
-unfoldable pub why_at : List (List ℕ) → Reading CommandDraft
-why_at ws = do
-  branch ← branch_at ws
-  if begins_event branch.1 then why_event_at branch.0 branch.1 else why_place_at branch.0 branch.1
-
--- BR TICKET
-unfoldable pub frame_at : List (List ℕ) → Reading CommandDraft
-frame_at ws = do
-  branch ← branch_at ws
-  ticket ← ticket_at branch.1
-  Ok (draft.Whole (commands.Frame branch.0 ticket.0), ticket.1)
-
--- BR K
-unfoldable pub excise_at : List (List ℕ) → Reading CommandDraft
-excise_at ws = do
-  branch ← branch_at ws
-  place ← number_at greatest branch.1
-  Ok (draft.Whole (commands.Excise branch.0 place.0), place.1)
-
--- BR
-unfoldable pub restore_at : List (List ℕ) → Reading CommandDraft
-restore_at ws = do
-  branch ← branch_at ws
-  Ok (draft.Whole (commands.Restore branch.0), branch.1)
-
--- BR
-unfoldable pub log_at : List (List ℕ) → Reading CommandDraft
-log_at ws = do
-  branch ← branch_at ws
-  Ok (draft.Whole (commands.Log branch.0), branch.1)
-
 -- nothing
 abbrev pub names_at : List (List ℕ) → Reading CommandDraft
 names_at ws = Ok (draft.Whole commands.Names, ws)
@@ -220,19 +180,10 @@ names_at ws = Ok (draft.Whole commands.Names, ws)
 -- what belongs to a command's word
 abbrev pub command_by : List ℕ → List (List ℕ) → Reading CommandDraft
 command_by word ws =
-    if bytes_eq word (codes "step") then step_at ws else
-    if bytes_eq word (codes "back") then back_at ws else
-    if bytes_eq word (codes "forward") then forward_at ws else
+    if is_ask_word word then ask_at word ws else
     if bytes_eq word (codes "fork") then fork_at ws else
     if bytes_eq word (codes "drop") then drop_at ws else
-    if bytes_eq word (codes "show") then show_at ws else
-    if bytes_eq word (codes "past") then past_at ws else
-    if bytes_eq word (codes "why") then why_at ws else
-    if bytes_eq word (codes "frame") then frame_at ws else
-    if bytes_eq word (codes "names") then names_at ws else
-    if bytes_eq word (codes "excise") then excise_at ws else
-    if bytes_eq word (codes "restore") then restore_at ws else
-    if bytes_eq word (codes "log") then log_at ws else Err faults.Unknown
+    if bytes_eq word (codes "names") then names_at ws else Err faults.Unknown
 
 -- a command's word and what belongs to it
 unfoldable pub command_at : List (List ℕ) → Reading CommandDraft
@@ -257,22 +208,33 @@ abbrev pub whole_event : EventDraft → Result Event LineFault
 whole_event (event_draft.Packet node dir fields) = packet_unless node dir fields (bad_packet fields)
 whole_event (event_draft.Whole event) = Ok event
 
--- an event on a branch
-unfoldable pub whole_step : List ℕ → EventDraft → Result Command LineFault
-whole_step branch event = do
+-- an event that happens
+unfoldable pub whole_step : EventDraft → Result Ask LineFault
+whole_step event = do
   whole ← whole_event event
-  Ok (commands.Step branch whole)
+  Ok (ask.Step whole)
 
--- an event that is asked about on a branch
-unfoldable pub whole_why : List ℕ → EventDraft → Result Command LineFault
-whole_why branch event = do
+-- an event that is asked about
+unfoldable pub whole_why : EventDraft → Result Ask LineFault
+whole_why event = do
   whole ← whole_event event
-  Ok (commands.WhyStep branch whole)
+  Ok (ask.WhyStep whole)
+
+-- what is asked, once its packet is judged
+abbrev pub whole_ask : AskDraft → Result Ask LineFault
+whole_ask (ask_draft.Step event) = whole_step event
+whole_ask (ask_draft.WhyStep event) = whole_why event
+whole_ask (ask_draft.Whole q) = Ok q
+
+-- what is asked of a branch
+unfoldable pub whole_on : List ℕ → AskDraft → Result Command LineFault
+whole_on branch asked = do
+  q ← whole_ask asked
+  Ok (commands.On branch q)
 
 -- the command, once its packet is judged
 abbrev pub whole_command : CommandDraft → Result Command LineFault
-whole_command (draft.Step branch event) = whole_step branch event
-whole_command (draft.WhyStep branch event) = whole_why branch event
+whole_command (draft.On branch asked) = whole_on branch asked
 whole_command (draft.Whole command) = Ok command
 
 -- what words say: words left over come before a packet that is none

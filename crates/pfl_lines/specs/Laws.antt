@@ -15,10 +15,12 @@ use Rattle.pfl_language.specs.declared.node_event.NodeEvent.TheVariants as own
 use Rattle.pfl_language.specs.declared.event.Event.TheVariants as events
 use Rattle.pfl_language.specs.declared.event.FrameEvent.{FrameEvent}
 use Rattle.pfl_language.specs.declared.event.FrameEvent.TheVariants as frame
+use Rattle.pfl_language.specs.declared.ask.Ask.TheVariants as ask
 use Rattle.pfl_language.specs.declared.command.Command.{Command}
 use Rattle.pfl_language.specs.declared.command.Command.TheVariants as commands
 use Rattle.pfl_language.specs.BranchWords.{is_branch_name}
 use Rattle.pfl_lines.specs.declared.fault.LineFault.TheVariants.{Number}
+use Rattle.pfl_lines.specs.AskWords.{AskRest, AnEvent, ANumber, Nothing, ask_rest}
 use Rattle.pfl_lines.specs.Commands.{parsed}
 use Rattle.pfl_lines.specs.EventWords.{is_event_word}
 use Rattle.pfl_lines.specs.Numbers.{number_of}
@@ -84,22 +86,18 @@ is_plain most word = (nat_le 1 (length word) && nat_le (length word) most) && li
 abbrev pub IsBranchWord : List ℕ → Type 0
 IsBranchWord word = IsTrue (is_plain 32 word)
 
+-- what is said of a branch after its name
+abbrev pub IsTypedRest : AskRest → Type 0
+IsTypedRest (AnEvent e) = IsTypedEvent e
+IsTypedRest (ANumber n) = n ≤ greatest
+IsTypedRest Nothing = ⊤
+
 -- a command
 abbrev pub IsTypedCommand : Command → Type 0
-IsTypedCommand (commands.Step name e) = IsBranchWord name × IsTypedEvent e
-IsTypedCommand (commands.Back name n) = IsBranchWord name × (n ≤ greatest)
-IsTypedCommand (commands.Forward name n) = IsBranchWord name × (n ≤ greatest)
+IsTypedCommand (commands.On name q) = IsBranchWord name × IsTypedRest (ask_rest q)
 IsTypedCommand (commands.Fork from place name) = IsBranchWord from × (place ≤ greatest) × IsBranchWord name
 IsTypedCommand (commands.Drop name) = IsBranchWord name
-IsTypedCommand (commands.Show name) = IsBranchWord name
-IsTypedCommand (commands.Past name place) = IsBranchWord name × (place ≤ greatest)
-IsTypedCommand (commands.Why name place) = IsBranchWord name × (place ≤ greatest)
-IsTypedCommand (commands.WhyStep name e) = IsBranchWord name × IsTypedEvent e
-IsTypedCommand (commands.Frame name ticket) = IsBranchWord name × (ticket ≤ greatest)
 IsTypedCommand commands.Names = ⊤
-IsTypedCommand (commands.Excise name place) = IsBranchWord name × (place ≤ greatest)
-IsTypedCommand (commands.Restore name) = IsBranchWord name
-IsTypedCommand (commands.Log name) = IsBranchWord name
 
 -- ---- laws
 
@@ -113,11 +111,11 @@ NamesAreWords = (name : List ℕ) → IsTrue (is_branch_name name) → IsBranchW
 
 -- the line that steps an event is read as that command
 abbrev pub StepsReadBack : Type 0
-StepsReadBack = (name : List ℕ) (e : Event) → IsTrue (is_branch_name name) → IsTypedEvent e → parsed (step_text name e) ≡ Ok (commands.Step name e)
+StepsReadBack = (name : List ℕ) (e : Event) → IsTrue (is_branch_name name) → IsTypedEvent e → parsed (step_text name e) ≡ Ok (commands.On name (ask.Step e))
 
 -- the line that asks why of an event is read as that command
 abbrev pub WhysReadBack : Type 0
-WhysReadBack = (name : List ℕ) (e : Event) → IsTrue (is_branch_name name) → IsTypedEvent e → parsed (why_text name e) ≡ Ok (commands.WhyStep name e)
+WhysReadBack = (name : List ℕ) (e : Event) → IsTrue (is_branch_name name) → IsTypedEvent e → parsed (why_text name e) ≡ Ok (commands.On name (ask.WhyStep e))
 
 -- no event's word is a number: a line that asks why of a place asks of no event
 abbrev pub EventWordsAreNoNumbers : Type 0

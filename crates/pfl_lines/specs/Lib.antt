@@ -6,6 +6,7 @@ pub mod Addresses
 pub mod Parts
 pub mod Packets
 pub mod EventWords
+pub mod AskWords
 pub mod Commands
 pub mod Rules
 pub mod Setup

@@ -17,6 +17,7 @@ use Rattle.pfl_language.specs.declared.event.FrameEvent.{FrameEvent}
 use Rattle.pfl_language.specs.declared.event.FrameEvent.TheVariants as frame
 use Rattle.pfl_language.specs.declared.command.Command.{Command}
 use Rattle.pfl_language.specs.declared.command.Command.TheVariants as commands
+use Rattle.pfl_lines.specs.AskWords.{AskRest, AnEvent, ANumber, Nothing, ask_rest, ask_word}
 use Rattle.pfl_lines.specs.EventWords.{frame_event_word, node_event_word}
 use Rattle.pfl_lines.specs.Parts.{flag_letters}
 
@@ -88,23 +89,15 @@ why_text name e = codes "why " ++ name ++ codes " " ++ event_text e
 abbrev pub on_branch : List ℕ → List ℕ → List ℕ
 on_branch word name = word ++ codes " " ++ name
 
--- a command's word, a branch and a number
-abbrev pub on_branch_with : List ℕ → List ℕ → ℕ → List ℕ
-on_branch_with word name n = on_branch word name ++ codes " " ++ decimal n
+-- what is said after them
+abbrev pub rest_text : AskRest → List ℕ
+rest_text (AnEvent e) = codes " " ++ event_text e
+rest_text (ANumber n) = codes " " ++ decimal n
+rest_text Nothing = []
 
 -- a command
 abbrev pub command_text : Command → List ℕ
-command_text (commands.Step name e) = step_text name e
-command_text (commands.Back name n) = on_branch_with (codes "back") name n
-command_text (commands.Forward name n) = on_branch_with (codes "forward") name n
-command_text (commands.Fork from place name) = on_branch_with (codes "fork") from place ++ codes " " ++ name
+command_text (commands.On name q) = on_branch (ask_word q) name ++ rest_text (ask_rest q)
+command_text (commands.Fork from place name) = on_branch (codes "fork") from ++ codes " " ++ decimal place ++ codes " " ++ name
 command_text (commands.Drop name) = on_branch (codes "drop") name
-command_text (commands.Show name) = on_branch (codes "show") name
-command_text (commands.Past name place) = on_branch_with (codes "past") name place
-command_text (commands.Why name place) = on_branch_with (codes "why") name place
-command_text (commands.WhyStep name e) = why_text name e
-command_text (commands.Frame name ticket) = on_branch_with (codes "frame") name ticket
 command_text commands.Names = codes "names"
-command_text (commands.Excise name place) = on_branch_with (codes "excise") name place
-command_text (commands.Restore name) = on_branch (codes "restore") name
-command_text (commands.Log name) = on_branch (codes "log") name

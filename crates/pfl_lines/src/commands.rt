@@ -5,19 +5,20 @@ ghost use Rattle.std.specs.List.{list_all};
 ghost use Rattle.pfl_lines.specs.Words.{words};
 ghost use Rattle.pfl_lines.specs.inner.Readings.{Gives};
 ghost use Rattle.pfl_lines.specs.Commands.{packet_at, tick_at, kill_at, bare_node_event_at, flush_at, restart_at, ticket_at, cut_event_at};
-ghost use Rattle.pfl_lines.specs.Commands.{bare_frame_event_at, node_event_by, frame_event_by, event_by, event_at, step_at, back_at, forward_at};
-ghost use Rattle.pfl_lines.specs.Commands.{fork_at, drop_at, show_at, past_at, begins_event, why_event_at, why_place_at, why_at, frame_at, excise_at};
-ghost use Rattle.pfl_lines.specs.Commands.{restore_at, log_at, names_at, command_by, command_at, finished, whole_event, whole_step, whole_why};
-ghost use Rattle.pfl_lines.specs.Commands.{whole_command, command_of, is_text, checked, parsed};
+ghost use Rattle.pfl_lines.specs.Commands.{bare_frame_event_at, node_event_by, frame_event_by, event_by, event_at, step_at, begins_event};
+ghost use Rattle.pfl_lines.specs.Commands.{why_event_at, numbered_ask_at, ask_by, ask_at, fork_at, drop_at, names_at, command_by, command_at};
+ghost use Rattle.pfl_lines.specs.Commands.{finished, whole_event, whole_step, whole_why, whole_ask, whole_on, whole_command, command_of};
+ghost use Rattle.pfl_lines.specs.Commands.{is_text, checked, parsed};
 
-use crate::draft::{CommandDraft, EventDraft};
+use crate::ask_words::{bare_ask, is_ask_word, numbered_ask};
+use crate::draft::{AskDraft, CommandDraft, EventDraft};
 use crate::event_words::{bare_frame_event, bare_node_event, is_event_word};
 use crate::fault::LineFault;
 use crate::packets::fields_at;
 use crate::parts::{branch_at, dir_at, name_at, node_at, number_at};
 use crate::words::{is_word, try_read, word_at};
 use pfl_base::{GREATEST_NUMBER, Packet};
-use pfl_language::{BranchWord, Command, Event, FrameEvent, NodeEvent};
+use pfl_language::{Ask, BranchWord, Command, Event, FrameEvent, NodeEvent};
 
 /// The most bytes of a line, its end not counted.
 pub const LONGEST: usize = 512;
@@ -167,36 +168,70 @@ pub(crate) fn event_at(line: &[u8]) -> Result<(EventDraft, &[u8]), LineFault>
     event_by(word, rest)
 }
 
-/// `BR EVENT`.
+/// `EVENT`.
 #[tactic(auto, unfolding(crate::specs::Commands::step_at))]
-fn step_at(line: &[u8]) -> Result<(CommandDraft, &[u8]), LineFault>
+fn step_at(line: &[u8]) -> Result<(AskDraft, &[u8]), LineFault>
     ensures { Gives (λ x. (x.0, words x.1.now)) result (step_at (words line.now)) }
 {
-    let (branch, rest) = try_read!(branch_at(line));
-    let (event, rest) = try_read!(event_at(rest));
-    Ok((CommandDraft::Step { branch, event }, rest))
+    let (event, rest) = try_read!(event_at(line));
+    Ok((AskDraft::Step(event), rest))
 }
 
-/// `BR N`.
-#[tactic(auto, unfolding(crate::specs::Commands::back_at))]
-fn back_at(line: &[u8]) -> Result<(CommandDraft, &[u8]), LineFault>
-    ensures { Gives (λ x. (x.0, words x.1.now)) result (back_at (words line.now)) }
+/// Whether the line begins with an event's word.
+fn begins_event(line: &[u8]) -> bool
+    ensures { result ≡ begins_event (words line.now) }
 {
-    let (branch, rest) = try_read!(branch_at(line));
-    let (n, rest) = number_at(rest, GREATEST_NUMBER)?;
-    let n = n as u32;
-    Ok((CommandDraft::Whole(Command::Back { branch, n }), rest))
+    match word_at(line) {
+        Ok((word, _)) => is_event_word(word),
+        Err(_) => false,
+    }
 }
 
-/// `BR N`.
-#[tactic(auto, unfolding(crate::specs::Commands::forward_at))]
-fn forward_at(line: &[u8]) -> Result<(CommandDraft, &[u8]), LineFault>
-    ensures { Gives (λ x. (x.0, words x.1.now)) result (forward_at (words line.now)) }
+/// `EVENT`, asked about.
+#[tactic(auto, unfolding(crate::specs::Commands::why_event_at))]
+fn why_event_at(line: &[u8]) -> Result<(AskDraft, &[u8]), LineFault>
+    ensures { Gives (λ x. (x.0, words x.1.now)) result (why_event_at (words line.now)) }
+{
+    let (event, rest) = try_read!(event_at(line));
+    Ok((AskDraft::WhyStep(event), rest))
+}
+
+/// `N`.
+#[tactic(auto, unfolding(crate::specs::Commands::numbered_ask_at))]
+fn numbered_ask_at<'a>(word: &[u8], line: &'a [u8]) -> Result<(AskDraft, &'a [u8]), LineFault>
+    ensures { Gives (λ x. (x.0, words x.1.now)) result (numbered_ask_at word.now (words line.now)) }
+{
+    let (n, rest) = number_at(line, GREATEST_NUMBER)?;
+    match numbered_ask(word, n as u32) {
+        Some(ask) => Ok((AskDraft::Whole(ask), rest)),
+        None => Err(LineFault::Unknown),
+    }
+}
+
+/// What belongs to the word of a question after the branch. An event's word is no number.
+fn ask_by<'a>(word: &[u8], line: &'a [u8]) -> Result<(AskDraft, &'a [u8]), LineFault>
+    ensures { Gives (λ x. (x.0, words x.1.now)) result (ask_by word.now (words line.now)) }
+{
+    if is_word(word, "step") {
+        return step_at(line);
+    }
+    if is_word(word, "why") && begins_event(line) {
+        return why_event_at(line);
+    }
+    match bare_ask(word) {
+        Some(ask) => Ok((AskDraft::Whole(ask), line)),
+        None => numbered_ask_at(word, line),
+    }
+}
+
+/// `BR`, and what is asked of it.
+#[tactic(auto, unfolding(crate::specs::Commands::ask_at))]
+fn ask_at<'a>(word: &[u8], line: &'a [u8]) -> Result<(CommandDraft, &'a [u8]), LineFault>
+    ensures { Gives (λ x. (x.0, words x.1.now)) result (ask_at word.now (words line.now)) }
 {
     let (branch, rest) = try_read!(branch_at(line));
-    let (n, rest) = number_at(rest, GREATEST_NUMBER)?;
-    let n = n as u32;
-    Ok((CommandDraft::Whole(Command::Forward { branch, n }), rest))
+    let (ask, rest) = try_read!(ask_by(word, rest));
+    Ok((CommandDraft::On { branch, ask }, rest))
 }
 
 /// `BR K NEW`.
@@ -221,106 +256,6 @@ fn drop_at(line: &[u8]) -> Result<(CommandDraft, &[u8]), LineFault>
     Ok((CommandDraft::Whole(Command::Drop { branch }), rest))
 }
 
-/// `BR`.
-#[tactic(auto, unfolding(crate::specs::Commands::show_at))]
-fn show_at(line: &[u8]) -> Result<(CommandDraft, &[u8]), LineFault>
-    ensures { Gives (λ x. (x.0, words x.1.now)) result (show_at (words line.now)) }
-{
-    let (branch, rest) = try_read!(branch_at(line));
-    Ok((CommandDraft::Whole(Command::Show { branch }), rest))
-}
-
-/// `BR K`.
-#[tactic(auto, unfolding(crate::specs::Commands::past_at))]
-fn past_at(line: &[u8]) -> Result<(CommandDraft, &[u8]), LineFault>
-    ensures { Gives (λ x. (x.0, words x.1.now)) result (past_at (words line.now)) }
-{
-    let (branch, rest) = try_read!(branch_at(line));
-    let (place, rest) = number_at(rest, GREATEST_NUMBER)?;
-    let place = place as u32;
-    Ok((CommandDraft::Whole(Command::Past { branch, place }), rest))
-}
-
-/// Whether the line begins with an event's word.
-fn begins_event(line: &[u8]) -> bool
-    ensures { result ≡ begins_event (words line.now) }
-{
-    match word_at(line) {
-        Ok((word, _)) => is_event_word(word),
-        Err(_) => false,
-    }
-}
-
-/// `EVENT`, asked about on the branch.
-#[tactic(auto, unfolding(crate::specs::Commands::why_event_at))]
-fn why_event_at(branch: BranchWord, line: &[u8]) -> Result<(CommandDraft, &[u8]), LineFault>
-    ensures { Gives (λ x. (x.0, words x.1.now)) result (why_event_at branch (words line.now)) }
-{
-    let (event, rest) = try_read!(event_at(line));
-    Ok((CommandDraft::WhyStep { branch, event }, rest))
-}
-
-/// `K`, asked about on the branch.
-#[tactic(auto, unfolding(crate::specs::Commands::why_place_at))]
-fn why_place_at(branch: BranchWord, line: &[u8]) -> Result<(CommandDraft, &[u8]), LineFault>
-    ensures { Gives (λ x. (x.0, words x.1.now)) result (why_place_at branch (words line.now)) }
-{
-    let (place, rest) = number_at(line, GREATEST_NUMBER)?;
-    let place = place as u32;
-    Ok((CommandDraft::Whole(Command::Why { branch, place }), rest))
-}
-
-/// `BR EVENT` or `BR K`: an event's word is no number.
-#[tactic(auto, unfolding(crate::specs::Commands::why_at))]
-fn why_at(line: &[u8]) -> Result<(CommandDraft, &[u8]), LineFault>
-    ensures { Gives (λ x. (x.0, words x.1.now)) result (why_at (words line.now)) }
-{
-    let (branch, rest) = try_read!(branch_at(line));
-    if begins_event(rest) {
-        return why_event_at(branch, rest);
-    }
-    why_place_at(branch, rest)
-}
-
-/// `BR TICKET`.
-#[tactic(auto, unfolding(crate::specs::Commands::frame_at))]
-fn frame_at(line: &[u8]) -> Result<(CommandDraft, &[u8]), LineFault>
-    ensures { Gives (λ x. (x.0, words x.1.now)) result (frame_at (words line.now)) }
-{
-    let (branch, rest) = try_read!(branch_at(line));
-    let (ticket, rest) = ticket_at(rest)?;
-    Ok((CommandDraft::Whole(Command::Frame { branch, ticket }), rest))
-}
-
-/// `BR K`.
-#[tactic(auto, unfolding(crate::specs::Commands::excise_at))]
-fn excise_at(line: &[u8]) -> Result<(CommandDraft, &[u8]), LineFault>
-    ensures { Gives (λ x. (x.0, words x.1.now)) result (excise_at (words line.now)) }
-{
-    let (branch, rest) = try_read!(branch_at(line));
-    let (place, rest) = number_at(rest, GREATEST_NUMBER)?;
-    let place = place as u32;
-    Ok((CommandDraft::Whole(Command::Excise { branch, place }), rest))
-}
-
-/// `BR`.
-#[tactic(auto, unfolding(crate::specs::Commands::restore_at))]
-fn restore_at(line: &[u8]) -> Result<(CommandDraft, &[u8]), LineFault>
-    ensures { Gives (λ x. (x.0, words x.1.now)) result (restore_at (words line.now)) }
-{
-    let (branch, rest) = try_read!(branch_at(line));
-    Ok((CommandDraft::Whole(Command::Restore { branch }), rest))
-}
-
-/// `BR`.
-#[tactic(auto, unfolding(crate::specs::Commands::log_at))]
-fn log_at(line: &[u8]) -> Result<(CommandDraft, &[u8]), LineFault>
-    ensures { Gives (λ x. (x.0, words x.1.now)) result (log_at (words line.now)) }
-{
-    let (branch, rest) = try_read!(branch_at(line));
-    Ok((CommandDraft::Whole(Command::Log { branch }), rest))
-}
-
 /// Nothing.
 fn names_at(line: &[u8]) -> Result<(CommandDraft, &[u8]), LineFault>
     ensures { Gives (λ x. (x.0, words x.1.now)) result (names_at (words line.now)) }
@@ -328,18 +263,12 @@ fn names_at(line: &[u8]) -> Result<(CommandDraft, &[u8]), LineFault>
     Ok((CommandDraft::Whole(Command::Names), line))
 }
 
-/// What belongs to a command's word.
+/// What belongs to a command's word. An unknown word is a fault before a branch that is missing.
 fn command_by<'a>(word: &[u8], line: &'a [u8]) -> Result<(CommandDraft, &'a [u8]), LineFault>
     ensures { Gives (λ x. (x.0, words x.1.now)) result (command_by word.now (words line.now)) }
 {
-    if is_word(word, "step") {
-        return step_at(line);
-    }
-    if is_word(word, "back") {
-        return back_at(line);
-    }
-    if is_word(word, "forward") {
-        return forward_at(line);
+    if is_ask_word(word) {
+        return ask_at(word, line);
     }
     if is_word(word, "fork") {
         return fork_at(line);
@@ -347,29 +276,8 @@ fn command_by<'a>(word: &[u8], line: &'a [u8]) -> Result<(CommandDraft, &'a [u8]
     if is_word(word, "drop") {
         return drop_at(line);
     }
-    if is_word(word, "show") {
-        return show_at(line);
-    }
-    if is_word(word, "past") {
-        return past_at(line);
-    }
-    if is_word(word, "why") {
-        return why_at(line);
-    }
-    if is_word(word, "frame") {
-        return frame_at(line);
-    }
     if is_word(word, "names") {
         return names_at(line);
-    }
-    if is_word(word, "excise") {
-        return excise_at(line);
-    }
-    if is_word(word, "restore") {
-        return restore_at(line);
-    }
-    if is_word(word, "log") {
-        return log_at(line);
     }
     Err(LineFault::Unknown)
 }
@@ -399,22 +307,42 @@ pub(crate) fn whole_event(draft: EventDraft) -> Result<Event, LineFault>
     }
 }
 
-/// An event on a branch.
+/// An event that happens.
 #[tactic(auto, unfolding(crate::specs::Commands::whole_step))]
-fn whole_step(branch: BranchWord, event: EventDraft) -> Result<Command, LineFault>
-    ensures { result ≡ whole_step branch event }
+fn whole_step(event: EventDraft) -> Result<Ask, LineFault>
+    ensures { result ≡ whole_step event }
 {
     let event = whole_event(event)?;
-    Ok(Command::Step { branch, event })
+    Ok(Ask::Step { event })
 }
 
-/// An event that is asked about on a branch.
+/// An event that is asked about.
 #[tactic(auto, unfolding(crate::specs::Commands::whole_why))]
-fn whole_why(branch: BranchWord, event: EventDraft) -> Result<Command, LineFault>
-    ensures { result ≡ whole_why branch event }
+fn whole_why(event: EventDraft) -> Result<Ask, LineFault>
+    ensures { result ≡ whole_why event }
 {
     let event = whole_event(event)?;
-    Ok(Command::WhyStep { branch, event })
+    Ok(Ask::WhyStep { event })
+}
+
+/// What is asked, once its packet is judged.
+fn whole_ask(draft: AskDraft) -> Result<Ask, LineFault>
+    ensures { result ≡ whole_ask draft }
+{
+    match draft {
+        AskDraft::Step(event) => whole_step(event),
+        AskDraft::WhyStep(event) => whole_why(event),
+        AskDraft::Whole(ask) => Ok(ask),
+    }
+}
+
+/// What is asked of a branch.
+#[tactic(auto, unfolding(crate::specs::Commands::whole_on))]
+fn whole_on(branch: BranchWord, ask: AskDraft) -> Result<Command, LineFault>
+    ensures { result ≡ whole_on branch ask }
+{
+    let ask = whole_ask(ask)?;
+    Ok(Command::On { branch, ask })
 }
 
 /// The command, once its packet is judged.
@@ -422,8 +350,7 @@ fn whole_command(draft: CommandDraft) -> Result<Command, LineFault>
     ensures { result ≡ whole_command draft }
 {
     match draft {
-        CommandDraft::Step { branch, event } => whole_step(branch, event),
-        CommandDraft::WhyStep { branch, event } => whole_why(branch, event),
+        CommandDraft::On { branch, ask } => whole_on(branch, ask),
         CommandDraft::Whole(command) => Ok(command),
     }
 }

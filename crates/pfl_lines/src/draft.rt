@@ -1,7 +1,7 @@
 //! What lines say before their packets are judged.
 
 use pfl_base::{Dir, NodeId, PacketFields, TcpFlags};
-use pfl_language::{BranchWord, Command, Event};
+use pfl_language::{Ask, BranchWord, Command, Event};
 
 /// What a packet has after its ends. Nothing of TCP is there for another protocol.
 #[derive(Clone, Copy, Debug)]
@@ -25,16 +25,17 @@ pub enum EventDraft {
     Whole(Event),
 }
 
+/// What is asked of a branch, whose packet may be none.
+#[derive(Clone, Copy, Debug)]
+pub enum AskDraft {
+    Step(EventDraft),
+    WhyStep(EventDraft),
+    Whole(Ask),
+}
+
 /// A command, whose packet may be none.
 #[derive(Clone, Copy, Debug)]
 pub enum CommandDraft {
-    Step {
-        branch: BranchWord,
-        event: EventDraft,
-    },
-    WhyStep {
-        branch: BranchWord,
-        event: EventDraft,
-    },
+    On { branch: BranchWord, ask: AskDraft },
     Whole(Command),
 }

@@ -2,6 +2,7 @@
 #![tactic(auto)]
 
 mod addresses;
+mod ask_words;
 mod commands;
 mod draft;
 mod event_words;
@@ -17,6 +18,7 @@ mod setup;
 mod words;
 mod written;
 
+pub use ask_words::ask_word;
 pub use commands::{LONGEST, parse_line};
 pub use fault::LineFault;
 pub use laws::{commands_read_back, steps_read_back, whys_read_back};

@@ -2,7 +2,6 @@ pub mod Pieces
 pub mod Running
 pub mod CheckedLines
 pub mod Lists
-pub mod Listing
 pub mod Placing
 pub mod Logging
 pub mod Setting

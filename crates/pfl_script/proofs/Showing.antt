@@ -1,17 +1,6 @@
--- What shows a branch is the reply of the command that asks for it.
+-- What follows from what is shown of a branch, if anything is.
 use Rattle.std.proofs.Common.{ℕ, List, Option, Some, None, Ok, Err, Result}
 use Rattle.std.specs.Prelude.{◌≡◌, IfSome, IsSomeAnd, OnOk, OnErr, refl}
-use Rattle.pfl_language.specs.declared.command.Command.TheVariants as command
-use Rattle.pfl_timeline.specs.Commands.{command_step, show_command, past_command}
-use Rattle.pfl_timeline.specs.Timelines.{Timeline}
-
-pub show-step : (t : Timeline) (name : List ℕ) → command_step t (command.Show name) ≡ show_command t name
-unfolding command_step
-show-step t name = refl
-
-pub past-step : (t : Timeline) (name : List ℕ) (k : ℕ) → command_step t (command.Past name k) ≡ past_command t name k
-unfolding command_step
-past-step t name k = refl
 
 -- there is one that is shown
 pub of-shown : {X : Type 0} (o : Option X) (P : X → Type 0) (R : Type 0) → ((x : X) → P x → R) → IsSomeAnd o P → R

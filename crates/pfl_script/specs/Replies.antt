@@ -1,5 +1,5 @@
 -- The text of replies (this project's profile).
-use Rattle.std.specs.Prelude.{ℕ, Bool, true, false, List, ◌∷◌, ◌++◌, codes}
+use Rattle.std.specs.Prelude.{ℕ, List, ◌∷◌, ◌++◌, codes}
 use Rattle.std.specs.List.{flat_map}
 use Rattle.std.specs.Fmt.{decimal}
 use Rattle.pfl_timeline.specs.Replies.{Reply, Stepped, At, Forked, Removed, Shown, Names, Excised, Restored, Logged, Explained, Traced, Refused}
@@ -31,13 +31,3 @@ reply_text (Logged name events cursor) = log_text name events cursor
 reply_text (Explained name place event came why) = explained_text name place event came why
 reply_text (Traced name ticket trace) = traced_text name ticket trace
 reply_text (Refused why) = codes "refused " ++ refused_text why ++ codes "\n"
-
--- the text of the reply takes memory, since it is made at one time and no number bounds its length; a command that has such a
--- reply changes nothing
-abbrev pub takes_memory : Reply → Bool
-takes_memory (Shown name events cursor world) = true
-takes_memory (Names names) = true
-takes_memory (Logged name events cursor) = true
-takes_memory (Explained name place event came why) = true
-takes_memory (Traced name ticket trace) = true
-takes_memory _ = false

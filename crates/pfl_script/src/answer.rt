@@ -18,7 +18,7 @@ use crate::output::{write_reply, write_shown, write_text};
 use crate::past::answer_past;
 use crate::replies::fault_line;
 use pfl_base::Output;
-use pfl_language::{BranchWord, Command};
+use pfl_language::{Ask, BranchWord, Command};
 use pfl_lines::{ScriptLine, SearchLine};
 use pfl_reader::Line;
 use pfl_timeline::{Reply, Timeline};
@@ -48,8 +48,8 @@ fn answer_show<A: Allocator, B: Allocator + Copy, W: Output>(
     }
 }
 
-/// Executes a command and writes its reply. Where memory is wanting, be it for the reply, nothing has changed.
-fn answer_command<A: Allocator + Copy, B: Allocator + Copy, W: Output>(
+/// Carries a command out, and writes its reply. Where memory is wanting, be it for the reply, nothing has changed.
+fn answer_reply<A: Allocator + Copy, B: Allocator + Copy, W: Output>(
     alloc: A,
     command: Command,
     writer: &mut W,
@@ -64,16 +64,40 @@ fn answer_command<A: Allocator + Copy, B: Allocator + Copy, W: Output>(
     ensures unchanged { IfErr result (λ e. e ≡ EngineFault.NoMemory → timeline.new ≡ timeline.old) }
     ensures fault { IfErr result (λ e. IsWriteFault e (W.has_failed writer.new)) }
 {
-    if let Command::Show { branch } = command {
-        return answer_show(alloc, &branch, writer, timeline);
-    }
-    if let Command::Past { branch, place } = command {
-        return answer_past(alloc, &branch, place, writer, timeline);
-    }
     let Ok(reply) = timeline.command(command) else {
         return Err(EngineFault::NoMemory);
     };
     write_reply(alloc, &reply, writer)
+}
+
+/// Executes a command and writes its reply, that of a look at a branch's world without a copy of the pair. Where memory is wanting, be it
+/// for the reply, nothing has changed.
+fn answer_command<A: Allocator + Copy, B: Allocator + Copy, W: Output>(
+    alloc: A,
+    command: &Command,
+    writer: &mut W,
+    timeline: &mut Timeline<B>,
+) -> Result<(), EngineFault>
+    ensures timeline { OnOk result (timeline.new ≡ (answer_to (Ok (script.Command command.now)) timeline.old).timeline) }
+    ensures text { OnOk result (Appends (W.written writer.old) (W.written writer.new) (answer_to (Ok (script.Command command.now)) timeline.old).text) }
+    ensures stays { OnOk result (W.has_failed writer.new ≡ W.has_failed writer.old) }
+    ensures breaks { OnErr result (Breaks (answer_to (Ok (script.Command command.now)) timeline.old) timeline.old timeline.new
+        (W.written writer.old) (W.written writer.new)) }
+    ensures untouched { IfErr result (λ e. e ≡ EngineFault.NoMemory → writer.new ≡ writer.old) }
+    ensures unchanged { IfErr result (λ e. e ≡ EngineFault.NoMemory → timeline.new ≡ timeline.old) }
+    ensures fault { IfErr result (λ e. IsWriteFault e (W.has_failed writer.new)) }
+{
+    match command {
+        Command::On {
+            branch,
+            ask: Ask::Show,
+        } => answer_show(alloc, branch, writer, timeline),
+        Command::On {
+            branch,
+            ask: Ask::Past { place },
+        } => answer_past(alloc, branch, *place, writer, timeline),
+        _ => answer_reply(alloc, *command, writer, timeline),
+    }
 }
 
 /// Searches, and writes the answer. Nothing changes.
@@ -123,7 +147,7 @@ fn answer_said<A: Allocator + Copy, B: Allocator + Copy, W: Output>(
     ensures fault { IfErr result (λ e. IsWriteFault e (W.has_failed writer.new)) }
 {
     match said {
-        ScriptLine::Command(command) => answer_command(alloc, command, writer, timeline),
+        ScriptLine::Command(command) => answer_command(alloc, &command, writer, timeline),
         ScriptLine::Search(search) => answer_search(alloc, &search, writer, timeline),
     }
 }
@@ -191,7 +215,7 @@ pub fn answer_line<A: Allocator + Copy, B: Allocator + Copy, W: Output>(
             Ok(()) => Ok(true),
             Err(fault) => Err(fault),
         },
-        Ok(command) => match answer_command(alloc, command, writer, timeline) {
+        Ok(command) => match answer_command(alloc, &command, writer, timeline) {
             Ok(()) => Ok(false),
             Err(fault) => Err(fault),
         },

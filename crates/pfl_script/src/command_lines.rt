@@ -1,14 +1,14 @@
 //! Commands as their lines say them, and the line of a journal's entry.
 
-ghost use Rattle.std.specs.Prelude.{◌≡◌, ◌++◌, codes, OnOk, IfOk};
-ghost use Rattle.pfl_lines.specs.Written.{on_branch, on_branch_with, why_text, command_text};
+ghost use Rattle.std.specs.Prelude.{◌≡◌, ◌++◌, OnOk, IfOk};
+ghost use Rattle.pfl_lines.specs.AskWords.{ask_rest};
+ghost use Rattle.pfl_lines.specs.Written.{on_branch, rest_text, command_text};
 ghost use Rattle.pfl_script.specs.Entries.{entry_text};
 
 use crate::listed::push_shown;
-use crate::logged::push_step;
 use pfl_edits::NoMemory;
-use pfl_language::{BranchWord, Command, Event};
-use pfl_lines::EventWords;
+use pfl_language::{Ask, BranchWord, Command};
+use pfl_lines::{EventWords, ask_word};
 use std::alloc::Allocator;
 
 /// Appends a command's word and a branch to a text.
@@ -24,44 +24,23 @@ fn push_on_branch<A: Allocator>(
     Ok(text.extend_from_slice(branch.bytes())?)
 }
 
-/// Appends a command's word, a branch and a number to a text.
-fn push_on_branch_with<A: Allocator>(
-    text: &mut Vec<u8, A>,
-    word: &str,
-    branch: &BranchWord,
-    number: u32,
-) -> Result<(), NoMemory>
-    ensures { OnOk result (text.new.items ≡ text.old.items ++ on_branch_with word.now branch.now number) }
+/// Appends what is said after them to a text.
+fn push_rest<A: Allocator>(text: &mut Vec<u8, A>, ask: &Ask) -> Result<(), NoMemory>
+    ensures { OnOk result (text.new.items ≡ text.old.items ++ rest_text (ask_rest ask.now)) }
 {
-    push_on_branch(text, word, branch)?;
-    push_shown(text, format_args!(" {number}"))
-}
-
-/// Appends the line that makes a branch to a text.
-fn push_fork<A: Allocator>(
-    text: &mut Vec<u8, A>,
-    from: &BranchWord,
-    place: u32,
-    name: &BranchWord,
-) -> Result<(), NoMemory>
-    ensures { OnOk result (text.new.items ≡ text.old.items ++ (on_branch_with (codes "fork") from.now place ++ codes " " ++ name.now)) }
-{
-    push_on_branch_with(text, "fork", from, place)?;
-    text.extend_from_slice(b" ")?;
-    Ok(text.extend_from_slice(name.bytes())?)
-}
-
-/// Appends the line that asks what would come of an event, and why, to a text.
-fn push_why<A: Allocator>(
-    text: &mut Vec<u8, A>,
-    branch: &BranchWord,
-    event: &Event,
-) -> Result<(), NoMemory>
-    ensures { OnOk result (text.new.items ≡ text.old.items ++ why_text branch.now event.now) }
-{
-    push_on_branch(text, "why", branch)?;
-    text.extend_from_slice(b" ")?;
-    push_shown(text, EventWords(*event))
+    match ask {
+        Ask::Step { event } | Ask::WhyStep { event } => {
+            text.extend_from_slice(b" ")?;
+            push_shown(text, EventWords(*event))
+        }
+        Ask::Back { n: number }
+        | Ask::Forward { n: number }
+        | Ask::Past { place: number }
+        | Ask::Why { place: number }
+        | Ask::Frame { ticket: number }
+        | Ask::Excise { place: number } => push_shown(text, format_args!(" {number}")),
+        _ => Ok(()),
+    }
 }
 
 /// Appends a command to a text, as its line says it.
@@ -69,20 +48,18 @@ fn push_command<A: Allocator>(text: &mut Vec<u8, A>, command: &Command) -> Resul
     ensures { OnOk result (text.new.items ≡ text.old.items ++ command_text command.now) }
 {
     match command {
-        Command::Step { branch, event } => push_step(text, branch.bytes(), event),
-        Command::Back { branch, n } => push_on_branch_with(text, "back", branch, *n),
-        Command::Forward { branch, n } => push_on_branch_with(text, "forward", branch, *n),
-        Command::Fork { from, place, name } => push_fork(text, from, *place, name),
+        Command::On { branch, ask } => {
+            push_on_branch(text, ask_word(ask), branch)?;
+            push_rest(text, ask)
+        }
+        Command::Fork { from, place, name } => {
+            let place = *place;
+            push_on_branch(text, "fork", from)?;
+            push_shown(text, format_args!(" {place} "))?;
+            Ok(text.extend_from_slice(name.bytes())?)
+        }
         Command::Drop { branch } => push_on_branch(text, "drop", branch),
-        Command::Show { branch } => push_on_branch(text, "show", branch),
-        Command::Past { branch, place } => push_on_branch_with(text, "past", branch, *place),
-        Command::Why { branch, place } => push_on_branch_with(text, "why", branch, *place),
-        Command::WhyStep { branch, event } => push_why(text, branch, event),
-        Command::Frame { branch, ticket } => push_on_branch_with(text, "frame", branch, *ticket),
         Command::Names => Ok(text.extend_from_slice(b"names")?),
-        Command::Excise { branch, place } => push_on_branch_with(text, "excise", branch, *place),
-        Command::Restore { branch } => push_on_branch(text, "restore", branch),
-        Command::Log { branch } => push_on_branch(text, "log", branch),
     }
 }
 

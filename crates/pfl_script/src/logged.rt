@@ -25,7 +25,7 @@ fn push_head<A: Allocator>(
 }
 
 /// Appends the line that steps an event to a text.
-pub(crate) fn push_step<A: Allocator>(
+fn push_step<A: Allocator>(
     text: &mut Vec<u8, A>,
     name: &[u8],
     event: &Event,

@@ -3,8 +3,9 @@
 ghost use Rattle.std.specs.Prelude.{◌≡◌, ◌≤◌, ℕ, true, length, take, OnOk, OnErr, IfErr, IfSome};
 ghost use Rattle.std.specs.Io.KnownBytes.{Appends};
 ghost use Rattle.pfl_timeline.specs.Replies.{Stepped, reply_of};
+ghost use Rattle.pfl_timeline.specs.Sizes.{is_listing};
 ghost use Rattle.pfl_script.specs.Readers.{IsWriteFault};
-ghost use Rattle.pfl_script.specs.Replies.{reply_text, takes_memory};
+ghost use Rattle.pfl_script.specs.Replies.{reply_text};
 ghost use Rattle.pfl_script.specs.inner.Answers.{branch_text};
 ghost use Rattle.pfl_timeline.specs.Rooted.{shown};
 
@@ -61,7 +62,7 @@ pub fn write_reply<A: Allocator, B: Allocator + Copy, W: Output>(
 ) -> Result<(), EngineFault>
     ensures whole { OnOk result (Appends (W.written writer.old) (W.written writer.new) (reply_text (reply_of reply.now))) }
     ensures stays { OnOk result (W.has_failed writer.new ≡ W.has_failed writer.old) }
-    ensures memory { IfErr result (λ e. e ≡ EngineFault.NoMemory → takes_memory (reply_of reply.now) ≡ true) }
+    ensures memory { IfErr result (λ e. e ≡ EngineFault.NoMemory → is_listing (reply_of reply.now) ≡ true) }
     ensures untouched { IfErr result (λ e. e ≡ EngineFault.NoMemory → writer.new ≡ writer.old) }
     ensures part { OnErr result ((n : ℕ) × Appends (W.written writer.old) (W.written writer.new) (take n (reply_text (reply_of reply.now)))) }
     ensures fault { IfErr result (λ e. IsWriteFault e (W.has_failed writer.new)) }

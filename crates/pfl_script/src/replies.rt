@@ -5,8 +5,9 @@ ghost use Rattle.std.specs.List.{flat_map};
 ghost use Rattle.std.specs.Fmt.{decimal};
 ghost use Rattle.arrayvec.specs.ArrayString.{array_string_len};
 ghost use Rattle.pfl_timeline.specs.Replies.{Stepped, At, Names, Restored, Refused as Refusing, reply_of};
+ghost use Rattle.pfl_timeline.specs.Sizes.{is_listing};
 ghost use Rattle.pfl_script.specs.Texts.{bad_text};
-ghost use Rattle.pfl_script.specs.Replies.{named, reply_text, takes_memory};
+ghost use Rattle.pfl_script.specs.Replies.{named, reply_text};
 ghost use Rattle.pfl_script.specs.inner.Texts.{bytes_of};
 
 use crate::explained::explained_text;
@@ -118,7 +119,7 @@ pub fn reply_text<'a, A: Allocator, B: Allocator + Copy>(
     reply: &'a Reply<B>,
 ) -> Result<ReplyText<'a, A>, NoMemory>
     ensures text { IfOk result (λ text. bytes_of text ≡ reply_text (reply_of reply.now)) }
-    ensures memory { OnErr result (takes_memory (reply_of reply.now) ≡ true) }
+    ensures memory { OnErr result (is_listing (reply_of reply.now) ≡ true) }
 {
     Ok(match reply {
         Reply::Stepped { outcome, dropped } => ReplyText::Short(stepped_line(*outcome, *dropped)),

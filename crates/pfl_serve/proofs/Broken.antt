@@ -4,11 +4,12 @@ use Rattle.std.specs.Prelude.{Result, IfErr, IfOk, OnErr, OnOk}
 use Rattle.std.specs.Io.KnownBytes.{Appends}
 use Rattle.pfl_language.specs.declared.command.Command.{Command}
 use Rattle.pfl_script.specs.timeline.Replies.{Reply}
+use Rattle.pfl_script.specs.timeline.Sizes.{is_listing}
 use Rattle.pfl_session.specs.Ledgers.{one_more_counted}
 use Rattle.pfl_session.specs.Passes.{Seen, GoesOn, HasSeenItsCalls, HasSeenJournal, AddsCall}
 use Rattle.pfl_script.specs.lines.declared.fault.LineFault.{LineFault}
 use Rattle.pfl_script.specs.lines.declared.session.SessionLine.{SessionLine}
-use Rattle.pfl_script.specs.Replies.{reply_text, takes_memory}
+use Rattle.pfl_script.specs.Replies.{reply_text}
 use Rattle.pfl_script.specs.declared.fault.EngineFault.{EngineFault}
 use Rattle.pfl_script.specs.declared.fault.EngineFault.TheVariants as engine
 use Rattle.pfl_script.specs.Readers.{IsWriteFault}
@@ -46,7 +47,7 @@ module _ {M : Type 0} (site : Site) (old new : Seen M) (command : Command) (repl
   replied : IsReplied site old new command (reply_text reply)
   replied = record { asked = asked; sent = inl (record { reply = reply; called = called; sent = refl }) }
 
-  unanswered : takes_memory reply ≡ true → IsUnanswered site old new command
+  unanswered : is_listing reply ≡ true → IsUnanswered site old new command
   unanswered memory = record { asked = asked; done = inl (reply, called, memory) }
 
   -- the reply to a call was written whole
@@ -60,7 +61,7 @@ module _ {M : Type 0} (site : Site) (old new : Seen M) (command : Command) (repl
   pub breaks-reply : {X D : Type 0} (r : Result X EngineFault) (written : D → Option (List ℕ)) (before after : D) (failed : Bool) →
       IfErr r (λ e. IsWriteFault e failed) → OnErr r ((part : ℕ) × Appends (written before) (written after) (take part (reply_text reply)))
       → IfErr r (λ e. e ≡ engine.NoMemory → after ≡ before) →
-      IfErr r (λ e. e ≡ engine.NoMemory → takes_memory reply ≡ true) →
+      IfErr r (λ e. e ≡ engine.NoMemory → is_listing reply ≡ true) →
       IfErr r (λ e. Breaks (IsReplied site old new command) (Unanswered site command old new) e (written before) (written after))
   breaks-reply (Ok x) written before after failed fault part same memory = tt
   breaks-reply (Err engine.Write) written before after failed fault part same memory = (reply_text reply, replied, part)

@@ -5,6 +5,7 @@ use Rattle.std.specs.Io.KnownBytes.{Appends}
 use Rattle.pfl_language.specs.declared.command.Command.{Command}
 use Rattle.pfl_session.specs.publish.Seats.{IsRead, IsOvertaken, OvertakenBefore, MakesTries}
 use Rattle.pfl_script.specs.timeline.Replies.{Reply}
+use Rattle.pfl_script.specs.timeline.Sizes.{is_listing}
 use Rattle.pfl_script.specs.timeline.Timelines.{Timeline}
 use Rattle.pfl_session.specs.declared.entry.Entry.{Entry}
 use Rattle.pfl_session.specs.Ledgers.{one_more_counted}
@@ -14,7 +15,7 @@ use Rattle.pfl_script.specs.lines.declared.session.SessionLine.{SessionLine}
 use Rattle.pfl_script.specs.lines.declared.session.SessionLine.TheVariants.{View, Setup, Follow, Ask}
 use Rattle.pfl_script.specs.lines.Session.{parsed_session}
 use Rattle.pfl_script.specs.Answers.{AreLines, AreFirst, Drains, one_if}
-use Rattle.pfl_script.specs.Replies.{reply_text, takes_memory}
+use Rattle.pfl_script.specs.Replies.{reply_text}
 use Rattle.pfl_script.specs.reader.Scans.{head_of, has_word, TakesLines}
 use Rattle.pfl_script.specs.Texts.{bad_text}
 use Rattle.pfl_script.specs.declared.fault.EngineFault.{EngineFault}
@@ -142,7 +143,7 @@ module _ {M : Type 0} where
   -- no answer to a command, for want of memory: it was called and its reply takes memory, or the journal has room
   pub record IsUnanswered (site : Site) (old new : Seen M) (command : Command) : Type 0 where
     pub asked : HasAsked site old new
-    pub done : ((reply : Reply) × IsCalled old new command reply × (takes_memory reply ≡ true)) ⊎ (IsNotCalled old new × (length (seen_in new) < site.limit))
+    pub done : ((reply : Reply) × IsCalled old new command reply × (is_listing reply ≡ true)) ⊎ (IsNotCalled old new × (length (seen_in new) < site.limit))
 
   -- the entries after the first n were shown, up to the one of number m, and meanwhile the pass saw calls of other sessions alone; each was
   -- shown with a number that the pass loaded then, a load of its own, in their order

@@ -18,7 +18,8 @@ use Rattle.pfl_session.specs.Labs.{HasSeenOwn}
 use Rattle.pfl_session.specs.Ledgers.{one_more_counted, HasMet, IsEntered}
 use Rattle.pfl_session.proofs.Replays.{some_same, replay-snoc, legal-snoc, calls-history, count-own, counts-get, counts-set, all-seen, seen-is}
 use Rattle.pfl_session.proofs.Replays.{seen-journal, others-since, call-since}
-use Rattle.pfl_session.proofs.Growth.{all_behind, grown}
+use Rattle.pfl_timeline.proofs.ForCallers.{all_behind}
+use Rattle.pfl_session.proofs.Growth.{grown}
 
 module _ {M : Type 0} where
   -- a pass that was compared, and has then met

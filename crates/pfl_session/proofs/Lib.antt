@@ -1,8 +1,8 @@
 pub mod Asked
 pub mod Falling
+pub mod Answered
 pub mod Growth
 pub mod KeptEntries
-pub mod Listed
 pub mod LongWords
 pub mod Looks
 pub mod Replays

@@ -12,11 +12,8 @@ use Rattle.pfl_language.specs.declared.command.Command.TheVariants as command
 use Rattle.pfl_language.specs.declared.refused.Refused.TheVariants as refused
 use Rattle.pfl_timeline.specs.desk.Nodes.{refused_by}
 use Rattle.pfl_timeline.specs.world.Worlds.{World}
-use Rattle.pfl_timeline.specs.Commands.{replied, reply_unless, with_branch, first_events, fork_reply, step_reply, back_reply, forward_reply}
-use Rattle.pfl_timeline.specs.Commands.{drop_reply, show_reply, past_reply, why_reply, why_step_reply, frame_reply, excise_reply, restore_reply}
-use Rattle.pfl_timeline.specs.Commands.{log_reply, step_command, back_command, forward_command, fork_command, drop_command, show_command}
-use Rattle.pfl_timeline.specs.Commands.{past_command, why_command, why_step_command, frame_command, excise_command, restore_command, log_command}
-use Rattle.pfl_timeline.specs.Commands.{names_command, command_step}
+use Rattle.pfl_timeline.specs.Answers.{answer}
+use Rattle.pfl_timeline.specs.Commands.{replied, reply_unless, with_branch, in_place, first_events, fork_reply, drop_reply, command_step}
 use Rattle.pfl_timeline.specs.Replies.{Replied, Forked, Refused as Refusing}
 use Rattle.pfl_timeline.specs.Timelines.{Branch, Timeline, IsBranch, IsTimeline, branch_of}
 use Rattle.pfl_session.specs.inner.Fitting.{is_long, has_long_word}
@@ -79,19 +76,8 @@ fork-keeps t from k name is long =
     ] refl long
 
 pub long-word-keeps : (t : Timeline) (c : Command) → IsTimeline t → IsTrue (has_long_word c) → (command_step t c).timeline ≡ t
-unfolding command_step step_command back_command forward_command fork_command drop_command show_command past_command why_command
-    why_step_command frame_command excise_command restore_command names_command log_command
-long-word-keeps t (command.Step name e) is long = unnamed-keeps t name (step_reply t e) is long
-long-word-keeps t (command.Back name n) is long = unnamed-keeps t name (back_reply t n) is long
-long-word-keeps t (command.Forward name n) is long = unnamed-keeps t name (forward_reply t n) is long
+unfolding command_step
+long-word-keeps t (command.On name q) is long = unnamed-keeps t name (λ b. in_place t (answer t.opening b q)) is long
 long-word-keeps t (command.Fork from k name) is long = fork-keeps t from k name is long
 long-word-keeps t (command.Drop name) is long = unnamed-keeps t name (drop_reply t) is long
-long-word-keeps t (command.Show name) is long = unnamed-keeps t name (show_reply t) is long
-long-word-keeps t (command.Past name k) is long = unnamed-keeps t name (past_reply t k) is long
-long-word-keeps t (command.Why name k) is long = unnamed-keeps t name (why_reply t k) is long
-long-word-keeps t (command.WhyStep name e) is long = unnamed-keeps t name (why_step_reply t e) is long
-long-word-keeps t (command.Frame name ticket) is long = unnamed-keeps t name (frame_reply t ticket) is long
 long-word-keeps t command.Names is long = absurd (both_ways false refl long)
-long-word-keeps t (command.Excise name k) is long = unnamed-keeps t name (excise_reply t k) is long
-long-word-keeps t (command.Restore name) is long = unnamed-keeps t name (restore_reply t) is long
-long-word-keeps t (command.Log name) is long = unnamed-keeps t name (log_reply t) is long

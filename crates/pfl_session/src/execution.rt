@@ -3,7 +3,8 @@
 ghost use Rattle.std.specs.Prelude.{◌≡◌, ◌≤◌, [], length, IfOk, OnErr, IsTrue, vec_capacity};
 ghost use Rattle.pfl_timeline.specs.Commands.{command_step, replied};
 ghost use Rattle.pfl_timeline.specs.Replies.{reply_of};
-ghost use Rattle.pfl_session.specs.Listings.{is_listing, places_in};
+ghost use Rattle.pfl_timeline.specs.Sizes.{is_listing};
+ghost use Rattle.pfl_session.specs.Listings.{places_in};
 
 use crate::kept::KeptEntry;
 use crate::room::{filled, most_places};

@@ -83,14 +83,8 @@ impl<A: Allocator> KeptEntry<A> {
         ensures { result ≡ self.now.command }
     {
         match &self.form {
-            Form::Step { name, event, .. } => Command::Step {
-                branch: name.word(),
-                event: event.event(),
-            },
-            Form::WhyStep { name, event, .. } => Command::WhyStep {
-                branch: name.word(),
-                event: event.event(),
-            },
+            Form::Step { name, event, .. } => Command::step(name.word(), event.event()),
+            Form::WhyStep { name, event, .. } => Command::why_step(name.word(), event.event()),
             Form::Plain { name, command, .. } => command.command(name),
             Form::Whole(entry) => entry.command,
         }

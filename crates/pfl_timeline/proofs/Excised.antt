@@ -7,19 +7,19 @@ use Rattle.std.proofs.lemmas.Bool.{leb-true}
 use Rattle.std.proofs.lemmas.Slice.Eq.{bytes_eq-Decides}
 use Rattle.pfl_edits.proofs.ForCallers.{some_is_none}
 use Rattle.pfl_language.specs.declared.event.Event.{Event}
+use Rattle.pfl_language.specs.declared.ask.Ask.TheVariants as ask
 use Rattle.pfl_language.specs.declared.command.Command.TheVariants as command
-use Rattle.pfl_language.specs.declared.refused.Refused.TheVariants as refused
 use Rattle.pfl_language.specs.BranchWords.{same_name}
-use Rattle.pfl_search.specs.world.desk.Nodes.{refused_by}
 use Rattle.pfl_search.specs.world.Runs.{run}
 use Rattle.pfl_search.specs.world.Worlds.{World}
-use Rattle.pfl_timeline.specs.Commands.{replied, reply_unless, with_changed, excise_reply, restore_reply, excise_command, restore_command}
-use Rattle.pfl_timeline.specs.Commands.{command_step, replayed}
+use Rattle.pfl_timeline.specs.Answers.{answer}
+use Rattle.pfl_timeline.specs.Commands.{replied, with_changed, in_place, command_step, replayed}
 use Rattle.pfl_timeline.specs.Excisions.{placed, without, has_event, excised, fallen_places}
 use Rattle.pfl_timeline.specs.Laws.{ExcisionsAreRunsWithout, ExcisionsLeaveStanding, ExcisionsReportTheRefused, NothingElseFallsOut}
 use Rattle.pfl_timeline.specs.Laws.{RestorationsTakeBack, accepted_events, refused_behind, events_of}
-use Rattle.pfl_timeline.specs.Replies.{Replied, Excised, Restored, Refused as Refusing}
+use Rattle.pfl_timeline.specs.Replies.{Replied, Excised, Restored}
 use Rattle.pfl_timeline.specs.Timelines.{Branch, Timeline, branch_of, standing}
+use Rattle.pfl_timeline.proofs.Answering.{asked-there, excise-is}
 use Rattle.pfl_timeline.proofs.Distinct.{called}
 use Rattle.pfl_timeline.proofs.Others.{has_the_name}
 use Rattle.pfl_timeline.proofs.Parting.{sieve-standing, sieve-refused}
@@ -67,22 +67,19 @@ module _ (t : Timeline) (name : List ℕ) (k : ℕ) (b : Branch) (here : branch_
   abbrev new : Branch
   new = excised t.opening k b
 
-  taken_out : command_step t (command.Excise name k) ≡ replied (with_changed t new) (Excised (fallen_places t.opening k b))
-  unfolding command_step excise_command
-  taken_out =
-      ap (λ (o : Option Branch). option_map_or (excise_reply t k) o (replied t (Refusing refused.NoBranch))) here
-      ∙ ap (λ there. reply_unless t (refused_by ((not there, refused.NoEvent) ∷ [])) (replied (with_changed t new) (Excised (fallen_places t.opening k b)))) has
+  taken_out : command_step t (command.On name (ask.Excise k)) ≡ replied (with_changed t new) (Excised (fallen_places t.opening k b))
+  taken_out = asked-there t name b (ask.Excise k) here ∙ ap (in_place t) (excise-is t.opening b k has)
 
   new_there : branch_of (with_changed t new) name ≡ Some new
   new_there = changed_there t name b new here refl
 
-  pub what-is-left : events_of (command_step t (command.Excise name k)).timeline name ≡ Some (accepted_events t.opening (without k b.events))
+  pub what-is-left : events_of (command_step t (command.On name (ask.Excise k))).timeline name ≡ Some (accepted_events t.opening (without k b.events))
   what-is-left =
       ap (λ (r : Replied). events_of r.timeline name) taken_out
       ∙ ap (λ (o : Option Branch). option_map (λ c. c.events) o) new_there
       ∙ ap Some (sieve-accepted t.opening (without k (placed b.events)) ∙ ap (accepted_events t.opening) (events_without k b.events))
 
-  pub what-stands : option_map standing (branch_of (command_step t (command.Excise name k)).timeline name)
+  pub what-stands : option_map standing (branch_of (command_step t (command.On name (ask.Excise k))).timeline name)
       ≡ Some (accepted_events t.opening (without k (standing b)))
   what-stands =
       ap (λ (r : Replied). option_map standing (branch_of r.timeline name)) taken_out
@@ -90,25 +87,24 @@ module _ (t : Timeline) (name : List ℕ) (k : ℕ) (b : Branch) (here : branch_
       ∙ ap Some (sieve-standing t.opening k b.cursor b.events (some_event (nat_le 1 k) (nat_le k (length b.events)) k refl has))
 
   pub what-is-told : (w : World) → run t.opening (take (k - 1) b.events) ≡ Some w
-      → (command_step t (command.Excise name k)).reply ≡ Excised (refused_behind k w (drop k b.events))
+      → (command_step t (command.On name (ask.Excise k))).reply ≡ Excised (refused_behind k w (drop k b.events))
   what-is-told w here_w = ap (λ (r : Replied). r.reply) taken_out ∙ ap Excised (sieve-refused t.opening k b.events w here_w)
 
-  pub none-falls : IsTrue (is_some (run t.opening (without k b.events))) → (command_step t (command.Excise name k)).reply ≡ Excised []
+  pub none-falls : IsTrue (is_some (run t.opening (without k b.events))) → (command_step t (command.On name (ask.Excise k))).reply ≡ Excised []
   none-falls runs =
       let all = sieve-keeps t.opening (without k (placed b.events))
       (subst (λ (es : List Event). IsTrue (is_some (run t.opening es))) (sym (events_without k b.events)) runs) in
       ap (λ (r : Replied). r.reply) taken_out ∙ ap (λ ps. Excised (places_in ps)) all.fallen
 
-  brought_back : command_step (with_changed t new) (command.Restore name)
+  brought_back : command_step (with_changed t new) (command.On name ask.Restore)
       ≡ replied (with_changed (with_changed t new) (record b { former = None })) (Restored b.cursor)
-  unfolding command_step restore_command
-  brought_back = ap (λ (o : Option Branch). option_map_or (restore_reply (with_changed t new)) o
-      (replied (with_changed t new) (Refusing refused.NoBranch))) new_there
+  unfolding answer
+  brought_back = asked-there (with_changed t new) name new ask.Restore new_there
 
-  pub back-again : branch_of (replayed t (command.Excise name k ∷ command.Restore name ∷ [])) name ≡ Some (record b { former = None })
+  pub back-again : branch_of (replayed t (command.On name (ask.Excise k) ∷ command.On name ask.Restore ∷ [])) name ≡ Some (record b { former = None })
   unfolding replayed
   back-again =
-      ap (λ (r : Replied). branch_of (command_step r.timeline (command.Restore name)).timeline name) taken_out
+      ap (λ (r : Replied). branch_of (command_step r.timeline (command.On name ask.Restore)).timeline name) taken_out
       ∙ ap (λ (r : Replied). branch_of r.timeline name) brought_back
       ∙ changed_there (with_changed t new) name new (record b { former = None }) new_there refl
 

@@ -8,13 +8,13 @@ use Rattle.pfl_language.specs.declared.refused.Refused.{Refused}
 use Rattle.pfl_language.specs.declared.refused.Refused.TheVariants as refused
 use Rattle.pfl_language.specs.BranchWords.{same_name}
 use Rattle.pfl_search.specs.world.desk.Nodes.{refused_by}
-use Rattle.pfl_timeline.specs.Commands.{replied, reply_unless, with_branch, first_events, fork_refusal, fork_reply, fork_command, drop_reply}
+use Rattle.pfl_timeline.specs.Commands.{replied, reply_unless, with_branch, first_events, fork_refusal, fork_reply, drop_reply, command_step}
 use Rattle.pfl_timeline.specs.Kept.{opening_of, timeline_of, by_name, AreKept, StandByName}
 use Rattle.pfl_timeline.specs.Memory.{IsAccepted}
 use Rattle.pfl_timeline.specs.Replies.{Replied, Forked, Removed, Refused as Refusing}
 use Rattle.pfl_timeline.specs.Rooted.{Rooted}
 use Rattle.pfl_timeline.specs.Timelines.{Branch, Timeline, IsTimeline}
-use Rattle.pfl_timeline.proofs.Asked.{fork-asks, drop-asks, is-fork, is-drop}
+use Rattle.pfl_timeline.proofs.Answering.{fork-asks, drop-asks}
 use Rattle.pfl_timeline.proofs.ByName.{Spot, spot, values_are, stand_by, put_last}
 use Rattle.pfl_timeline.proofs.Distinct.{no_some, others}
 use Rattle.pfl_timeline.proofs.Keeping.{command_keeps, fork_known}
@@ -36,7 +36,7 @@ module _ (from : List ℕ) (es : Entries) (old : Rooted) (t : Timeline) (view : 
     told-free : with_branch t from (λ b. fork_reply t k name b) ≡ replied (record t { branches = t.branches ++ first_events k name old.branch ∷ [] }) Forked
     told-free = asks-at from es old t view stand here (λ b. fork_reply t k name b) ∙ ap (with_first t k name old.branch) (sym free)
 
-    pub accepted-free : IsAccepted (fork_command t from k name)
+    pub accepted-free : IsAccepted (command_step t (command.Fork from k name))
     accepted-free = subst IsAccepted (sym (fork-asks t from k name ∙ told-free)) refl
 
     new_name : lookup (same_name name) (by_name (values_of es)) ≡ None
@@ -71,7 +71,7 @@ module _ (from : List ℕ) (es : Entries) (old : Rooted) (t : Timeline) (view : 
 
       is_timeline : IsTimeline (timeline_of (values_of n))
       is_timeline =
-          subst IsTimeline (ap (λ (r : Replied). r.timeline) (is-fork t (command.Fork from k name) from k name refl ∙ fork-asks t from k name ∙ told-forked))
+          subst IsTimeline (ap (λ (r : Replied). r.timeline) (fork-asks t from k name ∙ told-forked))
           (command_keeps t (command.Fork from k name) (subst IsTimeline view stand.kept.timeline))
 
       pub kept-forked : StandByName n
@@ -123,7 +123,7 @@ module _ (name : List ℕ) (es : Entries) (old : Rooted) (t : Timeline) (view : 
 
     less_is_timeline : IsTimeline (timeline_of (values_of n))
     less_is_timeline =
-        subst IsTimeline (ap (λ (r : Replied). r.timeline) (is-drop t (command.Drop name) name refl ∙ drop-asks t name ∙ told-dropped))
+        subst IsTimeline (ap (λ (r : Replied). r.timeline) (drop-asks t name ∙ told-dropped))
         (command_keeps t (command.Drop name) (subst IsTimeline view stand.kept.timeline))
 
     pub kept-dropped : StandByName n

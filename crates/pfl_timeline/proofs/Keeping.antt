@@ -9,6 +9,7 @@ use Rattle.std.proofs.lemmas.List.{length-map, take-append-drop}
 use Rattle.std.proofs.lemmas.Slice.Eq.{bytes_eq-Decides}
 use Rattle.pfl_edits.proofs.ForCallers.{some_is_none}
 use Rattle.pfl_language.specs.declared.event.Event.{Event}
+use Rattle.pfl_language.specs.declared.ask.Ask.{Ask}
 use Rattle.pfl_language.specs.declared.command.Command.{Command}
 use Rattle.pfl_language.specs.declared.command.Command.TheVariants as command
 use Rattle.pfl_language.specs.declared.refused.Refused.{Refused}
@@ -19,16 +20,14 @@ use Rattle.pfl_search.specs.world.Events.{step}
 use Rattle.pfl_search.specs.world.Meanings.{Stepped}
 use Rattle.pfl_search.specs.world.Runs.{run, world_after}
 use Rattle.pfl_search.specs.world.Worlds.{World}
-use Rattle.pfl_timeline.specs.Commands.{replied, reply_unless, with_branch, with_changed, extended, undone, at_cursor, step_answered, step_reply}
-use Rattle.pfl_timeline.specs.Commands.{back_reply, forward_reply, first_events, fork_refusal, fork_reply, drop_reply, show_reply, past_reply}
-use Rattle.pfl_timeline.specs.Commands.{explanation, why_reply, why_step_reply, frame_reply, step_command, back_command, forward_command}
-use Rattle.pfl_timeline.specs.Commands.{fork_command, drop_command, show_command, past_command, why_command, why_step_command, frame_command}
-use Rattle.pfl_timeline.specs.Commands.{names_command, excise_reply, restore_reply, excise_command, restore_command, log_reply, log_command}
+use Rattle.pfl_timeline.specs.Answers.{Answer, extended, undone, answer}
+use Rattle.pfl_timeline.specs.Commands.{replied, reply_unless, with_branch, with_changed, in_place, first_events, fork_refusal, fork_reply, drop_reply}
 use Rattle.pfl_timeline.specs.Commands.{command_step, replayed}
 use Rattle.pfl_timeline.specs.Excisions.{has_event, excised, fallen_places, restored}
 use Rattle.pfl_timeline.specs.Laws.{CommandsKeepTimelines, BranchesShowWorlds}
 use Rattle.pfl_timeline.specs.Replies.{Replied, Forked, Removed, Shown, Excised, Restored, Refused as Refusing}
-use Rattle.pfl_timeline.specs.Timelines.{Branch, Timeline, IsFormer, IsBranch, IsTimeline, branch_of, standing, world_of}
+use Rattle.pfl_timeline.specs.Timelines.{Former, Branch, Timeline, IsFormer, IsBranch, IsTimeline, branch_of, standing, world_of}
+use Rattle.pfl_timeline.proofs.Answering.{each}
 use Rattle.pfl_timeline.proofs.Distinct.{all_behind, distinct_behind, no_some, others, all_others, distinct_others, one_less}
 use Rattle.pfl_timeline.proofs.Prefixes.{run-front}
 use Rattle.pfl_timeline.proofs.Runs.{run-last}
@@ -60,7 +59,7 @@ names_kept : (b : Branch) (bs : List Branch) → map (λ c. c.name) (map (put b)
 names_kept b [] = refl
 names_kept b (c ∷ cs) = ap (λ n. n ∷ map (λ d. d.name) (map (put b) cs)) (name_kept b c) ∙ ap (λ ns. c.name ∷ ns) (names_kept b cs)
 
-all_put : (P : Branch → Type 0) (b : Branch) (bs : List Branch) → P b → AllByRecursion P bs → AllByRecursion P (map (put b) bs)
+pub all_put : (P : Branch → Type 0) (b : Branch) (bs : List Branch) → P b → AllByRecursion P bs → AllByRecursion P (map (put b) bs)
 all_put P b [] is all = tt
 all_put P b (c ∷ cs) is all =
     let here : P (put b c) = elim (same_name c.name b.name) as (λ t. P (if t then b else c)) [ true ↦ is | false ↦ all.0 ] in
@@ -76,15 +75,14 @@ keeps t b is branch = record {
   branches = all_put (IsBranch t.opening) b t.branches branch is.branches;
 }
 
--- ---- what is asked of a branch
+-- ---- what a branch becomes
 
 -- a branch with an accepted event more
-longer : (t : Timeline) (b : Branch) (e : Event) (w : World) (s : Stepped) → IsBranch t.opening b → world_of t b ≡ Some w → step w e ≡ Ok s
-    → IsBranch t.opening (extended b e)
-unfolding world_of
-longer t b e w s branch here stepped =
-    let ends : run t.opening (standing b ++ e ∷ []) ≡ Some s.world =
-    run-last t.opening (standing b) e ∙ ap (λ (o : Option World). option_and_then (λ v. world_after (step v e)) o) here ∙ ap world_after stepped in
+longer : (opening : World) (b : Branch) → IsBranch opening b → (e : Event) (w : World) (s : Stepped) → run opening (standing b) ≡ Some w → step w e ≡ Ok s
+    → IsBranch opening (extended b e)
+longer opening b branch e w s here stepped =
+    let ends : run opening (standing b ++ e ∷ []) ≡ Some s.world =
+    run-last opening (standing b) e ∙ ap (λ (o : Option World). option_and_then (λ v. world_after (step v e)) o) here ∙ ap world_after stepped in
     record {
       name = branch.name;
       within = omega (arith, length-append (standing b) (e ∷ []), length-take-le b.cursor b.events branch.within);
@@ -92,39 +90,41 @@ longer t b e w s branch here stepped =
       former = tt;
     }
 
-step_keeps : (t : Timeline) (e : Event) (b : Branch) → IsTimeline t → IsBranch t.opening b → IsTimeline (step_reply t e b).timeline
-step_keeps t e b is branch =
-    elim (world_of t b) as (λ o. world_of t b ≡ o
-    → IsTimeline (option_map_or (λ w. step_answered t b e (step w e)) o (replied t (Refusing refused.NoBranch))).timeline) [
-      | None ↦ λ _. is
-      | Some w ↦ λ here.
-          (elim (step w e) as (λ r. step w e ≡ r → IsTimeline (step_answered t b e r).timeline) [
-            | Ok s ↦ λ stepped. keeps t (extended b e) is (longer t b e w s branch here stepped)
-            | Err why ↦ λ _. is
-          ]) refl
-    ] refl
-
 -- fewer events of a branch stand
-shorter : (t : Timeline) (n : ℕ) (b : Branch) → IsBranch t.opening b → IsBranch t.opening (record b { cursor = b.cursor - n })
-shorter t n b branch = record { name = branch.name; within = omega (arith, branch.within); runs = branch.runs; former = branch.former }
-
-back_keeps : (t : Timeline) (n : ℕ) (b : Branch) → IsTimeline t → IsBranch t.opening b → IsTimeline (back_reply t n b).timeline
-back_keeps t n b is branch =
-    elim (nat_lt b.cursor n) as (λ far. IsTimeline (reply_unless t (refused_by ((far, refused.TooFarBack) ∷ [])) (at_cursor t b (b.cursor - n))).timeline) [
-      | true ↦ is
-      | false ↦ keeps t (record b { cursor = b.cursor - n }) is (shorter t n b branch)
-    ]
+shorter : (opening : World) (b : Branch) → IsBranch opening b → (n : ℕ) → IsBranch opening (record b { cursor = b.cursor - n })
+shorter opening b branch n = record { name = branch.name; within = omega (arith, branch.within); runs = branch.runs; former = branch.former }
 
 -- more events of a branch stand
-forward_keeps : (t : Timeline) (n : ℕ) (b : Branch) → IsTimeline t → IsBranch t.opening b → IsTimeline (forward_reply t n b).timeline
-forward_keeps t n b is branch =
-    elim (nat_lt (undone b) n) as (λ far. nat_lt (undone b) n ≡ far
-    → IsTimeline (reply_unless t (refused_by ((far, refused.NothingForward) ∷ [])) (at_cursor t b (b.cursor + n))).timeline) [
-      | true ↦ λ _. is
-      | false ↦ λ near.
-          keeps t (record b { cursor = b.cursor + n }) is
-          (record { name = branch.name; within = omega (arith, branch.within, ltb-false (undone b) n near); runs = branch.runs; former = branch.former })
-    ] refl
+further : (opening : World) (b : Branch) → IsBranch opening b → (n : ℕ) → nat_lt (undone b) n ≡ false → IsBranch opening (record b { cursor = b.cursor + n })
+further opening b branch n near =
+    record { name = branch.name; within = omega (arith, branch.within, ltb-false (undone b) n near); runs = branch.runs; former = branch.former }
+
+-- what was there before the newest excision
+as_before : (opening : World) (b : Branch) → IsBranch opening b → (f : Former) → b.former ≡ Some f → IsBranch opening (restored b f)
+as_before opening b branch f there =
+    let former : IsFormer opening f = subst (λ (o : Option Former). IfSome o (IsFormer opening)) there branch.former in
+    record { name = branch.name; within = former.within; runs = former.runs; former = tt }
+
+-- a branch becomes a branch
+pub answers-keep : (opening : World) (b : Branch) → IsBranch opening b → (q : Ask) → IfSome (answer opening b q).changed (IsBranch opening)
+answers-keep opening b branch = each (λ a. IfSome a.changed (IsBranch opening)) opening b (record {
+  said = λ _. tt;
+  stepped = longer opening b branch;
+  back = λ n _. shorter opening b branch n;
+  forward = further opening b branch;
+  excised = λ k _. excised-is opening k b branch;
+  restored = as_before opening b branch;
+})
+
+-- with it in its place a timeline is one
+placed_keeps : (t : Timeline) (a : Answer) → IsTimeline t → IfSome a.changed (IsBranch t.opening) → IsTimeline (in_place t a).timeline
+placed_keeps t a is =
+    elim a.changed as (λ o. IfSome o (IsBranch t.opening) → IsTimeline (option_map_or (with_changed t) o t)) [
+      | None ↦ λ _. is
+      | Some b ↦ keeps t b is
+    ]
+
+-- ---- a branch more, and a branch less
 
 -- no test refuses
 pub none_refused : (a b c d : Bool)
@@ -231,54 +231,6 @@ drop_keeps t name b is here =
           }
     ] refl
 
-show_keeps : (t : Timeline) (b : Branch) → IsTimeline t → IsTimeline (show_reply t b).timeline
-show_keeps t b is =
-    elim (world_of t b) as (λ o. IsTimeline
-    (option_map_or (λ w. replied t (Shown b.name (length b.events) b.cursor w)) o (replied t (Refusing refused.NoBranch))).timeline) [
-      | None ↦ is
-      | Some w ↦ is
-    ]
-
-past_keeps : (t : Timeline) (k : ℕ) (b : Branch) → IsTimeline t → IsTimeline (past_reply t k b).timeline
-past_keeps t k b is =
-    elim (nat_lt (length b.events) k) as (λ far. IsTimeline (reply_unless t (refused_by ((far, refused.NothingForward) ∷ []))
-    (option_map_or (λ w. replied t (Shown b.name (length b.events) k w)) (run t.opening (take k b.events)) (replied t (Refusing refused.NoBranch)))).timeline) [
-      | true ↦ is
-      | false ↦ (elim (run t.opening (take k b.events)) as
-          (λ o. IsTimeline (option_map_or (λ w. replied t (Shown b.name (length b.events) k w)) o (replied t (Refusing refused.NoBranch))).timeline) [
-            | None ↦ is
-            | Some w ↦ is
-          ])
-    ]
-
-why_step_keeps : (t : Timeline) (e : Event) (b : Branch) → IsTimeline t → IsTimeline (why_step_reply t e b).timeline
-why_step_keeps t e b is =
-    elim (world_of t b) as (λ o. IsTimeline
-    (option_map_or (λ w. replied t (explanation b.name (b.cursor + 1) w e)) o (replied t (Refusing refused.NoBranch))).timeline) [
-      | None ↦ is
-      | Some w ↦ is
-    ]
-
--- an event taken out
-excise_keeps : (t : Timeline) (k : ℕ) (b : Branch) → IsTimeline t → IsBranch t.opening b → IsTimeline (excise_reply t k b).timeline
-excise_keeps t k b is branch =
-    elim (not (has_event k b)) as
-    (λ none. IsTimeline (reply_unless t (refused_by ((none, refused.NoEvent) ∷ []))
-    (replied (with_changed t (excised t.opening k b)) (Excised (fallen_places t.opening k b)))).timeline) [
-      | true ↦ is
-      | false ↦ keeps t (excised t.opening k b) is (excised-is t.opening k b branch)
-    ]
-
--- what was there brought back
-restore_keeps : (t : Timeline) (b : Branch) → IsTimeline t → IsBranch t.opening b → IsTimeline (restore_reply t b).timeline
-restore_keeps t b is branch =
-    elim b.former as (λ o. IfSome o (IsFormer t.opening)
-    → IsTimeline (option_map_or (λ f. replied (with_changed t (restored b f)) (Restored f.cursor)) o
-    (replied t (Refusing refused.NothingExcised))).timeline) [
-      | None ↦ λ _. is
-      | Some f ↦ λ former. keeps t (restored b f) is (record { name = branch.name; within = former.within; runs = former.runs; former = tt })
-    ] branch.former
-
 -- ---- commands
 
 -- the branch of a name
@@ -294,22 +246,13 @@ named_keeps t name done is keep =
     ] refl
 
 pub command_keeps : (t : Timeline) (c : Command) → IsTimeline t → IsTimeline (command_step t c).timeline
-unfolding command_step step_command back_command forward_command fork_command drop_command show_command past_command why_command
-    why_step_command frame_command names_command excise_command restore_command log_command
-command_keeps t (command.Step name e) is = named_keeps t name (step_reply t e) is (λ b _ branch. step_keeps t e b is branch)
-command_keeps t (command.Back name n) is = named_keeps t name (back_reply t n) is (λ b _ branch. back_keeps t n b is branch)
-command_keeps t (command.Forward name n) is = named_keeps t name (forward_reply t n) is (λ b _ branch. forward_keeps t n b is branch)
+unfolding command_step
+command_keeps t (command.On name q) is =
+    named_keeps t name (λ b. in_place t (answer t.opening b q)) is
+    (λ b _ branch. placed_keeps t (answer t.opening b q) is (answers-keep t.opening b branch q))
 command_keeps t (command.Fork from k name) is = named_keeps t from (fork_reply t k name) is (λ b _ branch. fork_keeps t k name b is branch)
 command_keeps t (command.Drop name) is = named_keeps t name (drop_reply t) is (λ b here _. drop_keeps t name b is here)
-command_keeps t (command.Show name) is = named_keeps t name (show_reply t) is (λ b _ branch. show_keeps t b is)
-command_keeps t (command.Past name k) is = named_keeps t name (past_reply t k) is (λ b _ branch. past_keeps t k b is)
-command_keeps t (command.Why name k) is = named_keeps t name (why_reply t k) is (λ _ _ _. is)
-command_keeps t (command.WhyStep name e) is = named_keeps t name (why_step_reply t e) is (λ b _ _. why_step_keeps t e b is)
-command_keeps t (command.Frame name ticket) is = named_keeps t name (frame_reply t ticket) is (λ _ _ _. is)
 command_keeps t command.Names is = is
-command_keeps t (command.Excise name k) is = named_keeps t name (excise_reply t k) is (λ b _ branch. excise_keeps t k b is branch)
-command_keeps t (command.Restore name) is = named_keeps t name (restore_reply t) is (λ b _ branch. restore_keeps t b is branch)
-command_keeps t (command.Log name) is = named_keeps t name (log_reply t) is (λ _ _ _. is)
 
 pub commands-keep : CommandsKeepTimelines
 unfolding replayed

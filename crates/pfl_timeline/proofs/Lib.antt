@@ -7,7 +7,10 @@ pub mod Distinct
 pub mod ByName
 pub mod Places
 pub mod Refusals
-pub mod Asked
+pub mod Results
+pub mod Answering
+pub mod Replying
+pub mod Giving
 pub mod Wants
 pub mod Prefixes
 pub mod Copying
@@ -24,5 +27,4 @@ pub mod Stepped
 pub mod Searched
 pub mod Others
 pub mod Shows
-pub mod Rooted
 pub mod ForCallers

@@ -1,27 +1,22 @@
 -- A command leaves every other branch as it was.
-use Rattle.std.specs.Prelude.{◌≡◌, ℕ, ◌+◌, ◌-◌, true, false, not, nat_lt, nat_le, List, [], ◌∷◌, ◌++◌, length, map, find, take, Option, Some, None}
-use Rattle.std.specs.Prelude.{Ok, Err, refl, if◌then◌else◌}
+use Rattle.std.specs.Prelude.{◌≡◌, ℕ, true, false, ◌&&◌, not, nat_le, List, [], ◌∷◌, ◌++◌, length, map, find, Option, Some, None, IfSome}
+use Rattle.std.specs.Prelude.{refl, if◌then◌else◌}
 use Rattle.std.specs.Option.{option_map_or}
 use Rattle.std.proofs.Common.{cond, sym, ◌∙◌, ap}
 use Rattle.std.proofs.lemmas.Slice.Eq.{bytes_eq-Decides}
 use Rattle.pfl_edits.proofs.ForCallers.{some_is_none}
-use Rattle.pfl_language.specs.declared.event.Event.{Event}
+use Rattle.pfl_language.specs.declared.ask.Ask.{Ask}
 use Rattle.pfl_language.specs.declared.command.Command.TheVariants as command
 use Rattle.pfl_language.specs.declared.refused.Refused.{Refused}
 use Rattle.pfl_language.specs.declared.refused.Refused.TheVariants as refused
 use Rattle.pfl_language.specs.BranchWords.{same_name}
 use Rattle.pfl_search.specs.world.desk.Nodes.{refused_by}
-use Rattle.pfl_search.specs.world.Events.{step}
-use Rattle.pfl_search.specs.world.Runs.{run}
-use Rattle.pfl_timeline.specs.Commands.{replied, reply_unless, with_branch, with_changed, extended, undone, step_answered, step_reply, back_reply}
-use Rattle.pfl_timeline.specs.Commands.{forward_reply, first_events, fork_refusal, fork_reply, drop_reply, show_reply, past_reply, explanation}
-use Rattle.pfl_timeline.specs.Commands.{why_reply, why_step_reply, frame_reply, step_command, back_command, forward_command, fork_command}
-use Rattle.pfl_timeline.specs.Commands.{drop_command, show_command, past_command, why_command, why_step_command, frame_command, names_command}
-use Rattle.pfl_timeline.specs.Commands.{excise_reply, restore_reply, excise_command, restore_command, log_reply, log_command, command_step}
-use Rattle.pfl_timeline.specs.Excisions.{has_event, excised, restored}
-use Rattle.pfl_timeline.specs.Laws.{CommandsLeaveOthers}
-use Rattle.pfl_timeline.specs.Replies.{Replied, Shown, Restored, Refused as Refusing}
-use Rattle.pfl_timeline.specs.Timelines.{Branch, Timeline, branch_of, world_of}
+use Rattle.pfl_timeline.specs.Answers.{Answer, answer}
+use Rattle.pfl_timeline.specs.Commands.{reply_unless, with_changed, in_place, first_events, fork_refusal, fork_reply, drop_reply, command_step}
+use Rattle.pfl_timeline.specs.Laws.{CommandsLeaveOthers, changes}
+use Rattle.pfl_timeline.specs.Replies.{Replied}
+use Rattle.pfl_timeline.specs.Timelines.{Branch, Timeline, branch_of}
+use Rattle.pfl_timeline.proofs.Answering.{keeps-name, looks-stay, named}
 use Rattle.pfl_timeline.proofs.Distinct.{called, others}
 
 -- ---- a search for another name
@@ -60,76 +55,32 @@ has_the_name of (c ∷ cs) b is =
 abbrev Leaves : Timeline → List ℕ → Replied → Type 0
 Leaves t name done = branch_of done.timeline name ≡ branch_of t name
 
-leaves_named : (t : Timeline) (of name : List ℕ) (done : Branch → Replied)
-    → ((b : Branch) → same_name b.name of ≡ true → Leaves t name (done b)) → Leaves t name (with_branch t of done)
-leaves_named t of name done leaves =
-    elim (branch_of t of) as (λ o. branch_of t of ≡ o → Leaves t name (option_map_or done o (replied t (Refusing refused.NoBranch)))) [
-      | None ↦ λ _. refl
-      | Some b ↦ λ here. leaves b (has_the_name of t.branches b here)
-    ] refl
-
 leaves_answered : (t : Timeline) (name : List ℕ) (o : Option Refused) (done : Replied) → Leaves t name done → Leaves t name (reply_unless t o done)
 leaves_answered t name None done leaves = leaves
 leaves_answered t name (Some why) done leaves = refl
 
-module _ (t : Timeline) (of name : List ℕ) (apart : same_name of name ≡ false) where
-  other : (b : Branch) → same_name b.name of ≡ true → same_name b.name name ≡ false
-  other b has = ap (λ n. same_name n name) ((bytes_eq-Decides b.name of).0 has) ∙ apart
-
-  leaves_step : (e : Event) (b : Branch) → same_name b.name of ≡ true → Leaves t name (step_reply t e b)
-  leaves_step e b has =
-      elim (world_of t b) as (λ o. Leaves t name (option_map_or (λ w. step_answered t b e (step w e)) o (replied t (Refusing refused.NoBranch)))) [
-        | None ↦ refl
-        | Some w ↦ (elim (step w e) as (λ r. Leaves t name (step_answered t b e r)) [
-          | Ok s ↦ find_put (extended b e) name (other b has) t.branches
-          | Err why ↦ refl
-        ])
-      ]
-
-  leaves_back : (n : ℕ) (b : Branch) → same_name b.name of ≡ true → Leaves t name (back_reply t n b)
-  leaves_back n b has = leaves_answered t name (refused_by ((nat_lt b.cursor n, refused.TooFarBack) ∷ [])) _
-      (find_put (record b { cursor = b.cursor - n }) name (other b has) t.branches)
-
-  leaves_forward : (n : ℕ) (b : Branch) → same_name b.name of ≡ true → Leaves t name (forward_reply t n b)
-  leaves_forward n b has = leaves_answered t name (refused_by ((nat_lt (undone b) n, refused.NothingForward) ∷ [])) _
-      (find_put (record b { cursor = b.cursor + n }) name (other b has) t.branches)
-
-  leaves_excise : (k : ℕ) (b : Branch) → same_name b.name of ≡ true → Leaves t name (excise_reply t k b)
-  leaves_excise k b has = leaves_answered t name (refused_by ((not (has_event k b), refused.NoEvent) ∷ [])) _
-      (find_put (excised t.opening k b) name (other b has) t.branches)
-
-  leaves_restore : (b : Branch) → same_name b.name of ≡ true → Leaves t name (restore_reply t b)
-  leaves_restore b has =
-      elim b.former as (λ o. Leaves t name
-      (option_map_or (λ f. replied (with_changed t (restored b f)) (Restored f.cursor)) o (replied t (Refusing refused.NothingExcised)))) [
-        | None ↦ refl
-        | Some f ↦ find_put (restored b f) name (other b has) t.branches
-      ]
-
-leaves_show : (t : Timeline) (name : List ℕ) (b : Branch) → Leaves t name (show_reply t b)
-leaves_show t name b =
-    elim (world_of t b) as (λ o. Leaves t name
-    (option_map_or (λ w. replied t (Shown b.name (length b.events) b.cursor w)) o (replied t (Refusing refused.NoBranch)))) [
-      | None ↦ refl
-      | Some w ↦ refl
+-- a branch of another name in the place of the one of its name
+leaves_placed : (t : Timeline) (name : List ℕ) (a : Answer) → IfSome a.changed (λ c. same_name c.name name ≡ false) → Leaves t name (in_place t a)
+leaves_placed t name a =
+    elim a.changed as (λ o. IfSome o (λ c. same_name c.name name ≡ false) → branch_of (option_map_or (with_changed t) o t) name ≡ branch_of t name) [
+      | None ↦ λ _. refl
+      | Some c ↦ λ apart. find_put c name apart t.branches
     ]
 
-leaves_past : (t : Timeline) (k : ℕ) (name : List ℕ) (b : Branch) → Leaves t name (past_reply t k b)
-leaves_past t k name b =
-    leaves_answered t name (refused_by ((nat_lt (length b.events) k, refused.NothingForward) ∷ [])) _
-    (elim (run t.opening (take k b.events)) as
-    (λ o. Leaves t name (option_map_or (λ w. replied t (Shown b.name (length b.events) k w)) o (replied t (Refusing refused.NoBranch)))) [
-      | None ↦ refl
-      | Some w ↦ refl
-    ])
-
-leaves_why_step : (t : Timeline) (e : Event) (name : List ℕ) (b : Branch) → Leaves t name (why_step_reply t e b)
-leaves_why_step t e name b =
-    elim (world_of t b) as (λ o. Leaves t name
-    (option_map_or (λ w. replied t (explanation b.name (b.cursor + 1) w e)) o (replied t (Refusing refused.NoBranch)))) [
-      | None ↦ refl
-      | Some w ↦ refl
-    ]
+-- what is asked of a branch of another name, or changes nothing
+leaves_asked : (t : Timeline) (of name : List ℕ) (q : Ask) (b : Branch) → same_name b.name of ≡ true → changes q && same_name of name ≡ false
+    → Leaves t name (in_place t (answer t.opening b q))
+leaves_asked t of name q b has =
+    elim (changes q) as (λ t'. changes q ≡ t' → t' && same_name of name ≡ false → Leaves t name (in_place t (answer t.opening b q))) [
+      | false ↦ λ looks _. ap (λ (o : Option Branch). branch_of (option_map_or (with_changed t) o t) name) (looks-stay t.opening b q looks)
+      | true ↦ λ _ apart.
+          let other : same_name b.name name ≡ false = ap (λ n. same_name n name) ((bytes_eq-Decides b.name of).0 has) ∙ apart in
+          leaves_placed t name (answer t.opening b q)
+          (elim (answer t.opening b q).changed as (λ o. IfSome o (λ c. c.name ≡ b.name) → IfSome o (λ c. same_name c.name name ≡ false)) [
+            | None ↦ λ _. tt
+            | Some c ↦ λ same. ap (λ n. same_name n name) same ∙ other
+          ] (keeps-name t.opening b q))
+    ] refl
 
 -- ---- a branch more, or less
 
@@ -155,22 +106,14 @@ find_others of name apart (c ∷ bs) =
 leaves_drop : (t : Timeline) (of name : List ℕ) → same_name of name ≡ false → (b : Branch) → same_name b.name of ≡ true → Leaves t name (drop_reply t b)
 leaves_drop t of name apart b has =
     leaves_answered t name (refused_by ((nat_le (length t.branches) 1, refused.LastBranch) ∷ [])) _
-    (find_others b.name name (other t of name apart b has) t.branches)
+    (find_others b.name name (ap (λ n. same_name n name) ((bytes_eq-Decides b.name of).0 has) ∙ apart) t.branches)
 
 pub others-stay : CommandsLeaveOthers
-unfolding command_step step_command back_command forward_command fork_command drop_command show_command past_command why_command
-    why_step_command frame_command names_command excise_command restore_command log_command
-others-stay t (command.Step of e) name apart = leaves_named t of name (step_reply t e) (leaves_step t of name apart e)
-others-stay t (command.Back of n) name apart = leaves_named t of name (back_reply t n) (leaves_back t of name apart n)
-others-stay t (command.Forward of n) name apart = leaves_named t of name (forward_reply t n) (leaves_forward t of name apart n)
-others-stay t (command.Fork from k new) name apart = leaves_named t from name (fork_reply t k new) (λ b _. leaves_fork t k new name apart b)
-others-stay t (command.Drop of) name apart = leaves_named t of name (drop_reply t) (leaves_drop t of name apart)
-others-stay t (command.Show of) name apart = leaves_named t of name (show_reply t) (λ b _. leaves_show t name b)
-others-stay t (command.Past of k) name apart = leaves_named t of name (past_reply t k) (λ b _. leaves_past t k name b)
-others-stay t (command.Why of k) name apart = leaves_named t of name (why_reply t k) (λ b _. refl)
-others-stay t (command.WhyStep of e) name apart = leaves_named t of name (why_step_reply t e) (λ b _. leaves_why_step t e name b)
-others-stay t (command.Frame of ticket) name apart = leaves_named t of name (frame_reply t ticket) (λ b _. refl)
+unfolding command_step
+others-stay t (command.On of q) name apart =
+    named (Leaves t name) t of (λ b. in_place t (answer t.opening b q)) refl
+    (λ b here. leaves_asked t of name q b (has_the_name of t.branches b here) apart)
+others-stay t (command.Fork from k new) name apart = named (Leaves t name) t from (fork_reply t k new) refl (λ b _. leaves_fork t k new name apart b)
+others-stay t (command.Drop of) name apart =
+    named (Leaves t name) t of (drop_reply t) refl (λ b here. leaves_drop t of name apart b (has_the_name of t.branches b here))
 others-stay t command.Names name apart = refl
-others-stay t (command.Excise of k) name apart = leaves_named t of name (excise_reply t k) (leaves_excise t of name apart k)
-others-stay t (command.Restore of) name apart = leaves_named t of name (restore_reply t) (leaves_restore t of name apart)
-others-stay t (command.Log of) name apart = leaves_named t of name (log_reply t) (λ b _. refl)

@@ -1,5 +1,5 @@
 -- A branch that a map finds by its name, and the timeline with another one in its place, with one more and with one less.
-use Rattle.std.specs.Prelude.{◌≡◌, ℕ, suc, ◌≤◌, false, nat_le, List, [], ◌∷◌, ◌++◌, length, map, Option, Some, None, is_some, refl, if◌then◌else◌}
+use Rattle.std.specs.Prelude.{◌≡◌, ℕ, suc, ◌≤◌, false, nat_le, List, [], ◌∷◌, ◌++◌, length, map, Option, Some, None, is_some, IfSome, refl, if◌then◌else◌}
 use Rattle.std.specs.List.{AllByRecursion, IsDistinct}
 use Rattle.std.specs.Map.{values_of, lookup, set_value}
 use Rattle.std.specs.Option.{option_map, option_map_or}
@@ -7,15 +7,18 @@ use Rattle.std.proofs.Common.{sym, ◌∙◌, ap, subst, arith, length-append}
 use Rattle.std.proofs.lemmas.Bool.{leb-false}
 use Rattle.std.proofs.lemmas.List.{length-map, map-append}
 use Rattle.std.proofs.lemmas.Map.Entries.{length-values_of}
+use Rattle.pfl_language.specs.declared.ask.Ask.{Ask}
+use Rattle.pfl_language.specs.declared.command.Command.TheVariants as command
 use Rattle.pfl_language.specs.declared.refused.Refused.TheVariants as refused
 use Rattle.pfl_language.specs.BranchWords.{main_name, same_name}
 use Rattle.pfl_search.specs.world.Worlds.{World, IsWorld}
-use Rattle.pfl_timeline.specs.Commands.{replied, with_branch, with_changed}
+use Rattle.pfl_timeline.specs.Answers.{answer}
+use Rattle.pfl_timeline.specs.Commands.{replied, with_branch, with_changed, in_place, command_step}
+use Rattle.pfl_timeline.specs.inner.Answering.{Gave}
 use Rattle.pfl_timeline.specs.Kept.{opening_of, timeline_of, AreKept, StandByName}
-use Rattle.pfl_timeline.specs.Memory.{is_refusal, IsAccepted}
 use Rattle.pfl_timeline.specs.Replies.{Reply, Replied, Refused as Refusing}
 use Rattle.pfl_timeline.specs.Rooted.{Rooted}
-use Rattle.pfl_timeline.proofs.Rooted.{StandsIn, Accepts, IsReplyOf}
+use Rattle.pfl_timeline.proofs.Answering.{asked-there, asked-none, keeps-name}
 use Rattle.pfl_timeline.specs.Timelines.{Branch, Timeline, IsBranch, IsTimeline, branch_of}
 use Rattle.pfl_timeline.proofs.ByName.{Spot, spot, branches_of, found_by, values_are, stand_by}
 use Rattle.pfl_timeline.proofs.Distinct.{itself, differ, all_behind, others, one_goes}
@@ -113,26 +116,7 @@ module _ (front : List Rooted) (r s : Rooted) (rest : List Rooted) (opening : s.
         };
       }
 
--- the branch stands in its timeline
-stands : (front : List Rooted) (r : Rooted) (rest : List Rooted) → AreKept (front ++ r ∷ rest) → StandsIn (timeline_of (front ++ r ∷ rest)) r
-stands front r rest kept = record { opening = one_opening front r r rest refl refl kept; branch = with_new front r r rest refl refl kept }
-
 -- ---- what a map finds by a name
-
--- what is asked of a name that no branch has
-pub told-none : (asked : Timeline → Branch → Replied) (name : List ℕ) (es : Entries) (t : Timeline) (reply : Reply) → timeline_of (values_of es) ≡ t
-    → StandByName es → None ≡ lookup (same_name name) es → reply ≡ Refusing refused.NoBranch → with_branch t name (asked t) ≡ replied t reply
-told-none asked name es t reply view stand none is =
-    let absent : branch_of t name ≡ None = ap (λ (u : Timeline). branch_of u name) (sym view) ∙ found_by name es None stand none in
-    ap (λ (b : Option Branch). option_map_or (asked t) b (replied t (Refusing refused.NoBranch))) absent ∙ ap (replied t) (sym is)
-
--- the same, and nothing is written
-pub told-none-still : (asked : Timeline → Branch → Replied) (name : List ℕ) (es n : Entries) (t : Timeline) (reply : Reply) → timeline_of (values_of es) ≡ t
-    → StandByName es → None ≡ lookup (same_name name) es → n ≡ es → reply ≡ Refusing refused.NoBranch
-    → with_branch t name (asked t) ≡ replied (timeline_of (values_of n)) reply
-told-none-still asked name es n t reply view stand none same is =
-    told-none asked name es t reply view stand none is
-    ∙ ap (λ (u : Timeline). replied u reply) (sym (ap (λ (fs : Entries). timeline_of (values_of fs)) same ∙ view))
 
 -- whether a branch has the name
 pub has_branch : (name : List ℕ) (es : Entries) (t : Timeline) → timeline_of (values_of es) ≡ t → StandByName es
@@ -154,6 +138,20 @@ pub none-at : (name : List ℕ) (es : Entries) (t : Timeline) → timeline_of (v
     → None ≡ lookup (same_name name) es → branch_of t name ≡ None
 none-at name es t view stand none = ap (λ (u : Timeline). branch_of u name) (sym view) ∙ found_by name es None stand none
 
+-- what is done with it
+pub told-none : (name : List ℕ) (es : Entries) (t : Timeline) → timeline_of (values_of es) ≡ t → StandByName es
+    → None ≡ lookup (same_name name) es → (done : Branch → Replied) → with_branch t name done ≡ replied t (Refusing refused.NoBranch)
+told-none name es t view stand none done =
+    ap (λ (b : Option Branch). option_map_or done b (replied t (Refusing refused.NoBranch))) (none-at name es t view stand none)
+
+-- what is asked of it, where nothing is written
+pub asked-still : (name : List ℕ) (es n : Entries) (t : Timeline) → timeline_of (values_of es) ≡ t → StandByName es
+    → None ≡ lookup (same_name name) es → n ≡ es → (q : Ask)
+    → command_step t (command.On name q) ≡ replied (timeline_of (values_of n)) (Refusing refused.NoBranch)
+asked-still name es n t view stand none same q =
+    asked-none t name q (none-at name es t view stand none)
+    ∙ ap (λ (u : Timeline). replied u (Refusing refused.NoBranch)) (sym (ap (λ (fs : Entries). timeline_of (values_of fs)) same ∙ view))
+
 -- What is asked of a name that a branch has: that branch replies.
 module _ (name : List ℕ) (es : Entries) (old : Rooted) (t : Timeline) (view : timeline_of (values_of es) ≡ t) (stand : StandByName es)
     (here : Some old ≡ lookup (same_name name) es) where
@@ -173,43 +171,29 @@ module _ (name : List ℕ) (es : Entries) (old : Rooted) (t : Timeline) (view : 
   pub found : branch_of t name ≡ Some old.branch
   found = ap (λ (u : Timeline). branch_of u name) is_t ∙ at.found
 
-  stands_in : StandsIn t old
-  stands_in = subst (λ (u : Timeline). StandsIn u old) (sym is_t) (stands at.front old at.rest kept_at)
-
   -- it begins where all begin
   pub begins-there : old.opening ≡ t.opening
-  begins-there = let s : StandsIn t old = stands_in in sym s.opening
+  begins-there =
+      sym (one_opening at.front old old at.rest refl refl kept_at) ∙ ap (λ (u : Timeline). u.opening) (sym is_t)
 
   -- it replies, whatever it does to the timeline
   pub asks-at : (done : Branch → Replied) → with_branch t name done ≡ done old.branch
   asks-at done = ap (λ (b : Option Branch). option_map_or done b (replied t (Refusing refused.NoBranch))) found
 
-  -- what it accepts is accepted
-  pub accepted-at : (asked : Timeline → Branch → Replied) → Accepts asked old → IsAccepted (with_branch t name (asked t))
-  accepted-at asked accepts =
-      ap (λ (b : Option Branch). is_refusal (option_map_or (asked t) b (replied t (Refusing refused.NoBranch))).reply) found ∙ accepts t stands_in
-
-  -- nothing is written
-  pub told-still : (asked : Timeline → Branch → Replied) (reply : Reply) → IsReplyOf asked old old reply → with_branch t name (asked t) ≡ replied t reply
-  told-still asked reply answered =
-      let h : IsReplyOf asked old old reply = answered in
-      let s : StandsIn t old = stands_in in
-      asks-at (asked t) ∙ h.told t s ∙ ap (λ (u : Timeline). replied u reply) s.branch
+  -- what it answers is answered
+  pub asked-at : (q : Ask) → command_step t (command.On name q) ≡ in_place t (answer old.opening old.branch q)
+  asked-at q = asked-there t name old.branch q found ∙ ap (λ (o : World). in_place t (answer o old.branch q)) (sym begins-there)
 
   -- another one stands in its place
   module _ (n : Entries) (new : Rooted) (written : n ≡ set_value (same_name name) es new) where
     values-new : new.branch.name ≡ old.branch.name → values_of n ≡ at.front ++ new ∷ at.rest
     values-new called = values_are n (at.front ++ new ∷ at.rest) (written ∙ at.written new called)
 
-    pub told-at : (asked : Timeline → Branch → Replied) (reply : Reply) → IsReplyOf asked old new reply
-        → with_branch t name (asked t) ≡ replied (timeline_of (values_of n)) reply
-    told-at asked reply answered =
-        let h : IsReplyOf asked old new reply = answered in
-        asks-at (asked t)
-        ∙ h.told t stands_in
-        ∙ ap (λ (u : Timeline). replied (with_changed u new.branch) reply) is_t
-        ∙ ap (λ (u : Timeline). replied u reply) (with_new at.front old new at.rest h.opening h.name kept_at)
-        ∙ ap (λ (xs : List Rooted). replied (timeline_of xs) reply) (sym (values-new h.name))
+    changed-at : new.opening ≡ old.opening → new.branch.name ≡ old.branch.name → with_changed t new.branch ≡ timeline_of (values_of n)
+    changed-at opening called =
+        ap (λ (u : Timeline). with_changed u new.branch) is_t
+        ∙ with_new at.front old new at.rest opening called kept_at
+        ∙ ap timeline_of (sym (values-new called))
 
     pub kept-at : new.opening ≡ old.opening → new.branch.name ≡ old.branch.name → IsBranch new.opening new.branch → StandByName n
     kept-at opening called is =
@@ -219,6 +203,35 @@ module _ (name : List ℕ) (es : Entries) (old : Rooted) (t : Timeline) (view : 
     pub same_there : new ≡ old → timeline_of (values_of n) ≡ t
     same_there same =
         ap timeline_of (values-new (ap (λ (r : Rooted). r.branch.name) same)) ∙ ap (λ (r : Rooted). timeline_of (at.front ++ r ∷ at.rest)) same ∙ sym is_t
+
+    -- the branch as it answered
+    placed-at : (o : Option Branch) → IfSome o (λ c. c.name ≡ old.branch.name) → new ≡ record old { branch = option_map_or (λ b. b) o old.branch }
+        → option_map_or (with_changed t) o t ≡ timeline_of (values_of n)
+    placed-at None _ is = sym (same_there is)
+    placed-at (Some c) named is =
+        ap (λ (r : Rooted). with_changed t r.branch) (sym is)
+        ∙ changed-at (ap (λ (r : Rooted). r.opening) is) (ap (λ (r : Rooted). r.branch.name) is ∙ named)
+
+    -- what it gave is what the timeline replies, with it in its place
+    pub told-at : (q : Ask) (reply : Reply) → Gave old (answer old.opening old.branch q) new reply
+        → command_step t (command.On name q) ≡ replied (timeline_of (values_of n)) reply
+    told-at q reply gave =
+        let a = answer old.opening old.branch q in
+        asked-at q
+        ∙ ap (λ (u : Timeline). replied u a.reply) (placed-at a.changed (keeps-name old.opening old.branch q) gave.becomes)
+        ∙ ap (replied (timeline_of (values_of n))) (sym gave.replies)
+
+-- the name and the opening of a branch that gave an answer are what they were
+answered_name : (r : Rooted) (o : Option Branch) → IfSome o (λ c. c.name ≡ r.branch.name) → (option_map_or (λ b. b) o r.branch).name ≡ r.branch.name
+answered_name r None named = refl
+answered_name r (Some c) named = named
+
+pub gave_opening : (r s : Rooted) (q : Ask) (reply : Reply) → Gave r (answer r.opening r.branch q) s reply → s.opening ≡ r.opening
+gave_opening r s q reply gave = ap (λ (x : Rooted). x.opening) gave.becomes
+
+pub gave_name : (r s : Rooted) (q : Ask) (reply : Reply) → Gave r (answer r.opening r.branch q) s reply → s.branch.name ≡ r.branch.name
+gave_name r s q reply gave =
+    ap (λ (x : Rooted). x.branch.name) gave.becomes ∙ answered_name r (answer r.opening r.branch q).changed (keeps-name r.opening r.branch q)
 
 -- ---- the first timeline
 

@@ -197,17 +197,15 @@ excised-is o k b is =
 
 -- the branch of the history that is left, and of the one that was
 pub rooted-excised : (name : List ℕ) (h new was : History) (former : Option History) (r : Rooted) (k : ℕ) → rooted name h former ≡ r
-    → has_event k r.branch ≡ true
     → new ≡ standing_at (so_far h.opening (sieve h.opening (without k (placed h.events))))
     (stand h.cursor (sieve h.opening (without k (placed h.events))).kept) → was ≡ h
-    → rooted name new (Some was) ≡ (if has_event k r.branch then record r { branch = excised r.opening k r.branch } else r)
-rooted-excised name h new was former r k view has made same =
+    → rooted name new (Some was) ≡ record r { branch = excised r.opening k r.branch }
+rooted-excised name h new was former r k view made same =
     ap (λ (x : History). rooted name x (Some was)) made
     ∙ ap (λ (x : History). rooted name
     (standing_at (so_far h.opening (sieve h.opening (without k (placed h.events))))
     (stand h.cursor (sieve h.opening (without k (placed h.events))).kept)) (Some x)) same
     ∙ ap (λ (x : Rooted). record x { branch = excised x.opening k x.branch }) view
-    ∙ sym (ap (λ t. if t then record r { branch = excised r.opening k r.branch } else r) has)
 
 -- a place from 1 to the last
 pub has-event : (k : ℕ) (b : Branch) → (k ≡ 0 → ⊥) → k ≤ length b.events → has_event k b ≡ true

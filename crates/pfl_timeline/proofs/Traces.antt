@@ -13,7 +13,7 @@ use Rattle.pfl_search.specs.world.Worlds.{World, IsWorld}
 use Rattle.pfl_reasons.specs.declared.frame_step.FrameStep.{FrameStep}
 use Rattle.pfl_reasons.specs.Frames.{Trace, traced}
 use Rattle.pfl_reasons.specs.Senders.{TicketsAreCounted, TracesAreCounted, TracesAreThere, counted_trace, senders, sending_place, steps_of}
-use Rattle.pfl_timeline.specs.Commands.{frame_answer}
+use Rattle.pfl_timeline.specs.Answers.{frame_answer}
 use Rattle.pfl_timeline.specs.Memory.{is_refusal}
 use Rattle.pfl_timeline.specs.Histories.{History}
 use Rattle.pfl_timeline.specs.Kept.{rooted}

@@ -18,6 +18,8 @@ use Rattle.pfl_language.specs.declared.node_event.NodeEvent.TheVariants as own
 use Rattle.pfl_language.specs.declared.event.Event.{Event}
 use Rattle.pfl_language.specs.declared.event.Event.TheVariants as event
 use Rattle.pfl_language.specs.declared.event.FrameEvent.TheVariants as frame
+use Rattle.pfl_language.specs.declared.ask.Ask.{Ask}
+use Rattle.pfl_language.specs.declared.ask.Ask.TheVariants as ask
 use Rattle.pfl_language.specs.declared.command.Command.{Command}
 use Rattle.pfl_language.specs.declared.command.Command.TheVariants as command
 use Rattle.pfl_language.specs.declared.refused.Refused.TheVariants as refused
@@ -48,21 +50,16 @@ use Rattle.pfl_search.specs.world.Delivering.{read_taken, deliver_step}
 use Rattle.pfl_search.specs.world.Flushing.{flush_step}
 use Rattle.pfl_search.specs.world.Restarting.{restart_step}
 use Rattle.pfl_search.specs.world.Worlds.{World, node_at}
-use Rattle.pfl_reasons.specs.Frames.{traced}
-use Rattle.pfl_timeline.specs.Commands.{replied, reply_unless, with_branch, with_changed, undone, at_cursor, step_answered, step_reply, back_reply}
-use Rattle.pfl_timeline.specs.Commands.{forward_reply, first_events, fork_reply, drop_reply, show_reply, past_reply, event_at, explanation}
-use Rattle.pfl_timeline.specs.Commands.{why_answer, why_reply, why_step_reply, frame_answer, frame_reply, step_command, back_command, forward_command}
-use Rattle.pfl_timeline.specs.Commands.{fork_command, drop_command, show_command, past_command, why_command, why_step_command, frame_command}
-use Rattle.pfl_timeline.specs.Commands.{names_command, excise_reply, restore_reply, excise_command, restore_command, log_reply, log_command}
-use Rattle.pfl_timeline.specs.Commands.{command_step}
-use Rattle.pfl_timeline.specs.Excisions.{has_event, excised, fallen_places, restored}
+use Rattle.pfl_reasons.specs.Frames.{Trace, traced}
+use Rattle.pfl_timeline.specs.Answers.{Answer, says, undone, step_answer, shown_at, event_at, explanation, answer}
+use Rattle.pfl_timeline.specs.Commands.{replied, reply_unless, in_place, first_events, fork_reply, drop_reply, command_step}
+use Rattle.pfl_timeline.specs.Excisions.{has_event}
 use Rattle.pfl_timeline.specs.Laws.{NoReplyReportsWantOfMemory}
-use Rattle.pfl_timeline.specs.Memory.{is_refusal, IsAccepted, makes_something, MayWantMemory}
-use Rattle.pfl_timeline.specs.Replies.{Reply, Replied, Forked, Removed, Shown, Excised, Restored, Traced, Refused as Refusing}
+use Rattle.pfl_timeline.specs.Memory.{is_refusal, makes_something, MayWantMemory}
+use Rattle.pfl_timeline.specs.Replies.{Reply, Replied, Forked, Removed, Traced, Refused as Refusing}
 use Rattle.pfl_timeline.specs.Rooted.{Rooted, shown}
-use Rattle.pfl_timeline.proofs.Rooted.{Accepts}
-use Rattle.pfl_timeline.specs.Timelines.{IsBranch, Branch, Timeline, branch_of, world_of}
-use Rattle.pfl_timeline.proofs.Asked.{asked_of, is-step, is-forward, is-fork, is-show, is-past, is-why, is-why_step, is-frame, is-names, is-excise, is-log}
+use Rattle.pfl_timeline.specs.Timelines.{IsBranch, Branch, Timeline, branch_of, standing}
+use Rattle.pfl_timeline.proofs.Answering.{unless, within, stepped, brought, named, step-is, past-is}
 
 -- ---- no event is refused for want of memory
 
@@ -150,151 +147,72 @@ step_is_other w (event.Restart node) is = tests_are_other ((nat_le greatest w.ne
 -- ---- a branch
 
 -- an event that wanted memory is one that the step accepts
-answered_accepts : (t : Timeline) (b : Branch) (e : Event) (at : Result Stepped Refusal) → IsRefusalOf at NoMemory
-    → (at ≡ Err NoMemory → ⊥) → IsAccepted (step_answered t b e at)
-answered_accepts t b e (Ok s) is other = refl
-answered_accepts t b e (Err first) is other = absurd (other (ap Err (sym is)))
+answered_accepts : (b : Branch) (e : Event) (at : Result Stepped Refusal) → IsRefusalOf at NoMemory → (at ≡ Err NoMemory → ⊥)
+    → is_refusal (step_answer b e at).reply ≡ false
+answered_accepts b e (Ok s) is other = refl
+answered_accepts b e (Err first) is other = absurd (other (ap Err (sym is)))
 
 pub step_accepts : (r : Rooted) (e : Event) (w : World) (why : Refusal) → shown r ≡ Some w → IsEventRefusal w e why → why ≡ NoMemory
-    → Accepts (λ t b. step_reply t e b) r
-step_accepts r e w why here is wants = λ t stands.
-    ap (λ (done : Replied). is_refusal done.reply) (asked_of (λ v. step_answered t r.branch e (step v e)) r w t here stands)
-    ∙ answered_accepts t r.branch e (step w e) (subst (IsRefusalOf (step w e)) wants is) (step_is_other w e)
+    → is_refusal (answer r.opening r.branch (ask.Step e)).reply ≡ false
+step_accepts r e w why here is wants =
+    ap (λ (a : Answer). is_refusal a.reply) (step-is r.opening r.branch w here e)
+    ∙ answered_accepts r.branch e (step w e) (subst (IsRefusalOf (step w e)) wants is) (step_is_other w e)
 
--- a branch that is there is shown
-pub show_accepts : (r : Rooted) (w : World) → shown r ≡ Some w → Accepts (λ t b. show_reply t b) r
-show_accepts r w here = λ t stands.
-    ap (λ (done : Replied). is_refusal done.reply)
-    (asked_of (λ v. replied t (Shown r.branch.name (length r.branch.events) r.branch.cursor v)) r w t here stands)
+-- the world that the first k events of a branch give
+pub world_before : (opening : World) (b : Branch) (k : ℕ) → IsBranch opening b → (w : World) × (run opening (take k b.events) ≡ Some w)
+world_before opening b k is =
+    the_world _ (run-front opening (take k b.events) (drop k b.events)
+    (subst (λ (es : List Event). IsTrue (is_some (run opening es))) (sym (take-append-drop k b.events)) is.runs))
 
--- the world of a place that is there is seen
-pub past_accepts : (r : Rooted) (k : ℕ) → nat_lt (length r.branch.events) k ≡ false → IsBranch r.opening r.branch → Accepts (λ t b. past_reply t k b) r
-past_accepts r k near is = λ t stands.
-    let seen : Option World → Replied =
-    λ o. option_map_or (λ v. replied t (Shown r.branch.name (length r.branch.events) k v)) o (replied t (Refusing refused.NoBranch)) in
-    let runs = run-front r.opening (take k r.branch.events) (drop k r.branch.events)
-    (subst (λ (es : List Event). IsTrue (is_some (run r.opening es))) (sym (take-append-drop k r.branch.events)) is.runs) in
-    let here : (w : World) × (run r.opening (take k r.branch.events) ≡ Some w) = the_world _ runs in
-    ap (λ far. is_refusal (reply_unless t (refused_by ((far, refused.NothingForward) ∷ [])) (seen (run t.opening (take k r.branch.events)))).reply) near
-    ∙ ap (λ (o : World). is_refusal (seen (run o (take k r.branch.events))).reply) stands.opening
-    ∙ ap (λ (o : Option World). is_refusal (seen o).reply) here.1
+-- what is seen of a place that is there is no refusal
+pub past_accepts : (r : Rooted) (k : ℕ) → nat_lt (length r.branch.events) k ≡ false → IsBranch r.opening r.branch
+    → is_refusal (answer r.opening r.branch (ask.Past k)).reply ≡ false
+past_accepts r k near is =
+    let w = world_before r.opening r.branch k is in
+    ap (λ (a : Answer). is_refusal a.reply) (past-is r.opening r.branch k w.0 near w.1)
 
--- to see a place changes nothing
-pub past-still : (t : Timeline) (name : List ℕ) (k : ℕ) → (past_command t name k).timeline ≡ t
-unfolding past_command
-past-still t name k =
-    elim (branch_of t name) as (λ o. (option_map_or (past_reply t k) o (replied t (Refusing refused.NoBranch))).timeline ≡ t) [
-      | None ↦ refl
-      | Some b ↦ (elim (nat_lt (length b.events) k) as (λ far. (reply_unless t (refused_by ((far, refused.NothingForward) ∷ []))
-          (option_map_or (λ w. replied t (Shown b.name (length b.events) k w)) (run t.opening (take k b.events))
-          (replied t (Refusing refused.NoBranch)))).timeline ≡ t) [
-            | true ↦ refl
-            | false ↦ (elim (run t.opening (take k b.events)) as
-                (λ o. (option_map_or (λ w. replied t (Shown b.name (length b.events) k w)) o (replied t (Refusing refused.NoBranch))).timeline ≡ t) [
-                  | None ↦ refl
-                  | Some w ↦ refl
-                ])
-          ])
-    ]
-
--- what is explained is explained in each of its timelines
-pub why_accepts : (r : Rooted) (k : ℕ) → is_refusal (why_answer r.opening k r.branch) ≡ false → Accepts (λ t b. why_reply t k b) r
-why_accepts r k accepted = λ t stands. ap (λ (o : World). is_refusal (why_answer o k r.branch)) stands.opening ∙ accepted
-
--- an event is explained wherever a branch stands
-pub why_step_accepts : (r : Rooted) (e : Event) → IsBranch r.opening r.branch → Accepts (λ t b. why_step_reply t e b) r
-why_step_accepts r e is = λ t stands.
-    let k = r.branch.cursor in
-    let runs = run-front r.opening (take k r.branch.events) (drop k r.branch.events)
-    (subst (λ (es : List Event). IsTrue (is_some (run r.opening es))) (sym (take-append-drop k r.branch.events)) is.runs) in
-    let here : (w : World) × (shown r ≡ Some w) = the_world _ runs in
-    ap (λ (done : Replied). is_refusal done.reply) (asked_of (λ v. replied t (explanation r.branch.name (k + 1) v e)) r here.0 t here.1 stands)
-
--- a frame that is shown is shown in each of its timelines
-pub frame_accepts : (r : Rooted) (ticket : ℕ) → is_refusal (frame_answer r.opening ticket r.branch) ≡ false → Accepts (λ t b. frame_reply t ticket b) r
-frame_accepts r ticket accepted = λ t stands. ap (λ (o : World). is_refusal (frame_answer o ticket r.branch)) stands.opening ∙ accepted
-
--- a way forward that is not too far
-pub forward_accepts : (r : Rooted) (n : ℕ) → nat_lt (undone r.branch) n ≡ false → Accepts (λ t b. forward_reply t n b) r
-forward_accepts r n near = λ t stands.
-    ap (λ far. is_refusal (reply_unless t (refused_by ((far, refused.NothingForward) ∷ [])) (at_cursor t r.branch (r.branch.cursor + n))).reply) near
-
--- an event that is there can be taken out
-pub excise_accepts : (r : Rooted) (k : ℕ) → has_event k r.branch ≡ true → Accepts (λ t b. excise_reply t k b) r
-excise_accepts r k has = λ t stands.
-    ap (λ there. is_refusal (reply_unless t (refused_by ((not there, refused.NoEvent) ∷ []))
-    (replied (with_changed t (excised t.opening k r.branch)) (Excised (fallen_places t.opening k r.branch)))).reply) has
-
--- ---- a command
-
-pub step_wants : (t : Timeline) (c : Command) (name : List ℕ) (e : Event) → c ≡ command.Step name e → IsAccepted (step_command t name e) → MayWantMemory t c
-step_wants t c name e is accepted = record { makes = ap makes_something is; not_refused = subst IsAccepted (sym (is-step t c name e is)) accepted }
-
-pub forward_wants : (t : Timeline) (c : Command) (name : List ℕ) (n : ℕ) → c ≡ command.Forward name n
-    → IsAccepted (forward_command t name n) → MayWantMemory t c
-forward_wants t c name n is accepted = record { makes = ap makes_something is; not_refused = subst IsAccepted (sym (is-forward t c name n is)) accepted }
-
-pub fork_wants : (t : Timeline) (c : Command) (from : List ℕ) (k : ℕ) (name : List ℕ) → c ≡ command.Fork from k name
-    → IsAccepted (fork_command t from k name) → MayWantMemory t c
-fork_wants t c from k name is accepted = record { makes = ap makes_something is; not_refused = subst IsAccepted (sym (is-fork t c from k name is)) accepted }
-
-pub excise_wants : (t : Timeline) (c : Command) (name : List ℕ) (k : ℕ) → c ≡ command.Excise name k → IsAccepted (excise_command t name k) → MayWantMemory t c
-excise_wants t c name k is accepted = record { makes = ap makes_something is; not_refused = subst IsAccepted (sym (is-excise t c name k is)) accepted }
-
-pub names_wants : (t : Timeline) (c : Command) → c ≡ command.Names → MayWantMemory t c
-unfolding names_command
-names_wants t c is = record { makes = ap makes_something is; not_refused = subst IsAccepted (sym (is-names t c is)) refl }
-
-pub show_wants : (t : Timeline) (c : Command) (name : List ℕ) → c ≡ command.Show name → IsAccepted (show_command t name) → MayWantMemory t c
-show_wants t c name is accepted = record { makes = ap makes_something is; not_refused = subst IsAccepted (sym (is-show t c name is)) accepted }
-
-pub past_wants : (t : Timeline) (c : Command) (name : List ℕ) (k : ℕ) → c ≡ command.Past name k → IsAccepted (past_command t name k) → MayWantMemory t c
-past_wants t c name k is accepted = record { makes = ap makes_something is; not_refused = subst IsAccepted (sym (is-past t c name k is)) accepted }
-
-pub why_wants : (t : Timeline) (c : Command) (name : List ℕ) (k : ℕ) → c ≡ command.Why name k → IsAccepted (why_command t name k) → MayWantMemory t c
-why_wants t c name k is accepted = record { makes = ap makes_something is; not_refused = subst IsAccepted (sym (is-why t c name k is)) accepted }
-
-pub why_step_wants : (t : Timeline) (c : Command) (name : List ℕ) (e : Event) → c ≡ command.WhyStep name e
-    → IsAccepted (why_step_command t name e) → MayWantMemory t c
-why_step_wants t c name e is accepted = record { makes = ap makes_something is; not_refused = subst IsAccepted (sym (is-why_step t c name e is)) accepted }
-
-pub frame_wants : (t : Timeline) (c : Command) (name : List ℕ) (ticket : ℕ) → c ≡ command.Frame name ticket
-    → IsAccepted (frame_command t name ticket) → MayWantMemory t c
-frame_wants t c name ticket is accepted = record { makes = ap makes_something is; not_refused = subst IsAccepted (sym (is-frame t c name ticket is)) accepted }
-
-pub log_wants : (t : Timeline) (c : Command) (name : List ℕ) → c ≡ command.Log name → IsAccepted (log_command t name) → MayWantMemory t c
-log_wants t c name is accepted = record { makes = ap makes_something is; not_refused = subst IsAccepted (sym (is-log t c name is)) accepted }
+-- the names are a list, and nothing refuses them
+pub names-wants : (t : Timeline) (c : Command) → c ≡ command.Names → MayWantMemory t c
+unfolding command_step
+names-wants t c is = record { makes = ap makes_something is; not_refused = ap (λ (d : Command). is_refusal (command_step t d).reply) is }
 
 -- ---- no reply reports want of memory
 
 abbrev wanted : Reply
 wanted = Refusing (refused.Event NoMemory)
 
-answered_tells : (t : Timeline) (b : Branch) (e : Event) (at : Result Stepped Refusal) → (at ≡ Err NoMemory → ⊥) → (step_answered t b e at).reply ≡ wanted → ⊥
-answered_tells t b e (Ok s) other is = cc
-answered_tells t b e (Err why) other is = let same : why ≡ NoMemory = cc in other (ap Err same)
+-- the answer does not report it
+abbrev IsOther : Answer → Type 0
+IsOther a = a.reply ≡ wanted → ⊥
 
-step_tells : (t : Timeline) (e : Event) (b : Branch) → (step_reply t e b).reply ≡ wanted → ⊥
-step_tells t e b =
-    elim (world_of t b) as (λ o. (option_map_or (λ w. step_answered t b e (step w e)) o (replied t (Refusing refused.NoBranch))).reply ≡ wanted → ⊥) [
-      | None ↦ λ is. cc
-      | Some w ↦ λ is. answered_tells t b e (step w e) (step_is_other w e) is
-    ]
+explained_tells : (before : Option World) (name : List ℕ) (k : ℕ) (o : Option Event)
+    → option_map_or (λ e. option_map_or (λ w. explanation name k w e) before (Refusing refused.NoBranch)) o (Refusing refused.NoEvent) ≡ wanted → ⊥
+explained_tells before name k None is = cc
+explained_tells None name k (Some e) is = cc
+explained_tells (Some w) name k (Some e) is = cc
 
-back_tells : (t : Timeline) (n : ℕ) (b : Branch) → (back_reply t n b).reply ≡ wanted → ⊥
-back_tells t n b =
-    elim (nat_lt b.cursor n) as (λ far. (reply_unless t (refused_by ((far, refused.TooFarBack) ∷ [])) (at_cursor t b (b.cursor - n))).reply ≡ wanted → ⊥) [
-      | true ↦ λ is. cc
-      | false ↦ λ is. cc
-    ]
+traced_tells : (name : List ℕ) (ticket : ℕ) (o : Option Trace) → option_map_or (Traced name ticket) o (Refusing refused.NoFrame) ≡ wanted → ⊥
+traced_tells name ticket None is = cc
+traced_tells name ticket (Some trace) is = cc
 
-forward_tells : (t : Timeline) (n : ℕ) (b : Branch) → (forward_reply t n b).reply ≡ wanted → ⊥
-forward_tells t n b =
-    elim (nat_lt (undone b) n) as
-    (λ far. (reply_unless t (refused_by ((far, refused.NothingForward) ∷ [])) (at_cursor t b (b.cursor + n))).reply ≡ wanted → ⊥) [
-      | true ↦ λ is. cc
-      | false ↦ λ is. cc
-    ]
+answer_tells : (opening : World) (b : Branch) (q : Ask) → IsOther (answer opening b q)
+unfolding answer
+answer_tells opening b (ask.Step e) =
+    within IsOther (run opening (standing b)) (λ w. step_answer b e (step w e)) (λ is. cc)
+    (λ w _. stepped IsOther b e (step w e) (λ s _ is. cc) (λ why here is. step_is_other w e (here ∙ ap Err (let same : why ≡ NoMemory = cc in same))))
+answer_tells opening b (ask.Back n) = unless IsOther (nat_lt b.cursor n) refused.TooFarBack _ (λ is. cc) (λ _ is. cc)
+answer_tells opening b (ask.Forward n) = unless IsOther (nat_lt (undone b) n) refused.NothingForward _ (λ is. cc) (λ _ is. cc)
+answer_tells opening b ask.Show = within IsOther (run opening (standing b)) (λ w. says (shown_at b b.cursor w)) (λ is. cc) (λ w _ is. cc)
+answer_tells opening b (ask.Past k) =
+    unless IsOther (nat_lt (length b.events) k) refused.NothingForward _ (λ is. cc)
+    (λ _. within IsOther (run opening (take k b.events)) (λ w. says (shown_at b k w)) (λ is. cc) (λ w _ is. cc))
+answer_tells opening b (ask.Why k) = explained_tells (run opening (take (k - 1) b.events)) b.name k (event_at k b)
+answer_tells opening b (ask.WhyStep e) =
+    within IsOther (run opening (standing b)) (λ w. says (explanation b.name (b.cursor + 1) w e)) (λ is. cc) (λ w _ is. cc)
+answer_tells opening b (ask.Frame ticket) = traced_tells b.name ticket (traced opening b.events ticket)
+answer_tells opening b (ask.Excise k) = unless IsOther (not (has_event k b)) refused.NoEvent _ (λ is. cc) (λ _ is. cc)
+answer_tells opening b ask.Restore = brought IsOther b (λ is. cc) (λ f _ is. cc)
+answer_tells opening b ask.Log = λ is. cc
 
 -- why a fork is refused
 fork_refused : (taken bad far full : Bool) (done : Replied) (t : Timeline) → (done.reply ≡ wanted → ⊥)
@@ -320,93 +238,10 @@ drop_tells t b =
       | false ↦ λ is. cc
     ]
 
-show_tells : (t : Timeline) (b : Branch) → (show_reply t b).reply ≡ wanted → ⊥
-show_tells t b =
-    elim (world_of t b) as (λ o.
-    (option_map_or (λ w. replied t (Shown b.name (length b.events) b.cursor w)) o (replied t (Refusing refused.NoBranch))).reply ≡ wanted → ⊥) [
-      | None ↦ λ is. cc
-      | Some w ↦ λ is. cc
-    ]
-
-past_tells : (t : Timeline) (k : ℕ) (b : Branch) → (past_reply t k b).reply ≡ wanted → ⊥
-past_tells t k b =
-    elim (nat_lt (length b.events) k) as (λ far. (reply_unless t (refused_by ((far, refused.NothingForward) ∷ []))
-    (option_map_or (λ w. replied t (Shown b.name (length b.events) k w)) (run t.opening (take k b.events))
-    (replied t (Refusing refused.NoBranch)))).reply ≡ wanted → ⊥) [
-      | true ↦ λ is. cc
-      | false ↦ (elim (run t.opening (take k b.events)) as
-          (λ o. (option_map_or (λ w. replied t (Shown b.name (length b.events) k w)) o (replied t (Refusing refused.NoBranch))).reply ≡ wanted → ⊥) [
-            | None ↦ λ is. cc
-            | Some w ↦ λ is. cc
-          ])
-    ]
-
-why_tells : (t : Timeline) (k : ℕ) (b : Branch) → (why_reply t k b).reply ≡ wanted → ⊥
-why_tells t k b =
-    let before : Option World = run t.opening (take (k - 1) b.events) in
-    elim (event_at k b) as (λ o. option_map_or (λ e. option_map_or (λ w. explanation b.name k w e) before (Refusing refused.NoBranch)) o
-    (Refusing refused.NoEvent) ≡ wanted → ⊥) [
-      | None ↦ λ is. cc
-      | Some e ↦ (elim before as (λ o. option_map_or (λ w. explanation b.name k w e) o (Refusing refused.NoBranch) ≡ wanted → ⊥) [
-        | None ↦ λ is. cc
-        | Some w ↦ λ is. cc
-      ])
-    ]
-
-why_step_tells : (t : Timeline) (e : Event) (b : Branch) → (why_step_reply t e b).reply ≡ wanted → ⊥
-why_step_tells t e b =
-    elim (world_of t b) as (λ o.
-    (option_map_or (λ w. replied t (explanation b.name (b.cursor + 1) w e)) o (replied t (Refusing refused.NoBranch))).reply ≡ wanted → ⊥) [
-      | None ↦ λ is. cc
-      | Some w ↦ λ is. cc
-    ]
-
-frame_tells : (t : Timeline) (ticket : ℕ) (b : Branch) → (frame_reply t ticket b).reply ≡ wanted → ⊥
-frame_tells t ticket b =
-    elim (traced t.opening b.events ticket) as (λ o. option_map_or (Traced b.name ticket) o (Refusing refused.NoFrame) ≡ wanted → ⊥) [
-      | None ↦ λ is. cc
-      | Some trace ↦ λ is. cc
-    ]
-
-excise_tells : (t : Timeline) (k : ℕ) (b : Branch) → (excise_reply t k b).reply ≡ wanted → ⊥
-excise_tells t k b =
-    elim (not (has_event k b)) as
-    (λ none. (reply_unless t (refused_by ((none, refused.NoEvent) ∷ []))
-    (replied (with_changed t (excised t.opening k b)) (Excised (fallen_places t.opening k b)))).reply ≡ wanted → ⊥) [
-      | true ↦ λ is. cc
-      | false ↦ λ is. cc
-    ]
-
-restore_tells : (t : Timeline) (b : Branch) → (restore_reply t b).reply ≡ wanted → ⊥
-restore_tells t b =
-    elim b.former as (λ o. (option_map_or (λ f. replied (with_changed t (restored b f)) (Restored f.cursor)) o
-    (replied t (Refusing refused.NothingExcised))).reply ≡ wanted → ⊥) [
-      | None ↦ λ is. cc
-      | Some f ↦ λ is. cc
-    ]
-
-named_tells : (t : Timeline) (name : List ℕ) (done : Branch → Replied) → ((b : Branch) → (done b).reply ≡ wanted → ⊥)
-    → (with_branch t name done).reply ≡ wanted → ⊥
-named_tells t name done tells =
-    elim (branch_of t name) as (λ o. (option_map_or done o (replied t (Refusing refused.NoBranch))).reply ≡ wanted → ⊥) [
-      | None ↦ λ is. cc
-      | Some b ↦ tells b
-    ]
-
 pub no_reply-tells : NoReplyReportsWantOfMemory
-unfolding command_step step_command back_command forward_command fork_command drop_command show_command past_command why_command
-    why_step_command frame_command names_command excise_command restore_command log_command
-no_reply-tells t (command.Step name e) = named_tells t name (step_reply t e) (step_tells t e)
-no_reply-tells t (command.Back name n) = named_tells t name (back_reply t n) (back_tells t n)
-no_reply-tells t (command.Forward name n) = named_tells t name (forward_reply t n) (forward_tells t n)
-no_reply-tells t (command.Fork from k name) = named_tells t from (fork_reply t k name) (fork_tells t k name)
-no_reply-tells t (command.Drop name) = named_tells t name (drop_reply t) (drop_tells t)
-no_reply-tells t (command.Show name) = named_tells t name (show_reply t) (show_tells t)
-no_reply-tells t (command.Past name k) = named_tells t name (past_reply t k) (past_tells t k)
-no_reply-tells t (command.Why name k) = named_tells t name (why_reply t k) (why_tells t k)
-no_reply-tells t (command.WhyStep name e) = named_tells t name (why_step_reply t e) (why_step_tells t e)
-no_reply-tells t (command.Frame name ticket) = named_tells t name (frame_reply t ticket) (frame_tells t ticket)
+unfolding command_step
+no_reply-tells t (command.On name q) =
+    named (λ r. r.reply ≡ wanted → ⊥) t name (λ b. in_place t (answer t.opening b q)) (λ is. cc) (λ b _. answer_tells t.opening b q)
+no_reply-tells t (command.Fork from k name) = named (λ r. r.reply ≡ wanted → ⊥) t from (fork_reply t k name) (λ is. cc) (λ b _. fork_tells t k name b)
+no_reply-tells t (command.Drop name) = named (λ r. r.reply ≡ wanted → ⊥) t name (drop_reply t) (λ is. cc) (λ b _. drop_tells t b)
 no_reply-tells t command.Names = λ is. cc
-no_reply-tells t (command.Excise name k) = named_tells t name (excise_reply t k) (excise_tells t k)
-no_reply-tells t (command.Restore name) = named_tells t name (restore_reply t) (restore_tells t)
-no_reply-tells t (command.Log name) = named_tells t name (log_reply t) (λ b is. cc)

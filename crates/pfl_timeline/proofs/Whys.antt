@@ -9,6 +9,7 @@ use Rattle.std.proofs.lemmas.Option.{get_or_from_slice_get}
 use Rattle.std.proofs.lemmas.Result.{IfOk-weaker}
 use Rattle.pfl_base.specs.declared.refusal.Refusal.{Refusal}
 use Rattle.pfl_language.specs.declared.event.Event.{Event}
+use Rattle.pfl_language.specs.declared.ask.Ask.TheVariants as ask
 use Rattle.pfl_language.specs.declared.refused.Refused.TheVariants as refused
 use Rattle.pfl_language.specs.BranchWords.{same_name}
 use Rattle.pfl_search.specs.world.Events.{step}
@@ -16,15 +17,16 @@ use Rattle.pfl_search.specs.world.Meanings.{Stepped}
 use Rattle.pfl_search.specs.world.Runs.{run}
 use Rattle.pfl_search.specs.world.Worlds.{World}
 use Rattle.pfl_reasons.specs.Explaining.{came_of, explained}
-use Rattle.pfl_timeline.specs.Commands.{replied, event_at, explanation, why_answer, why_reply, why_step_reply, show_reply, step_answered, step_reply}
-use Rattle.pfl_timeline.specs.Commands.{step_command, show_command, why_command, why_step_command}
+use Rattle.pfl_timeline.specs.Answers.{Answer, event_at, explanation, step_answer, why_answer, answer}
+use Rattle.pfl_timeline.specs.Commands.{replied, in_place, step_command, show_command, why_command, why_step_command}
 use Rattle.pfl_timeline.specs.Excisions.{has_event}
 use Rattle.pfl_timeline.specs.Laws.{WhysAreSteps, IsExplained, standing_before, WhysForetellSteps, step_told}
 use Rattle.pfl_timeline.specs.Memory.{is_refusal}
 use Rattle.pfl_timeline.specs.declared.reply.Reply.{Reply as GivenReply}
-use Rattle.pfl_timeline.specs.Replies.{Reply, Stepped as StepReply, Shown, Explained, Refused as Refusing, reply_of}
-use Rattle.pfl_timeline.specs.Timelines.{Branch, Timeline, IsBranch, IsTimeline, branch_of, world_of}
+use Rattle.pfl_timeline.specs.Replies.{Reply, Replied, Stepped as StepReply, Shown, Explained, Refused as Refusing, reply_of}
+use Rattle.pfl_timeline.specs.Timelines.{Branch, Timeline, IsBranch, IsTimeline, branch_of, standing, world_of}
 use Rattle.pfl_timeline.specs.inner.Looking.{IsSeen, explained_there}
+use Rattle.pfl_timeline.proofs.Answering.{asked-there, show-is, step-is, why_step-is}
 use Rattle.pfl_timeline.proofs.Excised.{changed_there}
 use Rattle.pfl_timeline.proofs.Keeping.{found_is, branches-show}
 use Rattle.pfl_timeline.proofs.Prefixes.{run-front, Accepted, last_accepted}
@@ -131,26 +133,21 @@ module _ (t : Timeline) (name : List ℕ) (k : ℕ) (b : Branch) (is : IsTimelin
 
   module _ (e : Event) (accepted : Accepted t.opening (take (k - 1) b.events) e) where
     shown_before : (show_command moved name).reply ≡ Shown b.name (length b.events) (k - 1) accepted.before
-    unfolding show_command world_of
     shown_before =
-        ap (λ (o : Option Branch). (option_map_or (show_reply moved) o (replied moved (Refusing refused.NoBranch))).reply) found_before
-        ∙ ap (λ (o : Option World).
-        (option_map_or (λ w. replied moved (Shown b.name (length b.events) (k - 1) w)) o
-        (replied moved (Refusing refused.NoBranch))).reply) accepted.here
+        ap (λ (r : Replied). r.reply) (asked-there moved name before ask.Show found_before)
+        ∙ ap (λ (a : Answer). a.reply) (show-is t.opening before accepted.before accepted.here)
 
     stepped_before : (step_command moved name e).reply ≡ StepReply accepted.gives.outcome (length b.events - (k - 1))
-    unfolding step_command world_of
     stepped_before =
-        ap (λ (o : Option Branch). (option_map_or (step_reply moved e) o (replied moved (Refusing refused.NoBranch))).reply) found_before
-        ∙ ap (λ (o : Option World).
-        (option_map_or (λ w. step_answered moved before e (step w e)) o (replied moved (Refusing refused.NoBranch))).reply) accepted.here
-        ∙ ap (λ (r : Result Stepped Refusal). (step_answered moved before e r).reply) accepted.stepped
+        ap (λ (r : Replied). r.reply) (asked-there moved name before (ask.Step e) found_before)
+        ∙ ap (λ (a : Answer). a.reply) (step-is t.opening before accepted.before accepted.here e)
+        ∙ ap (λ (r : Result Stepped Refusal). (step_answer before e r).reply) accepted.stepped
 
     reported : slice_get b.events (k - 1) ≡ Some e
         → why_command t name k ≡ replied t (Explained b.name k e (Ok accepted.gives.outcome) (explained accepted.before e))
-    unfolding why_command
+    unfolding answer
     reported there =
-        ap (λ (o : Option Branch). option_map_or (why_reply t k) o (replied t (Refusing refused.NoBranch))) here
+        asked-there t name b (ask.Why k) here
         ∙ ap (replied t) (explained_as k b has t.opening e accepted.before there accepted.here
         ∙ ap (λ (at : Result Stepped Refusal). Explained b.name k e (came_of at) (explained accepted.before e)) accepted.stepped)
 
@@ -174,30 +171,24 @@ whys-are-steps = why-stepped
 
 -- ---- a step that has not happened
 
-module _ (t : Timeline) (name : List ℕ) (e : Event) (b : Branch) (here : branch_of t name ≡ Some b) (w : World) (there : world_of t b ≡ Some w) where
+module _ (t : Timeline) (name : List ℕ) (e : Event) (b : Branch) (here : branch_of t name ≡ Some b) (w : World)
+    (there : run t.opening (standing b) ≡ Some w) where
   shown_now : (show_command t name).reply ≡ Shown b.name (length b.events) b.cursor w
-  unfolding show_command
   shown_now =
-      ap (λ (o : Option Branch). (option_map_or (show_reply t) o (replied t (Refusing refused.NoBranch))).reply) here
-      ∙ ap (λ (o : Option World).
-      (option_map_or (λ v. replied t (Shown b.name (length b.events) b.cursor v)) o (replied t (Refusing refused.NoBranch))).reply) there
+      ap (λ (r : Replied). r.reply) (asked-there t name b ask.Show here) ∙ ap (λ (a : Answer). a.reply) (show-is t.opening b w there)
 
-  told_of : (at : Result Stepped Refusal) → (step_answered t b e at).reply ≡ step_told (length b.events - b.cursor) (came_of at)
+  told_of : (at : Result Stepped Refusal) → (step_answer b e at).reply ≡ step_told (length b.events - b.cursor) (came_of at)
   told_of (Ok s) = refl
   told_of (Err why) = refl
 
   stepped_now : (step_command t name e).reply ≡ step_told (length b.events - b.cursor) (came_of (step w e))
-  unfolding step_command
   stepped_now =
-      ap (λ (o : Option Branch). (option_map_or (step_reply t e) o (replied t (Refusing refused.NoBranch))).reply) here
-      ∙ ap (λ (o : Option World). (option_map_or (λ v. step_answered t b e (step v e)) o (replied t (Refusing refused.NoBranch))).reply) there
+      ap (λ (r : Replied). r.reply) (asked-there t name b (ask.Step e) here)
+      ∙ ap (λ (a : Answer). a.reply) (step-is t.opening b w there e)
       ∙ told_of (step w e)
 
   reported_now : why_step_command t name e ≡ replied t (Explained b.name (b.cursor + 1) e (came_of (step w e)) (explained w e))
-  unfolding why_step_command
-  reported_now =
-      ap (λ (o : Option Branch). option_map_or (why_step_reply t e) o (replied t (Refusing refused.NoBranch))) here
-      ∙ ap (λ (o : Option World). option_map_or (λ v. replied t (explanation b.name (b.cursor + 1) v e)) o (replied t (Refusing refused.NoBranch))) there
+  reported_now = asked-there t name b (ask.WhyStep e) here ∙ ap (in_place t) (why_step-is t.opening b w there e)
 
 -- each branch shows a world
 its_world : (t : Timeline) (name : List ℕ) (b : Branch) → IsTimeline t → branch_of t name ≡ Some b → (w : World) × (world_of t b ≡ Some w)
@@ -205,6 +196,7 @@ its_world t name b is here =
     the_world (world_of t b) (found_is (λ c. IsTrue (is_some (world_of t c))) (λ c. same_name c.name name) t.branches b (branches-show t is) here)
 
 pub whys-foretell-steps : WhysForetellSteps
+unfolding world_of
 whys-foretell-steps t name e b is here =
     let w : (w : World) × (world_of t b ≡ Some w) = its_world t name b is here in
     record {

@@ -14,6 +14,7 @@ use Rattle.pfl_language.specs.declared.event.Event.TheVariants as event
 use Rattle.pfl_language.specs.declared.event.FrameEvent.TheVariants as frame
 use Rattle.pfl_language.specs.declared.outcome.Outcome.{Outcome}
 use Rattle.pfl_language.specs.declared.outcome.Outcome.TheVariants as outcome
+use Rattle.pfl_language.specs.declared.ask.Ask.TheVariants as ask
 use Rattle.pfl_language.specs.declared.command.Command.{Command}
 use Rattle.pfl_language.specs.declared.command.Command.TheVariants as command
 use Rattle.pfl_language.specs.declared.refused.Refused.TheVariants as refused
@@ -25,6 +26,7 @@ use Rattle.pfl_reasons.specs.Frames as frames
 use Rattle.pfl_reasons.specs.declared.frame_step.FrameStep.{FrameStep}
 use Rattle.pfl_timeline.specs.Timelines.{Timeline, new_timeline}
 use Rattle.pfl_timeline.specs.Timelines as timelines
+use Rattle.pfl_timeline.specs.Answers as answers
 use Rattle.pfl_timeline.specs.Commands as commands
 use Rattle.pfl_timeline.specs.Commands.{command_step}
 use Rattle.pfl_timeline.specs.Excisions as excisions
@@ -35,13 +37,13 @@ use Rattle.pfl_timeline.specs.Summaries.{summary}
 -- ---- commands; steps, moves, excisions and restorations are on `main`
 
 abbrev step : Event → Command
-step e = command.Step main_name e
+step e = command.On main_name (ask.Step e)
 
 abbrev back : ℕ → Command
-back n = command.Back main_name n
+back n = command.On main_name (ask.Back n)
 
 abbrev forward : ℕ → Command
-forward n = command.Forward main_name n
+forward n = command.On main_name (ask.Forward n)
 
 abbrev fork : List ℕ → ℕ → List ℕ → Command
 fork of k new = command.Fork of k new
@@ -50,31 +52,31 @@ abbrev drop : List ℕ → Command
 drop of = command.Drop of
 
 abbrev show : List ℕ → Command
-show of = command.Show of
+show of = command.On of ask.Show
 
 abbrev past : List ℕ → ℕ → Command
-past of k = command.Past of k
+past of k = command.On of (ask.Past k)
 
 abbrev why : List ℕ → ℕ → Command
-why of k = command.Why of k
+why of k = command.On of (ask.Why k)
 
 abbrev why_step : Event → Command
-why_step e = command.WhyStep main_name e
+why_step e = command.On main_name (ask.WhyStep e)
 
 abbrev frame_of : List ℕ → ℕ → Command
-frame_of of ticket = command.Frame of ticket
+frame_of of ticket = command.On of (ask.Frame ticket)
 
 abbrev names : Command
 names = command.Names
 
 abbrev excise : ℕ → Command
-excise k = command.Excise main_name k
+excise k = command.On main_name (ask.Excise k)
 
 abbrev restore : Command
-restore = command.Restore main_name
+restore = command.On main_name ask.Restore
 
 abbrev log : List ℕ → Command
-log of = command.Log of
+log of = command.On of ask.Log
 
 abbrev packet : Packet → Command
 packet p = step (event.At A (own.Packet Outbound p))
@@ -93,10 +95,7 @@ final t [] = t
 final t (c ∷ cs) = final (command_step t c).timeline cs
 
 unfoldable computing : ℕ
-unfolding of_worlds replies final commands.command_step timelines.world_of commands.step_command commands.back_command
-    commands.forward_command commands.fork_command commands.drop_command commands.show_command commands.past_command commands.why_command
-    commands.why_step_command commands.frame_command frames.done frames.traced commands.names_command commands.excise_command
-    commands.restore_command commands.log_command excisions.sieve summary
+unfolding of_worlds replies final commands.command_step answers.answer timelines.world_of frames.done frames.traced excisions.sieve summary
 computing = 0
 
 abbrev t : Timeline
@@ -218,7 +217,7 @@ abbrev no_flush : Reply
 no_flush = reply.Explained main_name 1 (event.Flush A) (Err refusal.NothingPending) (explained (opening limits) (event.Flush A))
 
 foretold : asked_then (back 4 ∷ why_step (event.Flush A) ∷ why_step (event.At A (own.Packet Outbound u1)) ∷ forward 4
-    ∷ command.WhyStep (codes "x") (event.Flush A) ∷ [])
+    ∷ command.On (codes "x") (ask.WhyStep (event.Flush A)) ∷ [])
     ≡ reply.At 0 ∷ no_flush ∷ first_explained ∷ reply.At 4 ∷ reply.Refused refused.NoBranch ∷ []
 unfolding computing
 foretold = refl

@@ -1,5 +1,5 @@
 -- Laws of timelines, in their own words (this project's profile).
-use Rattle.std.specs.Prelude.{◌≡◌, ◌≢◌, ℕ, ◌+◌, ◌-◌, ◌≤◌, Bool, false, List, [], ◌∷◌, length, map, take, drop, Option, Some, None, is_some, IsTrue}
+use Rattle.std.specs.Prelude.{◌≡◌, ◌≢◌, ℕ, ◌+◌, ◌-◌, ◌≤◌, ◌&&◌, Bool, true, false, List, [], ◌∷◌, length, map, take, drop, Option, Some, None, is_some, IsTrue}
 use Rattle.std.specs.Prelude.{IsFalse, slice_get, Result, Ok, Err}
 use Rattle.std.specs.List.{AllByRecursion}
 use Rattle.std.specs.Option.{option_map}
@@ -7,6 +7,8 @@ use Rattle.pfl_base.specs.declared.refusal.Refusal.{Refusal}
 use Rattle.pfl_base.specs.declared.refusal.Refusal.TheVariants.{NoMemory}
 use Rattle.pfl_language.specs.declared.event.Event.{Event}
 use Rattle.pfl_language.specs.declared.outcome.Outcome.{Outcome}
+use Rattle.pfl_language.specs.declared.ask.Ask.{Ask}
+use Rattle.pfl_language.specs.declared.ask.Ask.TheVariants as ask
 use Rattle.pfl_language.specs.declared.command.Command.{Command}
 use Rattle.pfl_language.specs.declared.command.Command.TheVariants as command
 use Rattle.pfl_language.specs.declared.refused.Refused.TheVariants as refused
@@ -41,7 +43,7 @@ NoReplyReportsWantOfMemory = (t : Timeline) (c : Command) → (command_step t c)
 
 -- a step of each event on `main`
 abbrev pub steps : List Event → List Command
-steps es = map (command.Step main_name) es
+steps es = map (λ e. command.On main_name (ask.Step e)) es
 
 -- the one branch `main` with these events, which all stand
 abbrev pub all_stand : World → List Event → Timeline
@@ -56,22 +58,25 @@ pub record StepsShow (opening : World) (es : List Event) (w : World) : Type 0 wh
 abbrev pub StepsAreRuns : Type 0
 StepsAreRuns = (opening : World) (es : List Event) (w : World) → run opening es ≡ Some w → StepsShow opening es w
 
+-- what is asked may change the branch
+abbrev pub changes : Ask → Bool
+changes (ask.Step e) = true
+changes (ask.Back n) = true
+changes (ask.Forward n) = true
+changes (ask.Excise k) = true
+changes ask.Restore = true
+changes _ = false
+
+-- a question that only looks at a branch changes nothing
+abbrev pub LooksChangeNothing : Type 0
+LooksChangeNothing = (t : Timeline) (name : List ℕ) (q : Ask) → IsFalse (changes q) → (command_step t (command.On name q)).timeline ≡ t
+
 -- the command changes, makes or removes the branch of this name
 abbrev pub touches : Command → List ℕ → Bool
-touches (command.Step of e) name = same_name of name
-touches (command.Back of n) name = same_name of name
-touches (command.Forward of n) name = same_name of name
+touches (command.On of q) name = changes q && same_name of name
 touches (command.Fork from k new) name = same_name new name
 touches (command.Drop of) name = same_name of name
-touches (command.Show of) name = false
-touches (command.Past of k) name = false
-touches (command.Why of k) name = false
-touches (command.WhyStep of e) name = false
-touches (command.Frame of ticket) name = false
 touches command.Names name = false
-touches (command.Excise of k) name = same_name of name
-touches (command.Restore of) name = same_name of name
-touches (command.Log of) name = false
 
 -- a command leaves every other branch as it was
 abbrev pub CommandsLeaveOthers : Type 0
@@ -152,13 +157,13 @@ events_of t name = option_map (λ b. b.events) (branch_of t name)
 abbrev pub ExcisionsAreRunsWithout : Type 0
 ExcisionsAreRunsWithout =
     (t : Timeline) (name : List ℕ) (k : ℕ) (b : Branch) → branch_of t name ≡ Some b → IsTrue (has_event k b)
-    → events_of (command_step t (command.Excise name k)).timeline name ≡ Some (accepted_events t.opening (without k b.events))
+    → events_of (command_step t (command.On name (ask.Excise k))).timeline name ≡ Some (accepted_events t.opening (without k b.events))
 
 -- those stand that stood and are accepted
 abbrev pub ExcisionsLeaveStanding : Type 0
 ExcisionsLeaveStanding =
     (t : Timeline) (name : List ℕ) (k : ℕ) (b : Branch) → branch_of t name ≡ Some b → IsTrue (has_event k b)
-    → option_map standing (branch_of (command_step t (command.Excise name k)).timeline name) ≡ Some (accepted_events t.opening (without k (standing b)))
+    → option_map standing (branch_of (command_step t (command.On name (ask.Excise k))).timeline name) ≡ Some (accepted_events t.opening (without k (standing b)))
 
 -- the place of an event that is refused is listed, and the others come after it
 abbrev pub refused_with : World → ℕ → (World → List ℕ) → Result Stepped Refusal → List ℕ
@@ -175,16 +180,16 @@ abbrev pub ExcisionsReportTheRefused : Type 0
 ExcisionsReportTheRefused =
     (t : Timeline) (name : List ℕ) (k : ℕ) (b : Branch) (w : World) → branch_of t name ≡ Some b → IsTrue (has_event k b)
     → run t.opening (take (k - 1) b.events) ≡ Some w
-    → (command_step t (command.Excise name k)).reply ≡ reply.Excised (refused_behind k w (drop k b.events))
+    → (command_step t (command.On name (ask.Excise k))).reply ≡ reply.Excised (refused_behind k w (drop k b.events))
 
 -- where the list without the event has a run, no other event falls out
 abbrev pub NothingElseFallsOut : Type 0
 NothingElseFallsOut =
     (t : Timeline) (name : List ℕ) (k : ℕ) (b : Branch) → branch_of t name ≡ Some b → IsTrue (has_event k b)
-    → IsTrue (is_some (run t.opening (without k b.events))) → (command_step t (command.Excise name k)).reply ≡ reply.Excised []
+    → IsTrue (is_some (run t.opening (without k b.events))) → (command_step t (command.On name (ask.Excise k))).reply ≡ reply.Excised []
 
 -- a restoration takes an excision back
 abbrev pub RestorationsTakeBack : Type 0
 RestorationsTakeBack =
     (t : Timeline) (name : List ℕ) (k : ℕ) (b : Branch) → branch_of t name ≡ Some b → IsTrue (has_event k b)
-    → branch_of (replayed t (command.Excise name k ∷ command.Restore name ∷ [])) name ≡ Some (record b { former = None })
+    → branch_of (replayed t (command.On name (ask.Excise k) ∷ command.On name ask.Restore ∷ [])) name ≡ Some (record b { former = None })

@@ -1,7 +1,9 @@
 pub mod Timelines
 pub mod Excisions
 pub mod Replies
+pub mod Sizes
 pub mod Searches
+pub mod Answers
 pub mod Commands
 pub mod Memory
 pub mod Looks

@@ -1,7 +1,6 @@
 -- What only contracts of private functions and of parts cite, and the proofs that an impl names: no public call of a node, of the
 -- pair or of a timeline says any of it.
+pub mod Answering
 pub mod Histories
 pub mod Looking
-pub mod Replies
-pub mod Rooted
 pub mod Searching

@@ -1,29 +1,27 @@
 //! Branches.
 
-ghost use Rattle.std.specs.Prelude.{◌≡◌, ◌+◌, ◌-◌, ◌≤◌, true, false, nat_lt, [], length, Ok, Some, None, IfErr, IfOk, IfSome, OnErr, OnOk, IsTrue};
-ghost use Rattle.std.specs.Prelude.{if◌then◌else◌};
-ghost use Rattle.std.specs.Option.{option_map, option_map_or};
+ghost use Rattle.std.specs.Prelude.{◌≡◌, ◌≢◌, ◌+◌, ◌≤◌, true, false, nat_lt, [], length, Ok, Some, None, IfErr, IfOk, IfSome, OnErr, OnOk, IsFalse, IsTrue};
 ghost use Rattle.pfl_language.specs.BranchWords.{is_branch_name};
 ghost use Rattle.pfl_search.specs.world.Events.{step, IsEventRefusal};
 ghost use Rattle.pfl_search.specs.world.Worlds.{World as Pair, IsWorld};
 ghost use Rattle.pfl_reasons.specs.Senders as meant;
-ghost use Rattle.pfl_timeline.specs.Commands.{extended, undone, first_events, explanation, why_answer, frame_answer};
-ghost use Rattle.pfl_timeline.specs.Excisions.{has_event, excised, fallen_places};
-ghost use Rattle.pfl_timeline.specs.Memory.{is_refusal};
-ghost use Rattle.pfl_timeline.specs.Replies.{reply_of};
+ghost use Rattle.pfl_timeline.specs.Answers.{answer, explanation, extended, frame_answer, shown_at, undone, why_answer};
+ghost use Rattle.pfl_timeline.specs.Commands.{first_events};
+ghost use Rattle.pfl_timeline.specs.Memory.{is_refusal, makes};
+ghost use Rattle.pfl_timeline.specs.Replies.{reply_of, Logged, Refused as Refusing};
 ghost use Rattle.pfl_timeline.specs.Rooted.{shown};
 ghost use Rattle.pfl_timeline.specs.Searches.{IsAnswer, finding_from, finding_of, sought};
+ghost use Rattle.pfl_timeline.specs.inner.Answering.{Gave};
 ghost use Rattle.pfl_timeline.specs.inner.Looking.{SeesAt};
-ghost use Rattle.pfl_timeline.specs.inner.Rooted.{with_cursor, with_former};
 ghost use Rattle.pfl_timeline.specs.Timelines.{IsBranch};
 
 use crate::finding::{Finding, found, stopped};
 use crate::history::History;
-use crate::look::{Explaining, Look, SentFrame};
-use crate::reply::{FrameTrace, Reply};
+use crate::look::{CopiedSight, Explaining, Look, SentFrame};
+use crate::reply::{FrameTrace, Reply, shared_copy};
 use pfl_base::Refusal;
 use pfl_edits::NoMemory;
-use pfl_language::{BranchWord, Choice, Event, Goal, Outcome, Refused};
+use pfl_language::{Ask, BranchWord, Choice, Event, Goal, Outcome, Refused};
 use pfl_reasons::{
     Events, FrameStep, count_senders, frame_steps, frames_are_counted, sending_place,
 };
@@ -76,6 +74,17 @@ fn boxed<A: Allocator>(alloc: A, history: History<A>) -> Result<Box<History<A>, 
     Ok(Box::new(alloc, history).map_err(AllocError::from)?)
 }
 
+/// The reply to an event that did not happen, unless it wanted memory.
+fn refused<A: Allocator>(refusal: Refusal) -> Result<Reply<A>, NoMemory>
+    ensures reply { IfOk result (λ reply. (refusal ≢ Refusal.NoMemory) × (reply_of reply ≡ Refusing (Refused.Event refusal))) }
+    ensures memory { OnErr result (refusal ≡ Refusal.NoMemory) }
+{
+    match refusal {
+        Refusal::NoMemory => Err(NoMemory),
+        refusal => Ok(Reply::Refused(Refused::Event(refusal))),
+    }
+}
+
 impl<A: Allocator> Branch<A> {
     /// Its name.
     pub fn name(&self) -> &BranchWord
@@ -116,33 +125,30 @@ impl<A: Allocator> Branch<A> {
         }
     }
 
-    /// Undoes the last `n` events before the cursor, if there are that many, and returns how many stand then. They stay in
-    /// the branch. It takes no memory.
-    pub(crate) fn back(&mut self, n: u32) -> Option<usize>
-        ensures far { result ≡ if nat_lt self.old.branch.cursor n then None else Some (self.old.branch.cursor - n) }
-        ensures branch { self.new ≡ if nat_lt self.old.branch.cursor n then self.old else with_cursor self.old (self.old.branch.cursor - n) }
-        ensures opening { self.new.opening ≡ self.old.opening }
-        ensures name { self.new.branch.name ≡ self.old.branch.name }
+    /// Undoes the last `n` events before the cursor, if there are that many. They stay in the branch. It takes no memory.
+    fn back(&mut self, n: u32) -> Reply<A>
+        ensures gave { Gave self.old (answer self.old.opening self.old.branch (Ask.Back n)) self.new (reply_of result) }
     {
         let n = n as usize;
         let cursor = self.cursor();
         if cursor < n {
-            return None;
+            return Reply::Refused(Refused::TooFarBack);
         }
         self.history.take_back_to(cursor - n);
-        Some(cursor - n)
+        Reply::At(cursor - n)
     }
 
-    /// Brings back what the branch was before its newest excision, where that can be taken back, and returns how many events
-    /// stand then. It takes no memory.
-    pub(crate) fn restore(&mut self) -> Option<usize>
-        ensures cursor { result ≡ option_map (λ f. f.cursor) self.old.branch.former }
-        ensures branch { self.new ≡ option_map_or (with_former self.old) self.old.branch.former self.old }
-        ensures opening { self.new.opening ≡ self.old.opening }
-        ensures name { self.new.branch.name ≡ self.old.branch.name }
+    /// Brings back what the branch was before its newest excision, where that can be taken back. It takes no memory.
+    fn restore(&mut self) -> Reply<A>
+        ensures gave { Gave self.old (answer self.old.opening self.old.branch Ask.Restore) self.new (reply_of result) }
     {
-        self.history = self.former.take()?;
-        Some(self.cursor())
+        match self.former.take() {
+            Some(former) => {
+                self.history = former;
+                Reply::Restored(self.cursor())
+            }
+            None => Reply::Refused(Refused::NothingExcised),
+        }
     }
 }
 
@@ -161,7 +167,7 @@ impl<A: Allocator + Copy> Branch<A> {
 
     /// Puts an event after those that stand, in place of those that had been undone, and of what could be brought back.
     /// Returns its outcome and how many were cut. Where it is refused, or there is no memory, nothing changes.
-    pub(crate) fn extend(&mut self, event: &Event) -> Result<(Outcome, usize), Refusal>
+    fn extend(&mut self, event: &Event) -> Result<(Outcome, usize), Refusal>
         ensures refused { IfErr result (λ why. (w : Pair) × (shown self.old ≡ Some w) × IsEventRefusal w event.now why) }
         ensures unchanged { OnErr result (self.new ≡ self.old) }
         ensures stepped { IfOk result (λ r. (w new : Pair) × (shown self.old ≡ Some w) × (step w event.now ≡ Ok (record { world = new; outcome = r.0 }))) }
@@ -179,47 +185,76 @@ impl<A: Allocator + Copy> Branch<A> {
         }
     }
 
-    /// Lets the next `n` events after the cursor happen again, if there are that many, and returns how many stand then.
-    /// Where there is no memory, nothing changes.
-    pub(crate) fn forward(&mut self, n: u32) -> Result<Option<usize>, NoMemory>
-        ensures far { IfOk result (λ cursor. cursor ≡ if nat_lt (undone self.old.branch) n then None else Some (self.old.branch.cursor + n)) }
-        ensures branch { OnOk result (self.new ≡ if nat_lt (undone self.old.branch) n then self.old else with_cursor self.old (self.old.branch.cursor + n)) }
-        ensures memory { OnErr result (nat_lt (undone self.old.branch) n ≡ false) }
+    /// Puts an event after those that stand. Where it is refused, or there is no memory, nothing changes.
+    fn step(&mut self, event: &Event) -> Result<Reply<A>, NoMemory>
+        ensures gave { IfOk result (λ reply. Gave self.old (answer self.old.opening self.old.branch (Ask.Step event.now)) self.new (reply_of reply)) }
+        ensures memory { OnErr result (IsFalse (is_refusal (answer self.old.opening self.old.branch (Ask.Step event.now)).reply)) }
         ensures unchanged { OnErr result (self.new ≡ self.old) }
-        ensures opening { self.new.opening ≡ self.old.opening }
-        ensures name { self.new.branch.name ≡ self.old.branch.name }
+    {
+        match self.extend(event) {
+            Ok((outcome, dropped)) => Ok(Reply::Stepped { outcome, dropped }),
+            Err(refusal) => refused(refusal),
+        }
+    }
+
+    /// Lets the next `n` events after the cursor happen again, if there are that many. Where there is no memory, nothing changes.
+    fn forward(&mut self, n: u32) -> Result<Reply<A>, NoMemory>
+        ensures gave { IfOk result (λ reply. Gave self.old (answer self.old.opening self.old.branch (Ask.Forward n)) self.new (reply_of reply)) }
+        ensures memory { OnErr result (IsFalse (is_refusal (answer self.old.opening self.old.branch (Ask.Forward n)).reply)) }
+        ensures unchanged { OnErr result (self.new ≡ self.old) }
     {
         self.history.known();
         let n = n as usize;
         let cursor = self.cursor();
         if self.events().len() - cursor < n {
-            return Ok(None);
+            return Ok(Reply::Refused(Refused::NothingForward));
         }
         self.history.redo(n)?;
-        Ok(Some(cursor + n))
+        Ok(Reply::At(cursor + n))
     }
 
     /// Takes the event at the place out, counted from 1, where there is one, and lets the rest happen again without it.
-    /// Returns the places of the events that are refused then: they fall out, too. What the branch was can be brought back.
+    /// Reports the places of the events that are refused then: they fall out, too. What the branch was can be brought back.
     /// Where there is no memory, nothing changes.
-    pub(crate) fn excise(&mut self, place: u32) -> Result<Option<Vec<usize, A>>, NoMemory>
-        ensures fallen { IfOk result (λ fallen. option_map (λ v. v.items) fallen ≡ if has_event place self.old.branch
-            then Some (fallen_places self.old.opening place self.old.branch) else None) }
-        ensures branch { OnOk result (self.new ≡ if has_event place self.old.branch
-            then record self.old { branch = excised self.old.opening place self.old.branch } else self.old) }
-        ensures memory { OnErr result (has_event place self.old.branch ≡ true) }
+    fn excise(&mut self, place: u32) -> Result<Reply<A>, NoMemory>
+        ensures gave { IfOk result (λ reply. Gave self.old (answer self.old.opening self.old.branch (Ask.Excise place)) self.new (reply_of reply)) }
+        ensures memory { OnErr result (IsFalse (is_refusal (answer self.old.opening self.old.branch (Ask.Excise place)).reply)) }
         ensures unchanged { OnErr result (self.new ≡ self.old) }
-        ensures opening { self.new.opening ≡ self.old.opening }
-        ensures name { self.new.branch.name ≡ self.old.branch.name }
     {
         let place = place as usize;
         if place == 0 || self.events().len() < place {
-            return Ok(None);
+            return Ok(Reply::Refused(Refused::NoEvent));
         }
         let (rest, fallen) = self.history.without(place)?;
         let history = boxed(*Box::allocator(&self.history), rest)?;
         self.former = Some(mem::replace(&mut self.history, history));
-        Ok(Some(fallen))
+        Ok(Reply::Excised(fallen))
+    }
+
+    /// Where it stands, with a copy of the world that it shows.
+    fn show(&self) -> Result<Reply<A>, NoMemory>
+        ensures answer { IfOk result (λ reply. (w : Pair) × (shown self.now ≡ Some w)
+            × (reply_of reply ≡ shown_at self.now.branch self.now.branch.cursor w)) }
+    {
+        let world = shared_copy(*Box::allocator(&self.history), self.world())?;
+        Ok(Reply::Shown {
+            name: self.name,
+            events: self.events().len(),
+            cursor: self.cursor(),
+            world,
+        })
+    }
+
+    /// Its events, those after the cursor too, in memory of their own, and its cursor. No pair is copied.
+    fn log(&self) -> Result<Reply<A>, NoMemory>
+        ensures answer { IfOk result (λ reply. reply_of reply ≡ Logged self.now.branch.name self.now.branch.events self.now.branch.cursor) }
+    {
+        let events = self.events().to_vec(*Box::allocator(&self.history))?;
+        Ok(Reply::Logged {
+            name: self.name,
+            events,
+            cursor: self.cursor(),
+        })
     }
 
     /// Looks at the world that the first `place` events give, those after the cursor too, where there are as many. Nothing changes,
@@ -243,8 +278,24 @@ impl<A: Allocator + Copy> Branch<A> {
         Ok(Some(seen))
     }
 
+    /// Where it would stand at another place, with a copy of the world that it would show there. Nothing changes, whatever the answer.
+    fn past(&mut self, place: u32) -> Result<Reply<A>, NoMemory>
+        ensures gave { IfOk result (λ reply. Gave self.old (answer self.old.opening self.old.branch (Ask.Past place)) self.new (reply_of reply)) }
+        ensures memory { OnErr result (IsFalse (is_refusal (answer self.old.opening self.old.branch (Ask.Past place)).reply)) }
+        ensures unchanged { self.new ≡ self.old }
+    {
+        self.known();
+        let look = CopiedSight {
+            alloc: *Box::allocator(&self.history),
+        };
+        match self.look_at(place, &look, &mut ())? {
+            Some(copied) => copied,
+            None => Ok(Reply::Refused(Refused::NothingForward)),
+        }
+    }
+
     /// What came of the event at the place, counted from 1, those after the cursor too, and why. Nothing changes, whatever the answer.
-    pub(crate) fn why(&mut self, place: u32) -> Result<Reply<A>, NoMemory>
+    fn why(&mut self, place: u32) -> Result<Reply<A>, NoMemory>
         ensures answer { IfOk result (λ reply. reply_of reply ≡ why_answer self.old.opening place self.old.branch) }
         ensures memory { OnErr result (is_refusal (why_answer self.old.opening place self.old.branch) ≡ false) }
         ensures unchanged { self.new ≡ self.old }
@@ -264,7 +315,7 @@ impl<A: Allocator + Copy> Branch<A> {
     }
 
     /// What would come of the event where it stands, and why. Nothing changes, whatever the answer.
-    pub(crate) fn why_step(&mut self, event: &Event) -> Result<Reply<A>, NoMemory>
+    fn why_step(&mut self, event: &Event) -> Result<Reply<A>, NoMemory>
         ensures answer { IfOk result (λ reply. (w : Pair) × (shown self.old ≡ Some w)
             × (reply_of reply ≡ explanation self.old.branch.name (self.old.branch.cursor + 1) w event.now)) }
         ensures unchanged { self.new ≡ self.old }
@@ -327,7 +378,7 @@ impl<A: Allocator + Copy> Branch<A> {
 
     /// The frame that one of its events sent under the ticket, those after the cursor too, and what befell it. Nothing changes,
     /// whatever the answer.
-    pub(crate) fn frame(&mut self, ticket: u32) -> Result<Reply<A>, NoMemory>
+    fn frame(&mut self, ticket: u32) -> Result<Reply<A>, NoMemory>
         ensures answer { IfOk result (λ reply. reply_of reply ≡ frame_answer self.old.opening ticket self.old.branch) }
         ensures memory { OnErr result (is_refusal (frame_answer self.old.opening ticket self.old.branch) ≡ false) }
         ensures unchanged { self.new ≡ self.old }
@@ -337,6 +388,29 @@ impl<A: Allocator + Copy> Branch<A> {
         match self.sending_place(ticket) {
             Some(place) => self.trace(ticket, place),
             None => Ok(Reply::Refused(Refused::NoFrame)),
+        }
+    }
+
+    /// Answers what is asked of it. Where there is no memory, nothing changes. Memory is wanted last: by no way back and no restoration,
+    /// and by nothing that is refused.
+    pub(crate) fn answer(&mut self, ask: &Ask) -> Result<Reply<A>, NoMemory>
+        ensures gave { IfOk result (λ reply. Gave self.old (answer self.old.opening self.old.branch ask.now) self.new (reply_of reply)) }
+        ensures memory { OnErr result (IsTrue (makes ask.now) × IsFalse (is_refusal (answer self.old.opening self.old.branch ask.now).reply)) }
+        ensures unchanged { OnErr result (self.new ≡ self.old) }
+    {
+        self.known();
+        match ask {
+            Ask::Step { event } => self.step(event),
+            Ask::Back { n } => Ok(self.back(*n)),
+            Ask::Forward { n } => self.forward(*n),
+            Ask::Show => self.show(),
+            Ask::Past { place } => self.past(*place),
+            Ask::Why { place } => self.why(*place),
+            Ask::WhyStep { event } => self.why_step(event),
+            Ask::Frame { ticket } => self.frame(*ticket),
+            Ask::Excise { place } => self.excise(*place),
+            Ask::Restore => Ok(self.restore()),
+            Ask::Log => self.log(),
         }
     }
 

@@ -1,7 +1,7 @@
 //! Laws of timelines. They have no code: each is a theorem over the definitions, which a function's contract names.
 
 ghost use Rattle.pfl_timeline.specs.Laws.{NewTimelinesAreTimelines, CommandsKeepTimelines, BranchesShowWorlds, BranchesShowTheirRuns};
-ghost use Rattle.pfl_timeline.specs.Laws.{CommandsLeaveOthers, PastsAreShown, WhysAreSteps, WhysForetellSteps, ExcisionsAreRunsWithout};
+ghost use Rattle.pfl_timeline.specs.Laws.{LooksChangeNothing, CommandsLeaveOthers, PastsAreShown, WhysAreSteps, WhysForetellSteps, ExcisionsAreRunsWithout};
 ghost use Rattle.pfl_timeline.specs.Laws.{ExcisionsLeaveStanding, ExcisionsReportTheRefused, NothingElseFallsOut, RestorationsTakeBack};
 ghost use Rattle.pfl_timeline.specs.Laws.{NoReplyReportsWantOfMemory, StepsAreRuns};
 
@@ -34,6 +34,11 @@ pub fn whys_are_steps()
 /// What is reported of an event that has not happened is what a step of it replies.
 pub fn whys_foretell_steps()
     ensures { WhysForetellSteps }
+{}
+
+/// A question that only looks at a branch changes nothing.
+pub fn looks_change_nothing()
+    ensures { LooksChangeNothing }
 {}
 
 /// A command leaves every branch but the one that it changes as it was.

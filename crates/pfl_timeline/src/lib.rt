@@ -13,7 +13,7 @@ pub use branch::Branch;
 pub use finding::Finding;
 pub use laws::{
     branches_show_their_runs, commands_keep_timelines, commands_leave_others,
-    excisions_are_runs_without_the_event, new_timelines_are_timelines,
+    excisions_are_runs_without_the_event, looks_change_nothing, new_timelines_are_timelines,
     no_reply_reports_want_of_memory, pasts_are_shown, steps_are_runs, whys_are_steps,
     whys_foretell_steps,
 };

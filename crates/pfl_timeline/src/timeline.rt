@@ -1,28 +1,23 @@
 //! Timelines.
 
-ghost use Rattle.std.specs.Prelude.{◌≡◌, ◌≢◌, length, map, Some, is_some, IfOk, IfErr, IsSomeAnd, IsTrue, OnErr, OnOk};
+ghost use Rattle.std.specs.Prelude.{◌≡◌, length, map, is_some, IfOk, IfErr, IsSomeAnd, IsTrue, OnErr, OnOk, Some};
 ghost use Rattle.std.specs.List.{AllByRecursion};
-ghost use Rattle.std.specs.Option.{option_map};
-ghost use Rattle.pfl_timeline.specs.Commands.{replied, step_command, back_command, forward_command, fork_refusal, fork_command, drop_command};
-ghost use Rattle.pfl_timeline.specs.Commands.{show_command, past_command, why_command, why_step_command, frame_command, names_command};
-ghost use Rattle.pfl_timeline.specs.Commands.{excise_command, restore_command, log_command, command_step};
+ghost use Rattle.pfl_timeline.specs.Commands.{replied, back_command, command_step, fork_refusal, past_command, show_command};
 ghost use Rattle.pfl_timeline.specs.Memory.{IsAccepted, MayWantMemory};
 ghost use Rattle.pfl_timeline.specs.Looks.{IsNotSeen};
 ghost use Rattle.pfl_timeline.specs.Replies.{reply_of, Reply as Replying, Refused as Refusing, Shown};
 ghost use Rattle.pfl_timeline.specs.Rooted.{shown};
 ghost use Rattle.pfl_timeline.specs.Searches.{IsAnswer, finding, finding_of, sought};
-ghost use Rattle.pfl_timeline.specs.inner.Replies.{moved, fell_out, brought_back};
 ghost use Rattle.pfl_timeline.specs.Timelines.{Branch as Branched, IsTimeline, branch_of, new_timeline, world_of};
 ghost use Rattle.pfl_search.specs.world.Worlds.{World as Pair};
 
 use crate::branch::Branch;
 use crate::finding::Finding;
-use crate::look::{CopiedSight, Look, NotSeen};
-use crate::reply::{Reply, shared_copy};
+use crate::look::{Look, NotSeen};
+use crate::reply::Reply;
 use indexmap::IndexMap;
-use pfl_base::Refusal;
 use pfl_edits::NoMemory;
-use pfl_language::{BranchWord, Choice, Command, Event, Goal, Refused};
+use pfl_language::{Ask, BranchWord, Choice, Command, Goal, Refused};
 use pfl_search::World;
 use std::alloc::Allocator;
 use std::hash::{BuildHasherDefault, FoldHasher};
@@ -62,47 +57,6 @@ impl<A: Allocator> Model for Timeline<A> {
 /// The most branches of a timeline.
 const MOST_BRANCHES: usize = 16;
 
-/// The reply to an event that did not happen, unless it wanted memory.
-fn refused<A: Allocator>(refusal: Refusal) -> Result<Reply<A>, NoMemory>
-    ensures reply { IfOk result (λ reply. (refusal ≢ Refusal.NoMemory) × (reply_of reply ≡ Refusing (Refused.Event refusal))) }
-    ensures memory { OnErr result (refusal ≡ Refusal.NoMemory) }
-{
-    match refusal {
-        Refusal::NoMemory => Err(NoMemory),
-        refusal => Ok(Reply::Refused(Refused::Event(refusal))),
-    }
-}
-
-/// The reply to a way to another cursor, which is refused where there is none.
-fn moved<A: Allocator>(cursor: Option<usize>, why: Refused) -> Reply<A>
-    ensures { reply_of result ≡ moved why cursor }
-{
-    match cursor {
-        Some(cursor) => Reply::At(cursor),
-        None => Reply::Refused(why),
-    }
-}
-
-/// The reply to an excision, which is refused where there is no such event.
-fn excised<A: Allocator>(fallen: Option<Vec<usize, A>>) -> Reply<A>
-    ensures { reply_of result ≡ fell_out (option_map (λ v. v.items) fallen) }
-{
-    match fallen {
-        Some(places) => Reply::Excised(places),
-        None => Reply::Refused(Refused::NoEvent),
-    }
-}
-
-/// The reply to a restoration, which is refused where there is nothing to bring back.
-fn restored<A: Allocator>(cursor: Option<usize>) -> Reply<A>
-    ensures { reply_of result ≡ brought_back cursor }
-{
-    match cursor {
-        Some(cursor) => Reply::Restored(cursor),
-        None => Reply::Refused(Refused::NothingExcised),
-    }
-}
-
 impl<A: Allocator> Timeline<A> {
     /// The branches, in the order of their making. Each begins from the timeline's opening.
     pub fn branches(&self) -> &[Branch<A>]
@@ -136,34 +90,9 @@ impl<A: Allocator> Timeline<A> {
         let _branches = &self.branches;
     }
 
-    /// Undoes the last `n` events before the branch's cursor; they stay in the branch. A refusal changes nothing, and it
-    /// takes no memory.
-    pub fn back(&mut self, name: BranchWord, n: u32) -> Reply<A>
-        ensures step { back_command self.old name n ≡ replied self.new (reply_of result) }
-    {
-        let Some(branch) = self.branches.get_mut(&name) else {
-            return Reply::Refused(Refused::NoBranch);
-        };
-        let cursor = branch.back(n);
-        branch.known();
-        moved(cursor, Refused::TooFarBack)
-    }
-
-    /// Brings back what the branch was before its newest excision. It takes no memory.
-    fn restore(&mut self, name: &BranchWord) -> Reply<A>
-        ensures step { restore_command self.old name.now ≡ replied self.new (reply_of result) }
-    {
-        let Some(branch) = self.branches.get_mut(name) else {
-            return Reply::Refused(Refused::NoBranch);
-        };
-        let cursor = branch.restore();
-        branch.known();
-        restored(cursor)
-    }
-
     /// Removes a branch. It takes no memory.
     fn remove(&mut self, name: &BranchWord) -> Reply<A>
-        ensures step { drop_command self.old name.now ≡ replied self.new (reply_of result) }
+        ensures step { command_step self.old (Command.Drop name.now) ≡ replied self.new (reply_of result) }
     {
         if !self.branches.contains_key(name) {
             return Reply::Refused(Refused::NoBranch);
@@ -189,51 +118,29 @@ impl<A: Allocator + Copy> Timeline<A> {
         Ok(Timeline { branches })
     }
 
-    /// Puts an event after those before the branch's cursor.
-    fn step(&mut self, name: &BranchWord, event: &Event) -> Result<Reply<A>, NoMemory>
-        ensures step { IfOk result (λ reply. step_command self.old name.now event.now ≡ replied self.new (reply_of reply)) }
-        ensures memory { OnErr result (IsAccepted (step_command self.old name.now event.now)) }
+    /// What the branch of the name answers. Where there is no memory, nothing changes.
+    fn ask(&mut self, name: &BranchWord, ask: &Ask) -> Result<Reply<A>, NoMemory>
+        ensures step { IfOk result (λ reply. command_step self.old (Command.On name.now ask.now) ≡ replied self.new (reply_of reply)) }
+        ensures memory { OnErr result (MayWantMemory self.old (Command.On name.now ask.now)) }
         ensures unchanged { OnErr result (self.new ≡ self.old) }
     {
         let Some(branch) = self.branches.get_mut(name) else {
             return Ok(Reply::Refused(Refused::NoBranch));
         };
-        let stepped = branch.extend(event);
+        let answered = branch.answer(ask);
         branch.known();
-        match stepped {
-            Ok((outcome, dropped)) => Ok(Reply::Stepped { outcome, dropped }),
-            Err(refusal) => refused(refusal),
+        answered
+    }
+
+    /// Undoes the last `n` events before the branch's cursor; they stay in the branch. A refusal changes nothing, and it
+    /// takes no memory.
+    pub fn back(&mut self, name: BranchWord, n: u32) -> Reply<A>
+        ensures step { back_command self.old name n ≡ replied self.new (reply_of result) }
+    {
+        match self.ask(&name, &Ask::Back { n }) {
+            Ok(reply) => reply,
+            Err(NoMemory) => unreachable!(),
         }
-    }
-
-    /// Lets the next `n` events after the branch's cursor happen again.
-    fn forward(&mut self, name: &BranchWord, n: u32) -> Result<Reply<A>, NoMemory>
-        ensures step { IfOk result (λ reply. forward_command self.old name.now n ≡ replied self.new (reply_of reply)) }
-        ensures memory { OnErr result (IsAccepted (forward_command self.old name.now n)) }
-        ensures unchanged { OnErr result (self.new ≡ self.old) }
-    {
-        let Some(branch) = self.branches.get_mut(name) else {
-            return Ok(Reply::Refused(Refused::NoBranch));
-        };
-        let cursor = branch.forward(n);
-        branch.known();
-        let cursor = cursor?;
-        Ok(moved(cursor, Refused::NothingForward))
-    }
-
-    /// Takes an event out of the middle of the branch.
-    fn excise(&mut self, name: &BranchWord, event: u32) -> Result<Reply<A>, NoMemory>
-        ensures step { IfOk result (λ reply. excise_command self.old name.now event ≡ replied self.new (reply_of reply)) }
-        ensures memory { OnErr result (IsAccepted (excise_command self.old name.now event)) }
-        ensures unchanged { OnErr result (self.new ≡ self.old) }
-    {
-        let Some(branch) = self.branches.get_mut(name) else {
-            return Ok(Reply::Refused(Refused::NoBranch));
-        };
-        let fallen = branch.excise(event);
-        branch.known();
-        let fallen = fallen?;
-        Ok(excised(fallen))
     }
 
     /// Why a branch of the first `place` events of another one is not made under this name, if there is a reason.
@@ -260,8 +167,8 @@ impl<A: Allocator + Copy> Timeline<A> {
         place: u32,
         name: BranchWord,
     ) -> Result<Reply<A>, NoMemory>
-        ensures step { IfOk result (λ reply. fork_command self.old from.now place name ≡ replied self.new (reply_of reply)) }
-        ensures memory { OnErr result (IsAccepted (fork_command self.old from.now place name)) }
+        ensures step { IfOk result (λ reply. command_step self.old (Command.Fork from.now place name) ≡ replied self.new (reply_of reply)) }
+        ensures memory { OnErr result (IsAccepted (command_step self.old (Command.Fork from.now place name))) }
         ensures unchanged { OnErr result (self.new ≡ self.old) }
     {
         let Some(from) = self.branches.get(from) else {
@@ -280,29 +187,11 @@ impl<A: Allocator + Copy> Timeline<A> {
 
     /// The names of the branches.
     fn names(&self) -> Result<Reply<A>, NoMemory>
-        ensures step { IfOk result (λ reply. names_command self.now ≡ replied self.now (reply_of reply)) }
+        ensures step { IfOk result (λ reply. command_step self.now Command.Names ≡ replied self.now (reply_of reply)) }
     {
         let alloc = *self.branches.allocator();
         let names = Vec::from_slice(alloc, self.branches.keys().as_slice())?;
         Ok(Reply::Names(names))
-    }
-
-    /// The branch, with a copy of its world.
-    fn show(&self, name: &BranchWord) -> Result<Reply<A>, NoMemory>
-        ensures step { IfOk result (λ reply. show_command self.now name.now ≡ replied self.now (reply_of reply)) }
-        ensures memory { OnErr result (IsAccepted (show_command self.now name.now)) }
-    {
-        let branch = match self.shown(name) {
-            Ok(branch) => branch,
-            Err(why) => return Ok(Reply::Refused(why)),
-        };
-        let world = shared_copy(*self.branches.allocator(), branch.world())?;
-        Ok(Reply::Shown {
-            name: *branch.name(),
-            events: branch.events().len(),
-            cursor: branch.cursor(),
-            world,
-        })
     }
 
     /// Looks at the world that the branch's first `place` events give, those after the cursor too. No pair is copied, and the timeline
@@ -331,84 +220,6 @@ impl<A: Allocator + Copy> Timeline<A> {
             Some(seen) => Ok(seen),
             None => Err(NotSeen::Refused(Refused::NothingForward)),
         }
-    }
-
-    /// The branch at another place, with a copy of the world that it would show there.
-    fn past_copied(&mut self, name: &BranchWord, place: u32) -> Result<Reply<A>, NoMemory>
-        ensures step { IfOk result (λ reply. past_command self.old name.now place ≡ replied self.new (reply_of reply)) }
-        ensures memory { OnErr result (IsAccepted (past_command self.old name.now place)) }
-        ensures unchanged { self.new ≡ self.old }
-    {
-        let look = CopiedSight {
-            alloc: *self.branches.allocator(),
-        };
-        match self.past(name, place, &look, &mut ()) {
-            Ok(copied) => copied,
-            Err(NotSeen::Refused(why)) => Ok(Reply::Refused(why)),
-            Err(NotSeen::NoMemory) => Err(NoMemory),
-        }
-    }
-
-    /// What came of the branch's event at the place, counted from 1, those after the cursor too, and why. The event happens again for a
-    /// while. No pair is copied, and the timeline stays as it was, whatever the answer.
-    pub fn why(&mut self, name: &BranchWord, place: u32) -> Result<Reply<A>, NoMemory>
-        ensures step { IfOk result (λ reply. why_command self.old name.now place ≡ replied self.new (reply_of reply)) }
-        ensures memory { OnErr result (IsAccepted (why_command self.old name.now place)) }
-        ensures unchanged { self.new ≡ self.old }
-    {
-        let Some(branch) = self.branches.get_mut(name) else {
-            return Ok(Reply::Refused(Refused::NoBranch));
-        };
-        let explained = branch.why(place);
-        branch.known();
-        explained
-    }
-
-    /// What would come of the event where the branch stands, and why. It happens for a while. No pair is copied, and the timeline stays
-    /// as it was, whatever the answer.
-    pub fn why_step(&mut self, name: &BranchWord, event: &Event) -> Result<Reply<A>, NoMemory>
-        ensures step { IfOk result (λ reply. why_step_command self.old name.now event.now ≡ replied self.new (reply_of reply)) }
-        ensures memory { OnErr result (IsAccepted (why_step_command self.old name.now event.now)) }
-        ensures unchanged { self.new ≡ self.old }
-    {
-        let Some(branch) = self.branches.get_mut(name) else {
-            return Ok(Reply::Refused(Refused::NoBranch));
-        };
-        let explained = branch.why_step(event);
-        branch.known();
-        explained
-    }
-
-    /// The frame that one of the branch's events sent under the ticket, those after the cursor too, and what befell it. The branch stands
-    /// after that event for a while. No pair is copied, and the timeline stays as it was, whatever the answer.
-    pub fn frame(&mut self, name: &BranchWord, ticket: u32) -> Result<Reply<A>, NoMemory>
-        ensures step { IfOk result (λ reply. frame_command self.old name.now ticket ≡ replied self.new (reply_of reply)) }
-        ensures memory { OnErr result (IsAccepted (frame_command self.old name.now ticket)) }
-        ensures unchanged { self.new ≡ self.old }
-    {
-        let Some(branch) = self.branches.get_mut(name) else {
-            return Ok(Reply::Refused(Refused::NoBranch));
-        };
-        let traced = branch.frame(ticket);
-        branch.known();
-        traced
-    }
-
-    /// The branch's events, those after the cursor too, in memory of their own, and its cursor. No pair is copied.
-    fn log(&self, name: &BranchWord) -> Result<Reply<A>, NoMemory>
-        ensures step { IfOk result (λ reply. log_command self.now name.now ≡ replied self.now (reply_of reply)) }
-        ensures memory { OnErr result (IsAccepted (log_command self.now name.now)) }
-    {
-        let Some(branch) = self.branches.get(name) else {
-            return Ok(Reply::Refused(Refused::NoBranch));
-        };
-        let alloc = *self.branches.allocator();
-        let events = branch.events().to_vec(alloc)?;
-        Ok(Reply::Logged {
-            name: *branch.name(),
-            events,
-            cursor: branch.cursor(),
-        })
     }
 
     /// Searches for a shortest run to the goal from where the branch stands: a run of events of the choices, at most `depth` of them.
@@ -444,20 +255,10 @@ impl<A: Allocator + Copy> Timeline<A> {
         ensures unchanged { OnErr result (self.new ≡ self.old) }
     {
         match command {
-            Command::Step { branch, event } => self.step(&branch, &event),
-            Command::Back { branch, n } => Ok(self.back(branch, n)),
-            Command::Forward { branch, n } => self.forward(&branch, n),
+            Command::On { branch, ask } => self.ask(&branch, &ask),
             Command::Fork { from, place, name } => self.fork(&from, place, name),
             Command::Drop { branch } => Ok(self.remove(&branch)),
-            Command::Show { branch } => self.show(&branch),
-            Command::Past { branch, place } => self.past_copied(&branch, place),
-            Command::Why { branch, place } => self.why(&branch, place),
-            Command::WhyStep { branch, event } => self.why_step(&branch, &event),
-            Command::Frame { branch, ticket } => self.frame(&branch, ticket),
             Command::Names => self.names(),
-            Command::Excise { branch, place } => self.excise(&branch, place),
-            Command::Restore { branch } => Ok(self.restore(&branch)),
-            Command::Log { branch } => self.log(&branch),
         }
     }
 }

@@ -1,5 +1,5 @@
-//! What only a call shows: devices that fail, a check and a run without memory, faults that print, frames that are read, a record that
-//! comes by itself, events of a pair that are taken back at once, and searches. What a script shows is a case of test_cases.
+//! What only a call shows: devices that fail, a check and a run without memory, faults that print, and a table that takes no memory once it
+//! is made. What a script shows is a case of test_cases.
 #![tactic(auto)]
 
 #[cfg(test)]
@@ -7,14 +7,8 @@ mod devices;
 #[cfg(test)]
 mod faults;
 #[cfg(test)]
-mod frames;
-#[cfg(test)]
-mod laws;
-#[cfg(test)]
-mod records;
+mod refusals;
 #[cfg(test)]
 mod scripts;
-#[cfg(test)]
-mod searches;
 #[cfg(test)]
 mod tables;

@@ -1,4 +1,4 @@
-//! A table takes no memory once it is made, whatever comes, moves and goes.
+//! A table takes no memory once it is made, nor a copy of it, whatever comes, moves and goes. It has each of the containers.
 
 use pfl_base::{Addr, Class, Dir, End, Key, Proto, StateName};
 use pfl_rules::Adaptive;
@@ -75,12 +75,18 @@ fn use_again<A: Allocator>(table: &mut StateTable<A>, port: u16) -> bool {
         .is_some()
 }
 
-/// All states come and are used again, and each third one goes and comes again: whether each was where it had to be.
-fn come_and_go<A: Allocator>(table: &mut StateTable<A>) -> bool {
+/// All states come and are used again: whether each was where it had to be.
+fn come<A: Allocator>(table: &mut StateTable<A>) -> bool {
     let mut there = true;
     for port in 0..STATES {
         there &= put(table, port) && use_again(table, port);
     }
+    there
+}
+
+/// Each third one goes and comes again: whether each was where it had to be.
+fn go_and_come<A: Allocator>(table: &mut StateTable<A>) -> bool {
+    let mut there = true;
     for port in 0..STATES {
         if port % 3 == 1 {
             there &= table.take_at(Slot::UNKNOWN, name_of(port)).is_some() && put(table, port);
@@ -90,19 +96,24 @@ fn come_and_go<A: Allocator>(table: &mut StateTable<A>) -> bool {
     there
 }
 
+/// The state of port 1 is the first that came again, and was not used since.
+fn is_settled<A: Allocator>(table: &StateTable<A>) -> bool {
+    let first = table.first_expiring(AS_THEY_ARE, STATES as usize);
+    table.len() == STATES as usize && first.is_some_and(|row| row.state.name() == name_of(1))
+}
+
 #[test]
-fn a_table_takes_no_memory_once_it_is_made(rt: HostRuntime) {
+fn a_table_takes_no_memory_once_it_is_made(rt: HostRuntime) -> Result<(), Fail> {
     let memory = RefusesOne::new(rt.alloc());
-    let made = StateTable::new(&memory, STATES as usize);
+    let mut table = StateTable::new(&memory, STATES as usize)?;
     memory.refuse(1);
-    let Ok(mut table) = made else {
-        assert!(rt; false);
-        return;
-    };
-    assert!(rt; come_and_go(&mut table));
+    assert!(rt; come(&mut table) && go_and_come(&mut table));
+    assert!(rt; is_settled(&table));
     assert!(rt; !memory.relent());
-    assert!(rt; table.len() == 300);
-    // The state of port 1 is the first that came again, and was not used since.
-    let first = table.first_expiring(AS_THEY_ARE, 300);
-    assert!(rt; first.is_some_and(|row| row.state.name() == name_of(1)));
+    let mut copied = table.copy()?;
+    memory.refuse(1);
+    assert!(rt; go_and_come(&mut copied));
+    assert!(rt; is_settled(&copied));
+    assert!(rt; !memory.relent());
+    Ok(())
 }

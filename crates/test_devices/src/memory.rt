@@ -5,8 +5,6 @@ ghost use Rattle.std.specs.Allocator.{alloc_error};
 ghost use Rattle.std.specs.Borrow.{ffalse};
 ghost use Rattle.std.specs.contracts.impls.GlobalAllocator.TheImpl.{ghosts};
 
-#[cfg(test)]
-mod tests;
 mod tries;
 
 use std::alloc::{AllocError, Allocator, Global};

@@ -1,13 +1,11 @@
-//! Worked values, want of memory, and threads that publish and read at once.
-ghost use Rattle.std.specs.Prelude.{◌≡◌, ◌+◌, ◌^◌, ◌<◌, [], ◌∷◌, true, length, slice_index, IfOk};
+//! Worked values, and threads that publish and read at once.
+ghost use Rattle.std.specs.Prelude.{◌≡◌, ◌+◌, ◌^◌, ◌<◌, [], true, length, slice_index};
 ghost use Rattle.std.specs.Thread.{IsSync};
-ghost use Rattle.pfl_publish.specs.Revisions.{published};
 
-use pfl_publish::{Naming, NoMemory, Overtaken, Publisher, Revision, Told, ViewerSeat, WriterSeat};
+use pfl_publish::{Overtaken, Publisher, Revision, Told, ViewerSeat, WriterSeat};
 use std::alloc::Global;
 use std::test::*;
 use std::thread::{Threads, join};
-use test_devices::Refusing;
 
 /// Revision n has the words n, 10 n + 1, 10 n + 2 and so on up to 10 n + 7.
 fn row(n: u64) -> Revision
@@ -49,50 +47,6 @@ fn load_all(publisher: &Publisher<(), Global>, viewer: &mut ViewerSeat<()>)
     for i in 0..8 {
         publisher.load(viewer, i);
     }
-}
-
-#[test]
-fn overtaken_among_the_loads(rt: HostRuntime) -> Result<(), Fail> {
-    let (publisher, mut writer, mut viewer) = Publisher::new(rt.alloc(), row(0), &())?;
-    publisher.begin(&mut viewer);
-    publisher.load(&mut viewer, 0);
-    publisher.load(&mut viewer, 1);
-    publisher.load(&mut viewer, 2);
-    publisher.load(&mut viewer, 3);
-    publish_next(&publisher, &mut writer);
-    publish_next(&publisher, &mut writer);
-    publish_next(&publisher, &mut writer);
-    publish_next(&publisher, &mut writer);
-    publisher.load(&mut viewer, 4);
-    publisher.load(&mut viewer, 5);
-    publisher.load(&mut viewer, 6);
-    publisher.load(&mut viewer, 7);
-    assert!(rt; publisher.finish(&mut viewer) == Err(Overtaken { at: 0, now: 4 }));
-    assert!(rt; viewer.floor() == 4);
-    assert!(rt;
-        publisher.read(&mut viewer, 0)
-            == Ok(Revision {
-                words: [4, 41, 42, 43, 44, 45, 46, 47]
-            })
-    );
-    Ok(())
-}
-
-#[test]
-fn overtaken_by_four(rt: HostRuntime) -> Result<(), Fail> {
-    let (publisher, mut writer, mut viewer) = Publisher::new(rt.alloc(), row(0), &())?;
-    publisher.begin(&mut viewer);
-    publish_next(&publisher, &mut writer);
-    publish_next(&publisher, &mut writer);
-    publish_next(&publisher, &mut writer);
-    let told = publish_next(&publisher, &mut writer);
-    load_all(&publisher, &mut viewer);
-    assert!(rt; publisher.finish(&mut viewer) == Err(Overtaken { at: 0, now: 4 }));
-    assert!(rt; publisher.read(&mut viewer, 1) == Ok(row(4)));
-    assert!(rt; told == Told { number: 4 });
-    assert!(rt; publisher.learn(&mut viewer, &told));
-    assert!(rt; writer.number() == 4);
-    Ok(())
 }
 
 #[test]
@@ -253,74 +207,5 @@ fn enough_tries_are_not_overtaken(rt: HostRuntime) -> Result<(), Fail> {
     let (one, two) = write_and_read(&rt, &publisher, writer, one, two, 334);
     assert!(rt; one.good && two.good);
     assert!(rt; !one.overtaken && !two.overtaken);
-    Ok(())
-}
-
-#[test]
-fn wants_memory(rt: HostRuntime) -> Result<(), Fail> {
-    let refused = Publisher::<(), Refusing>::new(Refusing, row(0), &());
-    assert!(rt; refused.err() == Some(NoMemory));
-    Ok(())
-}
-
-#[test]
-fn texts_of_errors(rt: HostRuntime) -> Result<(), Fail> {
-    let no_memory = format!(in rt.alloc(); "{NoMemory}")?;
-    assert!(rt; no_memory.as_str() == "no memory");
-    let overtaken = Overtaken { at: 2, now: 5 };
-    let overtaken = format!(in rt.alloc(); "{overtaken}")?;
-    assert!(rt; overtaken.as_str() == "overtaken at revision 2 by revision 5");
-    Ok(())
-}
-
-/// A kind of entry that may be neither copied nor let go: contracts alone see one.
-struct Ticket {
-    number: u64,
-}
-
-impl Naming<Ticket> for u64 {
-    ghost use Rattle.test_publish.specs.declared.publish.Ticket.{Ticket};
-
-    ghost named = { λ n. record { number = n } };
-}
-
-/// Contracts name each revision's entry, of any kind. Whatever it is, seats go to other threads, and publishers are shared by
-/// them.
-fn publish_tickets(
-    alloc: Global,
-) -> Result<
-    (
-        Publisher<Ticket, Global>,
-        WriterSeat<Ticket>,
-        ViewerSeat<Ticket>,
-    ),
-    NoMemory,
->
-    ensures { IfOk result (λ r. r.1.list ≡ published (0 ∷ 0 ∷ 0 ∷ 0 ∷ 0 ∷ 0 ∷ 0 ∷ 0 ∷ []) (record { number = 7 }) ∷ published (1 ∷ 0 ∷ 0 ∷ 0 ∷ 0 ∷ 0 ∷ 0 ∷ 0 ∷ []) (record { number = 8 }) ∷ []) }
-{
-    let (publisher, mut writer, viewer) = Publisher::new(alloc, Revision { words: [0; 8] }, &7)?;
-    let next = Revision {
-        words: [1, 0, 0, 0, 0, 0, 0, 0],
-    };
-    publisher.publish(&mut writer, next, &8);
-    Ok((shared(publisher), sent(writer), sent(viewer)))
-}
-
-fn shared<T: Sync>(value: T) -> T
-    ensures { result ≡ value }
-{
-    value
-}
-
-fn sent<T: Send>(value: T) -> T
-    ensures { result ≡ value }
-{
-    value
-}
-
-#[test]
-fn tickets_are_published(rt: HostRuntime) -> Result<(), Fail> {
-    let (_publisher, writer, viewer) = publish_tickets(rt.alloc())?;
-    assert!(rt; (writer.number(), viewer.floor()) == (1, 0));
     Ok(())
 }

@@ -99,7 +99,7 @@ pub(super) fn speak<J: Which, G: Gate, R: Wait>(
 }
 
 /// A text, or nothing where there was no memory for it.
-pub(super) type Text = Option<Vec<u8, Global>>;
+type Text = Option<Vec<u8, Global>>;
 
 /// The entries of the lab's journal.
 pub(super) fn entries<A: Allocator>(
@@ -117,17 +117,11 @@ pub(super) fn entries<A: Allocator>(
     Some(entries)
 }
 
-/// The replies of a session's entries in the journal, or of all entries.
-pub(super) fn told<A: Allocator + Copy>(
-    alloc: Global,
-    journal: &[Entry<A>],
-    session: Option<u32>,
-) -> Text {
+/// The replies of the journal's entries.
+fn told<A: Allocator + Copy>(alloc: Global, journal: &[Entry<A>]) -> Text {
     let mut text = Std::new(Vec::new(alloc));
     for entry in journal {
-        if session.is_none_or(|session| session == entry.session) {
-            write_reply(alloc, &entry.reply, &mut text).ok()?;
-        }
+        write_reply(alloc, &entry.reply, &mut text).ok()?;
     }
     Some(text.into_inner())
 }
@@ -146,7 +140,7 @@ fn follow<A: Allocator>(
 }
 
 /// The replies that the journal's commands give, one after another, on a new timeline.
-pub(super) fn replayed<A: Allocator>(alloc: Global, journal: &[Entry<A>]) -> Text {
+fn replayed<A: Allocator>(alloc: Global, journal: &[Entry<A>]) -> Text {
     let mut timeline = opening(alloc)?;
     let mut text = Std::new(Vec::new(alloc));
     let mut whole = true;
@@ -158,7 +152,7 @@ pub(super) fn replayed<A: Allocator>(alloc: Global, journal: &[Entry<A>]) -> Tex
 
 /// The journal has these replies, and so does its replay.
 pub(super) fn tells(alloc: Global, journal: &[Entry<Global>], text: &[u8]) -> bool {
-    let told = told(alloc, journal, None);
+    let told = told(alloc, journal);
     let again = replayed(alloc, journal);
     told.is_some_and(|told| told.as_slice() == text)
         && again.is_some_and(|again| again.as_slice() == text)
@@ -166,6 +160,6 @@ pub(super) fn tells(alloc: Global, journal: &[Entry<Global>], text: &[u8]) -> bo
 
 /// The journal's commands, one after another, give the replies of its entries.
 pub(super) fn replays<A: Allocator + Copy>(alloc: Global, journal: &[Entry<A>]) -> bool {
-    let told = told(alloc, journal, None);
+    let told = told(alloc, journal);
     told.is_some() && told == replayed(alloc, journal)
 }

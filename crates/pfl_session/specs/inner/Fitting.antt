@@ -1,8 +1,9 @@
 -- Which entries fit in few bytes.
-use Rattle.std.specs.Prelude.{ℕ, Bool, true, false, ◌||◌, nat_lt, List, length, Option, Some, None, if◌then◌else◌}
+use Rattle.std.specs.Prelude.{ℕ, Bool, false, ◌||◌, nat_lt, List, length, Option, Some, None, if◌then◌else◌}
 use Rattle.pfl_language.specs.declared.command.Command.{Command}
 use Rattle.pfl_language.specs.declared.command.Command.TheVariants as command
-use Rattle.pfl_timeline.specs.Replies.{Reply, Shown, Logged}
+use Rattle.pfl_timeline.specs.Replies.{Reply}
+use Rattle.pfl_timeline.specs.Sizes.{is_large}
 
 -- the word has more bytes than the name of a branch may have
 abbrev pub is_long : List ℕ → Bool
@@ -14,26 +15,10 @@ short_word word = if is_long word then None else Some word
 
 -- a word of the command is long
 abbrev pub has_long_word : Command → Bool
-has_long_word (command.Step name e) = is_long name
-has_long_word (command.Back name n) = is_long name
-has_long_word (command.Forward name n) = is_long name
+has_long_word (command.On name q) = is_long name
 has_long_word (command.Fork from k name) = is_long from || is_long name
 has_long_word (command.Drop name) = is_long name
-has_long_word (command.Show name) = is_long name
-has_long_word (command.Past name k) = is_long name
-has_long_word (command.Why name k) = is_long name
-has_long_word (command.WhyStep name e) = is_long name
-has_long_word (command.Frame name ticket) = is_long name
 has_long_word command.Names = false
-has_long_word (command.Excise name k) = is_long name
-has_long_word (command.Restore name) = is_long name
-has_long_word (command.Log name) = is_long name
-
--- the reply shows a branch, or lists its events
-abbrev pub is_large : Reply → Bool
-is_large (Shown name events cursor w) = true
-is_large (Logged name events cursor) = true
-is_large _ = false
 
 -- an entry of this command and this reply does not fit, and is kept as it is in a box
 abbrev pub is_kept_whole : Command → Reply → Bool

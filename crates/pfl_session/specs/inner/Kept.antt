@@ -1,5 +1,7 @@
 -- Entries as they are kept: what each stands for.
 use Rattle.std.specs.Prelude.{ℕ, List, Some, None}
+use Rattle.pfl_language.specs.declared.ask.Ask.{Ask}
+use Rattle.pfl_language.specs.declared.ask.Ask.TheVariants as ask
 use Rattle.pfl_language.specs.declared.command.Command.{Command}
 use Rattle.pfl_language.specs.declared.command.Command.TheVariants as command
 use Rattle.pfl_language.specs.declared.event.Event.{Event}
@@ -17,6 +19,8 @@ use Rattle.pfl_session.specs.declared.kept.form.Form.{Form}
 use Rattle.pfl_session.specs.declared.kept.form.Form.TheVariants.{Step, WhyStep, Plain, Whole}
 use Rattle.pfl_session.specs.declared.kept.command.Asked.{Asked}
 use Rattle.pfl_session.specs.declared.kept.command.Asked.TheVariants as asked
+use Rattle.pfl_session.specs.declared.kept.command.KeptAsk.{KeptAsk}
+use Rattle.pfl_session.specs.declared.kept.command.KeptAsk.TheVariants as kept_ask
 use Rattle.pfl_session.specs.declared.kept.command.KeptCommand.{KeptCommand}
 use Rattle.pfl_session.specs.declared.kept.command.KeptCommand.TheVariants as kept_command
 use Rattle.pfl_session.specs.declared.kept.event.JournalEvent.{JournalEvent}
@@ -43,25 +47,29 @@ event_in (kept_event.Repeat ticket) = event.Of ticket of_frame.Repeat
 event_in (kept_event.Cut ticket len) = event.Of ticket (of_frame.Cut len)
 event_in (kept_event.Restart node) = event.Restart node
 
+-- what is asked
+abbrev pub ask_in : KeptAsk → Ask
+ask_in (kept_ask.Back n) = ask.Back n
+ask_in (kept_ask.Forward n) = ask.Forward n
+ask_in kept_ask.Show = ask.Show
+ask_in (kept_ask.Past k) = ask.Past k
+ask_in (kept_ask.Why k) = ask.Why k
+ask_in (kept_ask.Frame ticket) = ask.Frame ticket
+ask_in (kept_ask.Excise k) = ask.Excise k
+ask_in kept_ask.Restore = ask.Restore
+ask_in kept_ask.Log = ask.Log
+
 -- the command of the branch of the name
 abbrev pub command_in : List ℕ → KeptCommand → Command
-command_in name (kept_command.Back n) = command.Back name n
-command_in name (kept_command.Forward n) = command.Forward name n
+command_in name (kept_command.On q) = command.On name (ask_in q)
 command_in name (kept_command.Fork k new) = command.Fork name k new
 command_in name kept_command.Drop = command.Drop name
-command_in name kept_command.Show = command.Show name
-command_in name (kept_command.Past k) = command.Past name k
-command_in name (kept_command.Why k) = command.Why name k
-command_in name (kept_command.Frame ticket) = command.Frame name ticket
 command_in name kept_command.Names = command.Names
-command_in name (kept_command.Excise k) = command.Excise name k
-command_in name kept_command.Restore = command.Restore name
-command_in name kept_command.Log = command.Log name
 
 -- the command
 abbrev pub asked_in : Asked → Command
-asked_in (asked.Step name e) = command.Step name (event_in e)
-asked_in (asked.WhyStep name e) = command.WhyStep name (event_in e)
+asked_in (asked.Step name e) = command.On name (ask.Step (event_in e))
+asked_in (asked.WhyStep name e) = command.On name (ask.WhyStep (event_in e))
 asked_in (asked.Plain name c) = command_in name c
 
 -- the outcome
@@ -99,7 +107,7 @@ reply_in (kept_reply.Refused why) = given.Refused why
 
 -- the entry
 abbrev pub entry_in : {M : Type 0} → Form M → Entry M
-entry_in (Step name session e r) = record { session = session; command = command.Step name (event_in e); reply = reply_in r }
-entry_in (WhyStep name session e r) = record { session = session; command = command.WhyStep name (event_in e); reply = reply_in r }
+entry_in (Step name session e r) = record { session = session; command = command.On name (ask.Step (event_in e)); reply = reply_in r }
+entry_in (WhyStep name session e r) = record { session = session; command = command.On name (ask.WhyStep (event_in e)); reply = reply_in r }
 entry_in (Plain name session c r) = record { session = session; command = command_in name c; reply = reply_in r }
 entry_in (Whole boxed) = boxed.value

@@ -2,7 +2,7 @@
 
 ghost use Rattle.std.specs.Prelude.{◌≡◌, IfErr, IfOk, IsTrue};
 ghost use Rattle.pfl_timeline.specs.Replies.{reply_of};
-ghost use Rattle.pfl_session.specs.inner.Fitting.{is_large};
+ghost use Rattle.pfl_timeline.specs.Sizes.{is_large};
 ghost use Rattle.pfl_session.specs.inner.Kept.{reply_in};
 
 use crate::kept::outcome::KeptOutcome;

@@ -5,7 +5,7 @@ use Rattle.pfl_language.specs.declared.event.Event.{Event}
 use Rattle.pfl_search.specs.world.link.Links.{InFlight}
 use Rattle.pfl_search.specs.world.Runs.{run}
 use Rattle.pfl_search.specs.world.Worlds.{World}
-use Rattle.pfl_timeline.specs.Commands.{explanation}
+use Rattle.pfl_timeline.specs.Answers.{explanation}
 use Rattle.pfl_timeline.specs.Replies.{Reply, Shown}
 
 -- the first k events have a world, and this is what was seen of it

@@ -1,9 +1,9 @@
 use Rattle.std.specs.Prelude.{IsTrue}
 use Rattle.std.proofs.Common.{subst}
+use Rattle.pfl_timeline.proofs.ForCallers.{listing-keeps}
 use Rattle.pfl_timeline.proofs.ForCallers.world.{where_err}
 use Rattle.pfl_session.specs.inner.Fitting.{is_kept_whole}
 use Rattle.pfl_session.proofs.KeptEntries.{whole-keeps}
-use Rattle.pfl_session.proofs.Listed.{listing-keeps}
 use Rattle.pfl_session.proofs.Telling.{room-is-enough}
 use Rattle.pfl_session.proofs.execution.execute.Goals as goal
 

@@ -1,5 +1,5 @@
 use Rattle.std.proofs.Common.{sym}
-use Rattle.pfl_timeline.proofs.Asked.{anyway}
+use Rattle.pfl_timeline.proofs.Results.{anyway}
 use Rattle.pfl_timeline.proofs.Traces.{no-frame, frame-there}
 use Rattle.pfl_timeline.proofs.branch.Branch.frame.Goals as goal
 

@@ -4,7 +4,7 @@ use Rattle.std.specs.Option.{option_map}
 use Rattle.pfl_timeline.specs.Histories.{reached}
 use Rattle.pfl_timeline.specs.Rooted.{Rooted, shown}
 use Rattle.pfl_timeline.specs.Searches.{Finding, IsAnswer, found_by, sought}
-use Rattle.pfl_timeline.proofs.Asked.{if_ok, as_ok}
+use Rattle.pfl_timeline.proofs.Results.{if_ok, as_ok}
 use Rattle.pfl_timeline.proofs.Searched.{answered, meant, stopped_at}
 use Rattle.pfl_timeline.proofs.branch.Branch.search.Goals as goal
 use Rattle.pfl_timeline.proofs.branch.Branch.search.Goals.{in-Ok, in-Err}

@@ -2,7 +2,7 @@ use Rattle.std.specs.Prelude.{◌≡◌, ◌-◌, ◌≤◌, List, length, slice
 use Rattle.std.specs.Option.{option_map}
 use Rattle.std.proofs.Common.{◌∙◌, ap, arith, sym}
 use Rattle.pfl_language.specs.declared.event.Event.{Event}
-use Rattle.pfl_timeline.proofs.Asked.{anyway}
+use Rattle.pfl_timeline.proofs.Results.{anyway}
 use Rattle.pfl_timeline.proofs.Sieving.{has-event}
 use Rattle.pfl_timeline.proofs.Whys.{explained-is, explained-by}
 use Rattle.pfl_timeline.proofs.branch.Branch.why.Goals as goal

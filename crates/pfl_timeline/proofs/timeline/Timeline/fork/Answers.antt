@@ -1,22 +1,18 @@
-use Rattle.std.specs.Prelude.{length, refl}
+use Rattle.std.specs.Prelude.{length}
 use Rattle.std.proofs.Common.{◌∙◌, ap, sym}
 use Rattle.std.proofs.lemmas.Bool.{ltb-false}
 use Rattle.indexmap.specs.IndexMap.{insert_entry}
-use Rattle.pfl_language.specs.declared.refused.Refused.TheVariants as refused
 use Rattle.pfl_language.specs.BranchWords.{is_branch_name, same_name}
-use Rattle.pfl_timeline.specs.Commands.{fork_reply}
-use Rattle.pfl_timeline.specs.Replies.{Refused as Refusing}
-use Rattle.pfl_timeline.proofs.Asked.{fork-asks, anyway}
+use Rattle.pfl_timeline.proofs.Answering.{fork-asks}
 use Rattle.pfl_timeline.proofs.Forking.{told-why, told-forked, kept-forked, accepted-free}
 use Rattle.pfl_timeline.proofs.Keeping.{fork_known, is_one}
 use Rattle.pfl_timeline.proofs.Places.{Entries, told-none}
+use Rattle.pfl_timeline.proofs.Results.{anyway}
 use Rattle.pfl_timeline.proofs.timeline.Timeline.fork.Goals as goal
 
 pub returns-in_default-clause-step : goal.returns-in_default-clause-step
 returns-in_default-clause-step g c =
-    fork-asks _ _ _ _
-    ∙ told-none (λ t b. fork_reply t c.args.place c.args.name b) c.args.from.now _ _
-    (Refusing refused.NoBranch) c.self.view_is c.self.invariant c.in_default.ensures.value refl
+    fork-asks _ _ _ _ ∙ told-none c.args.from.now _ _ c.self.view_is c.self.invariant c.in_default.ensures.value _
 
 pub returns-in-Some-fork_refusal-clause-step : goal.returns-in-Some-fork_refusal-clause-step
 returns-in-Some-fork_refusal-clause-step g c =

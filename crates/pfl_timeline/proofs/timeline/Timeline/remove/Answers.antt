@@ -1,10 +1,7 @@
-use Rattle.std.specs.Prelude.{length, refl}
+use Rattle.std.specs.Prelude.{length}
 use Rattle.std.proofs.Common.{◌∙◌, arith, sym}
 use Rattle.std.proofs.lemmas.Bool.{le-leb, lt-leb}
-use Rattle.pfl_language.specs.declared.refused.Refused.TheVariants as refused
-use Rattle.pfl_timeline.specs.Commands.{drop_reply}
-use Rattle.pfl_timeline.specs.Replies.{Refused as Refusing}
-use Rattle.pfl_timeline.proofs.Asked.{drop-asks}
+use Rattle.pfl_timeline.proofs.Answering.{drop-asks}
 use Rattle.pfl_timeline.proofs.ByName.{some_there, none_there}
 use Rattle.pfl_timeline.proofs.Forking.{told-last, told-dropped, kept-dropped}
 use Rattle.pfl_timeline.proofs.Places.{told-none, how_many}
@@ -13,8 +10,8 @@ use Rattle.pfl_timeline.proofs.timeline.Timeline.remove.Goals as goal
 pub returns-then-not-contains_key : goal.returns-then-not-contains_key
 returns-then-not-contains_key g c = record {
   step = drop-asks _ _
-      ∙ told-none (λ t b. drop_reply t b) c.args.name.now _ _ (Refusing refused.NoBranch) c.self.view_is c.self.invariant
-      (none_there _ (sym c.contains_key.ensures ∙ c.if-not-contains_key.true)) refl;
+      ∙ told-none c.args.name.now _ _ c.self.view_is c.self.invariant
+      (none_there _ (sym c.contains_key.ensures ∙ c.if-not-contains_key.true)) _;
 }
 
 pub returns-then-len-le1 : goal.returns-then-len-le1

@@ -3,7 +3,7 @@ use Rattle.std.proofs.Common.{◌∙◌, ap}
 use Rattle.std.proofs.lemmas.Result.{IfOk-weaker}
 use Rattle.pfl_timeline.specs.Rooted.{Rooted}
 use Rattle.pfl_timeline.specs.Searches.{sought}
-use Rattle.pfl_timeline.proofs.Asked.{anyway}
+use Rattle.pfl_timeline.proofs.Results.{anyway}
 use Rattle.pfl_timeline.proofs.Places.{begins-there, found, kept-at, none-at, same_there}
 use Rattle.pfl_timeline.proofs.Searched.{finding-at, finding-none, means-at, world_at}
 use Rattle.pfl_timeline.proofs.timeline.Timeline.search.Goals as goal
