@@ -12,7 +12,16 @@ TOP = Path(__file__).resolve().parent.parent
 COMMANDS = ("pfl_lab", "pfl_shell")
 EXAMPLES = "share/pfl_lab/examples"
 DISSECTOR = "share/pfl_lab/wireshark/pfsync.lua"
-START = "import sys\n\nfrom shell.installed import main\n\nsys.exit(main())\n"
+START = """import sys
+
+if sys.version_info < (3, 8):
+    print("pfl_shell: this needs Python 3.8 or later, and this is Python %d.%d" % sys.version_info[:2], file=sys.stderr)
+    sys.exit(125)
+
+from shell.installed import main
+
+sys.exit(main())
+"""
 RUNNABLE, READABLE = 0o755, 0o644
 # The scripts among the examples and what stands beside them; captures and a pf.conf are installed as they are.
 _WRITTEN, _FOUND = (".pfl", ".md", ".svg", ".html"), (".pcap", ".conf")

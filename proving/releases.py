@@ -33,6 +33,8 @@ PACKED = f"{FOLDER}/{NAME}.xz"
 RECORD = f"{FOLDER}/RELEASE"
 # What `pfl_lab --version` prints after the program's name.
 STAMP = "crates/pfl_run/src/version.rt"
+# The oldest glibc that has all that the program asks of it.
+GLIBC = (2, 34)
 STAMP_TEXT = """//! What this program was made from, as `./lab release` writes it. The sum of the sources leaves this file out.
 
 /// The release, the sum of its sources, and the logic that proves them.
@@ -130,10 +132,22 @@ class Release:
         """The path of the program, unpacked; it is kept for the next time."""
         if (platform.system(), platform.machine()) != ("Linux", "x86_64"):
             raise NoRelease(f"the release is for Linux on x86-64, and this is {platform.system()} on {platform.machine()}")
+        why = fault_of_glibc(*platform.libc_ver())
+        if why:
+            raise NoRelease(why)
         path = f"{room()}/{self.program[:16]}/{NAME}"
         if not is_file_with(path, self.program):
             write_whole(path, self.content())
         return path
+
+
+def fault_of_glibc(library: str, version: str) -> str:
+    """Why the program cannot start with this C library; empty if it can."""
+    here = f"{library} {version}" if library == "glibc" else "another C library"
+    numbers = re.fullmatch(r"(\d+)\.(\d+).*", version)
+    if library == "glibc" and numbers and (int(numbers[1]), int(numbers[2])) >= GLIBC:
+        return ""
+    return f"the release needs glibc {'.'.join(map(str, GLIBC))} or later, as in Debian 12 and Ubuntu 22.04, and this system has {here}"
 
 
 def room() -> str:

@@ -1,23 +1,39 @@
-"""What `help` says about each word: its form, what it does, and what it answers."""
+"""What `help` says about each word: its form, what it does, and what it answers.
+
+The shell's own words are said here alone: `python3 docs/words.py` writes the lists of docs/SHELL.md and of pfl_shell(1) from them.
+"""
 from __future__ import annotations
 
 import re
 import textwrap
-from typing import Dict, Iterable, List, NamedTuple, Optional
+from typing import Dict, Iterable, List, NamedTuple, Optional, Sequence, Tuple
 
 from .language import commands, events
 from .language.commands import Line
 from .language.events import Event
 from .language.lines import FOR_PEOPLE
-from .language.searches import SEARCH
+from .language.searches import APART, DIFFER, SEARCH
 
 
 class Help(NamedTuple):
-    """A word's form, what it does, and what else to know about it."""
+    """A word's form, what it does, and what else to know about it: sentences, its parts or options, and sentences after these."""
 
     form: str
     what: str
     more: str = ""
+    parts: Sequence[Tuple[str, str]] = ()
+    end: str = ""
+    # What it does, as an instruction.
+    order: str = ""
+
+
+# The end of a verb that an instruction leaves out.
+ENDING = re.compile(r"\[(e?s)\]")
+
+
+def _word(form: str, what: str, more: str = "", parts: Sequence[Tuple[str, str]] = (), end: str = "") -> Help:
+    """The help of a word of the shell; what it does is written as "show[s] the pair"."""
+    return Help(form, ENDING.sub(r"\1", what), more, parts, end, ENDING.sub("", what))
 
 
 # The columns of a line.
@@ -27,26 +43,36 @@ NOTES = "notes"
 WHATIF = "whatif"
 DEPENDS = "depends"
 VIEW = "view"
-WHATIF_OPTIONS = (
-    "--faults KINDS", "--watch WHAT", "--from K", "--to L", "--pairs", "--flushing", "--only N", "--out FILE.pfl"
-)
-WHATIF_PARTS = "\n".join(
+# The options of `whatif`, each with what it does.
+WHATIF_PARTS = (
     (
-        "The events of the branch that stand happen again with each fault, and then what is pending is sent and delivered, as by `quiet`; "
-        "nothing changes here. The groups that change most come first, each with the reason in its first fault.",
-        "--faults KINDS: only these, joined by commas: undone (a loss, cut, repeat, restart, kill or clear of the run as if it had not "
-        "happened), lose, twice, late, last (a frame), skip (a packet or another event of a node), restart, clock (61 s ahead).",
-        "--watch WHAT: shows only the groups in which a packet passes that did not (pass), or the reverse (drop), in which a flow of the "
-        "run's end is on neither node (gone), in which the nodes differ in another way at the end (apart), or in which the packets of "
-        "events with these numbers get other verdicts; joined by commas.",
-        "--from K, --to L: faults at these events.",
-        "--pairs: every two faults together; restarts and clocks only if --faults names them.",
-        "--flushing: what a fault gives a node to send is sent, and arrives, before the next event of the run.",
-        "--only N: shows only the N-th group, with all of its faults and the whole reason.",
-        "--out FILE.pfl: writes the dialogue as a script, with a branch for the first fault of each group that is shown.",
-        "An interrupt (Ctrl-C) ends it and shows what was found.",
-    )
+        "--faults KINDS",
+        "only faults of these kinds, joined by commas. A loss, cut, repeat, restart, kill or clear of the run does not happen (`undone`). A "
+        "frame is lost (`lose`), comes twice (`twice`), late (`late`) or last (`last`). A packet or another event of a node does not happen "
+        "(`skip`). A node restarts (`restart`), or its clock advances by 61 s (`clock`).",
+    ),
+    (
+        "--watch WHAT",
+        "only the groups that change this, joined by commas. A packet passes that did not (`pass`), or the reverse (`drop`). A flow of the "
+        "run's end is on neither node (`gone`). The nodes differ in another way at the end, or do not come to rest (`apart`). The packet of "
+        "an event with this number gets another verdict (a number).",
+    ),
+    ("--from K", "only faults at the K-th event and later ones."),
+    ("--to L", "only faults at the L-th event and earlier ones."),
+    (
+        "--pairs",
+        "every two faults together, where their change is neither that of one of them nor those of both. Restarts and clocks are tried only "
+        "if `--faults` names them.",
+    ),
+    ("--flushing", "what a fault gives a node to send is sent, and arrives, before the next event of the run."),
+    ("--only N", "only the N-th group, with all of its faults and the whole reason; several numbers are joined by commas."),
+    (
+        "--out FILE.pfl",
+        "a copy of the script or dialogue is written, with a branch for the first fault of each group that is shown, and the replies. A group "
+        "that changes nothing is written only if `--only` names it.",
+    ),
 )
+WHATIF_OPTIONS = tuple(option for option, _ in WHATIF_PARTS)
 # The names in forms that the help writes out.
 _WRITTEN_OUT = {"SRC": "SOURCE", "DST": "DESTINATION", "LEN": "LENGTH"}
 
@@ -64,140 +90,169 @@ def _of_event(it: Event) -> Help:
     *others, last = (f"`{outcome.form}`{outcome.help}" for outcome in it.outcomes)
     answers = f"{', '.join(others)}{',' * (len(others) > 1)} or {last}" if others else last
     more = f"Answers {answers}. Refused: {', '.join(it.refused)}. {it.more}".strip()
-    return Help(*(_written_out(part) for part in ("\n".join(it.forms), it.what, more)))
+    return Help(_written_out("\n".join(it.forms)), _written_out(it.what), _written_out(more))
 
 
 SETUP = {word: _of_line(it) for word, it in commands.SETUP.items()}
 COMMANDS = {word: _of_line(it) for word, it in commands.TYPED.items()}
 # What the shell takes besides the forms of the laboratory's own words.
 ADDED = {
-    "back to": Help(
+    "back to": _word(
         "back [BRANCH] to K\nback [BRANCH] to MARK",
-        "goes to where the first K events stand, or to a mark, by `back` or `forward`",
-        "Without BRANCH it goes there in the branch in use, or in the one where the mark was set. In another branch a mark is found if the "
-        "same events are there. If a branch is called `to`, the two forms without BRANCH are about that branch.",
+        "go[es] to where the first K events stand, or to a mark, by `back` or `forward`",
+        "Without BRANCH it is the branch in use, or the one where the mark was set. A mark can be found in another branch with the same "
+        "events. If a branch is called `to`, the two forms without BRANCH are about that branch.",
     ),
-    "fork here": Help("fork here NEW", "makes a branch NEW of the events that stand in the branch in use"),
+    "fork here": _word("fork here NEW", "make[s] a branch NEW of the events before the cursor of the branch in use"),
 }
 EVENTS = {word: _of_event(it) for word, it in events.EVENTS.items()}
 
-SEARCH_PARTS = "\n".join(
+SEARCH_PARTS = (
     (
-        "The search goes on from where the branch in use stands, and changes nothing. The first word says what is sought, and further "
-        "parts follow after commas:",
-        "drops: the packet would be dropped. One that is held is not dropped, and one that is refused neither is dropped nor passes.",
-        "passes: the packet would pass, or be held.",
-        "splits: the packet would be dropped at its node, and pass, or be held, at the other.",
-        "differ: a state at both nodes, and `no-sync` at neither, has other levels, numbers or class.",
-        "apart: one node has a state whose name the other does not have. Nothing else of the states is compared.",
-        "quiet: ask only when nothing is in flight or pending, and neither node serves a bulk update; the default. A node may wait for one "
-        "that was lost.",
-        "settled: as quiet, and only when neither node waits for a bulk update.",
-        "landed: ask only when no frame is in flight.",
-        "anywhere: ask where the branch stands and after each event; the default where a node dies.",
-        "within N: of runs of at most N events, up to 64; the default is 8.",
-        "deliver N: any frame is delivered, at most N times, all frames together; the default is as often as there are events.",
-        "flush NODE N: the node flushes, at most N times; the default is as often as there are events, for both nodes.",
-        "lose N, repeat N, cut LENGTH N: any frame is lost, doubled, or cut to its first LENGTH bytes, at most N times, all frames "
-        "together; the default is never.",
-        "EVENT [N times]: this event may happen, at most N times, or once; `lose 2 1 times` loses frame 2.",
-        "then: the parts after it are of the next phase. Once an event of a later phase came, none of an earlier one happens. Deliveries "
-        "and flushes are of each phase, as often as in the one before it unless it says otherwise; everything else is of the phase in "
-        "which it is said.",
-        "dies NODE: the next phase, in which the node does nothing more, so what waits in it is never sent.",
-        "at most RUNS: give up if a depth needs more runs than that; the default is 1,000,000.",
-        "Runs of no event are searched first, then those of one, and so on. An interrupt (Ctrl-C) ends the search, which reports how far "
-        "it got. The program's line that was answered last is shown, and `save` writes it with its answer. `take` steps what was found. "
-        "The last form is such a line (docs/FORMATS.md). A search on a server needs one that reports its setup.",
-    )
+        "drops packet ..",
+        "the packet would be dropped, for any reason of pf's. One that is held is not dropped, and one that is refused neither is dropped nor "
+        "passes.",
+    ),
+    ("passes packet ..", "the packet would pass, or be held."),
+    ("splits packet ..", "the packet would be dropped at its node, and pass or be held at the other: what a failover harms."),
+    (
+        DIFFER,
+        "a state at both nodes has other levels, numbers or class at one than at the other. A state that is `no-sync` at either node is left "
+        "out. Numbers are those of both ends, windows and scales too; rules and times are not compared.",
+    ),
+    (APART, "one node has a state whose name the other does not have. Nothing else of the states is compared."),
+    (
+        "quiet",
+        "ask only when nothing is in flight or pending, and neither node serves a bulk update; so by default, unless a node dies. A node may "
+        "wait for a bulk update that was lost.",
+    ),
+    ("settled", "ask as with `quiet`, and only when neither node waits for a bulk update."),
+    ("landed", "ask only when no frame is in flight."),
+    ("anywhere", "ask where the branch stands and after each event; so by default if a node dies."),
+    ("within N", "a run has at most N events, up to 64; by default 8."),
+    ("deliver N", "frames are delivered, at most N times in all; by default as often as there are events."),
+    ("flush NODE N", "the node flushes, at most N times; by default each does as often as there are events."),
+    (
+        "lose N, repeat N, cut LENGTH N",
+        "frames are lost, doubled, or cut to their first LENGTH bytes, at most N times in all; by default never.",
+    ),
+    (
+        "EVENT [N times]",
+        "this event may happen, at most N times; by default once. `lose 2 1 times` is the loss of frame 2. `tick both MS` is two events.",
+    ),
+    (
+        "then",
+        "the next phase begins: once an event of a later phase came, none of an earlier one happens. Deliveries and flushes are of each phase, "
+        "as often as in the one before it unless it says otherwise. Everything else is only of the phase in which it is said.",
+    ),
+    (
+        "dies NODE",
+        "the next phase begins, in which and after which the node does nothing more: what waits in it is never sent. A run need not use this phase, "
+        "since a node may do nothing more before it as well: `lose 1, dies a` is one lost frame in all.",
+    ),
+    ("at most RUNS", "give up if a depth needs more runs than this; by default 1,000,000."),
 )
 
 SHELL: Dict[str, Help] = {
-    VIEW: Help(
+    VIEW: _word(
         "view [BRANCH] [K]\nview [BRANCH] [K] NODE\nview [BRANCH] [K] NAME",
-        "shows the pair in the words of pfctl: states, counters, queues, held packets, frames; or one node, or a state at both nodes",
-        "With K it shows the pair as it was after the first K events, even events after the cursor; the branch stays as it is.",
+        "show[s] the pair, one node, or a state at both nodes in the words of pfctl: states, counters, queues, held packets, frames",
+        "With K the pair is as it was after the first K events, even events after the cursor. The branch stays as it is.",
     ),
-    "diff": Help(
+    "diff": _word(
         "diff [BRANCH]\ndiff BRANCH BRANCH",
-        "says whether nodes a and b agree and where they do not; or how two branches differ, and from which event on",
+        "report[s] where nodes a and b differ, or where two branches do, and from which event on",
     ),
-    "log": Help("log [BRANCH]", "lists the events of a branch with their outcomes, and where the cursor stands"),
-    "changes": Help(
-        "changes [BRANCH] [K]", "shows what the K-th event changed, before and after; without K, the newest that stands"
+    "log": _word("log [BRANCH]", "list[s] the events of a branch with their outcomes, and the place of the cursor"),
+    "changes": _word(
+        "changes [BRANCH] [K]", "show[s] what the K-th event changed, before and after; without K, the last event before the cursor"
     ),
-    "why": Help(
+    "why": _word(
         "why [[BRANCH] K]\nwhy [BRANCH] EVENT",
-        "gives the reason for the last reply, or for what came of the K-th event; or what would come of an event, and why",
-        "The event does not happen: the branch stays as it is.",
+        "explain[s] the last reply, the outcome of the K-th event, or what would come of an event",
+        "Such an event does not happen: the branch stays as it is.",
     ),
-    "frame": Help(
+    "frame": _word(
         "frame [BRANCH] TICKET",
-        "shows a frame that an event sent, record by record, and the events that sent, cut, copied, delivered or lost it",
+        "show[s] a frame that an event sent, record by record, and the events that sent, cut, copied, delivered or lost it",
         "Events after the cursor count too, and are marked as undone.",
     ),
-    "quiet": Help(
-        "quiet [BRANCH]", "flushes and delivers, bulk turns too, until nothing is pending or in flight, and reports each step"
+    "quiet": _word(
+        "quiet [BRANCH]",
+        "flush[es] and deliver[s], bulk turns too, until nothing is pending or in flight, and show[s] each step",
+        "It gives up after 10,000 steps, or at a step that is refused.",
     ),
-    SEARCH: Help(
+    SEARCH: _word(
         "\n".join((*FOR_PEOPLE, f"{SEARCH} BRANCH DEPTH RUNS GOAL [; CHOICE]..")),
-        "finds a shortest run of events after which a packet would be dropped, or would pass, or the nodes do not have the same "
-        "states; or reports that there is none, which is proved",
+        "find[s] a shortest run of events that leads to what you seek, or report[s] that there is none, which is proved",
+        "The run begins where the branch in use stands, and nothing changes. The first part says what is sought, and further parts follow "
+        "after commas:",
         SEARCH_PARTS,
+        "Runs without events are searched first, then those of one event, and so on. If there is none, the answer has the number of runs that "
+        "were tried, and of those that end where the question is asked. If the second is 0, it says nothing about the packet or the states. "
+        "An interrupt (Ctrl-C) ends the search, which reports up to which depth there is none. The program's line that was answered last is "
+        "shown, and `save` writes it with its answer. The last form is such a line: pfl_lab(1) has its parts. `take` steps what was found. A "
+        "search on a server needs one that reports its setup.",
     ),
-    "take": Help(
+    "take": _word(
         "take [NAME]",
-        "steps what the last search found, on a new branch",
-        "The branch NAME (`found`, then `found-2`, .. if it is left out) is forked from the one that was searched, and comes into use.",
+        "step[s] what the last search found, on a new branch",
+        "The branch NAME (`found`, then `found-2` and so on if it is left out) is forked from the one that was searched, and comes into use.",
     ),
-    CHART: Help(
+    CHART: _word(
         f"{CHART} [BRANCH] [from K] [to L] [flow NAME] [FILE.svg]",
-        "draws what happened: two lanes, frames as arrows; as text, or as a picture in a file",
-        "With K and L it draws the events from the K-th to the L-th; with NAME only what is about this state: packets of its flow, "
-        "frames with a record about it, and what removes it from a node.",
+        "draw[s] what happened, as text or as a picture in a file: two lanes, frames as arrows",
+        "With K and L the chart has the events from the K-th to the L-th. With NAME it has only what is about this state: packets of its "
+        "flow, frames with a record about it, and what removes it from a node.",
     ),
-    WHATIF: Help(
+    WHATIF: _word(
         f"{WHATIF} [BRANCH] {' '.join(f'[{it}]' for it in WHATIF_OPTIONS)}",
-        "tries each single fault of the branch, such as a lost frame or a restart, in a run of its own, and groups the faults by what they "
-        "change",
+        "play[s] the events before the cursor again with each single fault, and group[s] the faults by what they change",
+        "Each fault is tried in a run of its own, in which at the end what is pending is sent and delivered, as by `quiet`; nothing changes "
+        "here. The groups that change most come first, each with the reason in its first fault. An interrupt (Ctrl-C) ends it, and what was "
+        "found is shown.",
         WHATIF_PARTS,
     ),
-    DEPENDS: Help(
+    DEPENDS: _word(
         f"{DEPENDS} [BRANCH] [--all-replies]",
-        "says whether the outcomes of the branch's events depend on whose rules they go by, those of the profile or of the kernel",
-        "The events that stand are played again with each word of `kernel` and with all of them, or where the setup has such a line, with each "
-        "word added or taken away. For each word there is the first outcome that changes, with its reason, and what the end has otherwise; "
-        "then what several words do only together. Nothing changes here. Of a script `./lab depends SCRIPT` does the same with all of its "
-        "replies, searches too.\n--all-replies: shows each reply that changes.",
+        "report[s] which outcomes of a branch's events depend on whose rules they go by, the profile's or the kernel's",
+        "The events before the cursor are played again with each word of `kernel` and with all of them. If the setup has such a line, each "
+        "word is added or taken away. For each word the first outcome that changes is shown with its reason, and what the end has "
+        "otherwise; then what several words do only together. Nothing changes here. The command `depends` does the same for scripts, with "
+        "all of their replies, searches too.",
+        (("--all-replies", "shows each reply that changes."),),
     ),
-    "summary": Help("summary", "asks a server for a few numbers that sum up all branches; this is no command, and waits for no one"),
-    NOTES: Help(
+    "summary": _word(
+        "summary", "ask[s] a server for a few numbers that sum up all branches; this is no command, and waits for no one"
+    ),
+    NOTES: _word(
         f"{NOTES} on\n{NOTES} off",
-        "shows what other sessions of a server do, a line for each command except looks, as it does at first; or stops that",
-        "Notes come above the prompt. `notes` alone says whether they are on.",
+        "show[s] what other sessions of a server do, or stop[s] that",
+        "At first notes are on. They come above the prompt, one for each command that does more than look, and many in a row are one line. "
+        "`notes` alone says whether they are on.",
     ),
-    "mark": Help(
+    "mark": _word(
         "mark [NAME]",
-        "names the place where the branch in use stands, for `back to NAME`; without NAME lists the marks",
+        "name[s] the place where the branch in use stands, for `back to NAME`; without NAME, list[s] the marks",
         "Marks last as long as the dialogue; `save` does not write them.",
     ),
-    "use": Help("use BRANCH", "makes a branch the one that events and questions without a branch are about"),
-    "verify": Help("verify FILE..", "runs scripts by themselves, and reports where their lines `#>` and the replies differ"),
-    "annotate": Help(
+    "use": _word("use BRANCH", "make[s] a branch the one in use: events and questions without a branch are about it"),
+    "verify": _word("verify FILE..", "run[s] scripts by themselves, and report[s] where their lines `#>` and the replies differ"),
+    "annotate": _word(
         "annotate [--dry-run] FILE..",
-        "writes the replies into scripts, as lines `#>`",
+        "write[s] the replies into scripts, as lines `#>`",
         "A dry run (-n) shows what would change, as `diff -u` does, and writes nothing.",
     ),
-    "read": Help("read FILE", "takes the lines of a file as if they were typed"),
-    "save": Help(
+    "read": _word("read FILE", "take[s] the lines of a file as if they were typed"),
+    "save": _word(
         "save FILE",
-        "writes the setup and the commands of this session with their replies, as a script",
+        "write[s] the setup and the commands of this session with their replies, as a script",
         "Comments that were typed (`# ..`) stay in it, so a story can be typed as well; faulty lines are left out. Searches stay in it "
         "with their answers, and `verify` asks them anew. On a server it has the commands of all sessions, but no searches and no typed "
         "comments.",
     ),
-    "help": Help("help [WORD]", "lists all words, or explains one"),
-    "quit": Help("quit", "ends the shell, as the end of input does"),
+    "help": _word("help [WORD]", "list[s] all words, or explain[s] one"),
+    "quit": _word("quit", "end[s] the shell, as the end of input does"),
 }
 
 GROUPS = (
@@ -224,10 +279,10 @@ def about(word: str, columns: Optional[int] = None) -> List[str]:
     lines: List[str] = []
     for it in (WORDS[word], *(its for added, its in ADDED.items() if added.split()[0] == word)):
         lines += [part for form in it.form.split("\n") for part in _wrapped(form, columns, "", "    ")]
-        lines += _wrapped(it.what, columns, "  ", "  ")
         first, *parts = it.more.split("\n")
-        lines += _wrapped(first, columns, "  ", "  ")
-        lines += [line for part in parts for line in _wrapped(part, columns, "  ", "    ")]
+        lines += _wrapped(it.what, columns, "  ", "  ") + _wrapped(first, columns, "  ", "  ")
+        lines += [line for part in (*parts, *map(": ".join, it.parts)) for line in _wrapped(part, columns, "  ", "    ")]
+        lines += _wrapped(it.end, columns, "  ", "  ")
     return lines
 
 

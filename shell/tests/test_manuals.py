@@ -61,10 +61,8 @@ class Named(unittest.TestCase):
             self.item(section("pfl_lab", "COMMANDS"), word, forms)
         self.item(section("pfl_lab", "SESSIONS"), "view")
 
-    def test_each_word_of_the_shell(self) -> None:
+    def test_each_word_of_the_language_in_the_shells_page(self) -> None:
         text = section("pfl_shell", "WORDS")
-        for word, it in helps.SHELL.items():
-            self.item(text, word, len(it.form.split("\n")))
         for word in (*helps.SETUP, *helps.COMMANDS):
             self.assertRegex(text, rf"Ic .*\b{word}\b")
 

@@ -2,11 +2,13 @@
 from __future__ import annotations
 
 import os
+import subprocess
+import sys
 import unittest
 from contextlib import closing
 from glob import glob
 
-from .. import helps, scripts
+from .. import scripts
 from ..charts.picture import draw
 from ..main import drawn_from
 from ..language.lines import lines_of
@@ -23,7 +25,7 @@ def read(path: str) -> str:
 
 class Pages(unittest.TestCase):
     def test_dialogues_are_what_the_shell_says(self) -> None:
-        pages = ["docs/SHELL.md", "README.md"]
+        pages = ["docs/SHELL.md", "docs/TUTORIAL.md", "README.md"]
         found = [it for page in pages for it in dialogues(read(page))]
         self.assertTrue(found)
         for it in found:
@@ -45,11 +47,9 @@ class Pages(unittest.TestCase):
                 is_same = read(it) == page_of(run.as_data())
             self.assertTrue(is_same, f"{it}: ./lab page writes it otherwise")
 
-    def test_the_page_has_each_word_of_the_shell(self) -> None:
-        page = read("docs/SHELL.md")
-        for word, it in helps.SHELL.items():
-            for form in it.form.split("\n"):
-                self.assertIn(f"`{form}`", page, word)
+    def test_lists_of_the_shells_words_are_what_its_help_says(self) -> None:
+        ran = subprocess.run((sys.executable, f"{TOP}/docs/words.py", "--check"), capture_output=True, text=True, timeout=20)
+        self.assertEqual((ran.returncode, ran.stderr), (0, ""))
 
 
 if __name__ == "__main__":

@@ -1,12 +1,17 @@
 """The release that comes with the sources: when it is run, when it is refused, and that `./test` sees both."""
 from __future__ import annotations
 
+import re
 import shutil
 import subprocess
+import sys
 import unittest
+from pathlib import Path
 from typing import Tuple
 
+from installing.files import START
 from proving import releases
+from proving.crates import TOP
 
 from . import program
 from .trees import QUICK, SmallTree
@@ -130,6 +135,28 @@ class TheRelease(unittest.TestCase):
         else:
             self.assertEqual(releases.fault(), "")
             self.assertEqual(said(program(), "--version"), f"pfl_lab {release.version()}")
+
+    def test_it_needs_the_glibc_that_is_named(self) -> None:
+        """The loader refuses a program where one of the versions in its table is not there."""
+        versions = re.findall(rb"GLIBC_(\d+)\.(\d+)\0", releases.Release.read().content())
+        self.assertEqual(max((int(one), int(other)) for one, other in versions), releases.GLIBC)
+
+    def test_another_c_library_is_named_before_the_loader_fails(self) -> None:
+        self.assertEqual([releases.fault_of_glibc("glibc", it) for it in ("2.34", "2.36", "2.100", "3.0")], [""] * 4)
+        for library, version, here in (("glibc", "2.31", "glibc 2.31"), ("glibc", "2.9", "glibc 2.9"), ("", "", "another C library")):
+            said = releases.fault_of_glibc(library, version)
+            self.assertEqual(said, f"the release needs glibc 2.34 or later, as in Debian 12 and Ubuntu 22.04, and this system has {here}")
+
+
+class OlderPython(unittest.TestCase):
+    """What a Python says that is too old for the rest: one line, and not a traceback."""
+
+    def test_it_is_told_so(self) -> None:
+        for name, text in (("lab", Path(TOP, "lab").read_text()), ("pfl_shell", START)):
+            older = f"import sys; sys.version_info = (3, 7, 16)\n{text}"
+            ran = subprocess.run((sys.executable, "-c", older), capture_output=True, text=True, timeout=20)
+            self.assertEqual((ran.returncode, ran.stdout), (125, ""))
+            self.assertEqual(ran.stderr, f"{name}: this needs Python 3.8 or later, and this is Python 3.7\n")
 
 
 if __name__ == "__main__":

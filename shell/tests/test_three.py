@@ -1,4 +1,4 @@
-"""A dialogue of three people at one pair, two at shells and one at a page, as README prints it.
+"""A dialogue of three people at one pair, two at shells and one at a page, as docs/SHELL.md prints it.
 
 `python3 -m shell.tests.test_three` writes it anew, from the lines that are typed in it."""
 from __future__ import annotations
@@ -22,7 +22,7 @@ from ..language.events import EVENTS
 from ..pages.door import Door
 from ..pages.live import joined, live
 
-PATH = f"{TOP}/README.md"
+PATH = f"{TOP}/docs/SHELL.md"
 # The block of the dialogue, and what is before and after its lines.
 BLOCK = re.compile(r"(.*<!-- dialogue of three -->\n```text\n)(.*?)(```\n.*)", re.DOTALL)
 SETUP = ["rule a block any", "rule a pass out", "rule b block any", "rule b pass out", "open"]
