@@ -25,8 +25,8 @@ TOP = Path(__file__).resolve().parent.parent
 # What is checked; a file that is not there is left out.
 DOCUMENTS = (
     *("README.md", "CHANGELOG.md", "CONTRIBUTING.md", "docs/TUTORIAL.md", "docs/SHELL.md", "docs/PAGE.md", "docs/FIELD.md"),
-    *("docs/FORMATS.md", "docs/REAL.md", "docs/KERNEL.md", "docs/COLLECT.md", "examples/README.md", "shell/helps.py"),
-    *("shell/texts/help.txt", "shell/texts/run.txt", "shell/texts/check.txt", "shell/texts/serve.txt"),
+    *("docs/FIELD-DETAILS.md", "docs/FORMATS.md", "docs/REAL.md", "docs/KERNEL.md", "docs/COLLECT.md", "examples/README.md"),
+    *("shell/helps.py", "shell/texts/help.txt", "shell/texts/run.txt", "shell/texts/check.txt", "shell/texts/serve.txt"),
 )
 MOST = 35
 # Words and phrases that read like a translation, as regular expressions, each with what to write.

@@ -1,5 +1,5 @@
 """The messages of pfsync(4) version 5 as FreeBSD 13 lays them out: `sys/net/if_pfsync.h` and `sys/net/pfvar.h`, from memory. No machine
-with FreeBSD was at hand, so each field says how sure we are; docs/FIELD.md has this table."""
+with FreeBSD was at hand, so each field says how sure we are; docs/FIELD-DETAILS.md has this table."""
 from __future__ import annotations
 
 from dataclasses import dataclass

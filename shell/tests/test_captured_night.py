@@ -1,4 +1,4 @@
-"""The lesson made of captures: its files, its script, and what docs/FIELD.md shows of it."""
+"""The lesson made of captures: its files, its script, and what docs/FIELD.md and FIELD-DETAILS.md show of it."""
 from __future__ import annotations
 
 import io
@@ -31,9 +31,9 @@ class Said(NamedTuple):
     err: List[str]
 
 
-def shown(mark: str) -> List[str]:
-    """The block of docs/FIELD.md after a comment."""
-    text = Path(TOP, "docs/FIELD.md").read_text(encoding="utf-8")
+def shown(mark: str, page: str = "FIELD.md") -> List[str]:
+    """The block of a page after a comment."""
+    text = Path(TOP, "docs", page).read_text(encoding="utf-8")
     found = re.search(rf"<!-- {mark} -->\n```text\n(.*?)```\n", text, re.S)
     assert found, mark
     return found[1].splitlines()
@@ -73,10 +73,11 @@ class Captured(unittest.TestCase):
         for name, content in files().items():
             self.assertEqual((EXAMPLES / name).read_bytes(), content, name)
 
-    def test_the_report_is_that_of_the_page(self) -> None:
+    def test_the_report_is_that_of_the_pages(self) -> None:
+        """The findings are on the page for users, and the frames on the one with the details."""
         said = self.said("capture", *CAPTURES)
         self.assertEqual((said.status, said.err), (1, []))
-        self.assertEqual(said.out, shown("captured"))
+        self.assertEqual(said.out, [*shown("captured"), "", *shown("captured frames", "FIELD-DETAILS.md")])
 
     def test_the_script_is_the_lesson_and_its_head_that_of_the_page(self) -> None:
         script = self.script()

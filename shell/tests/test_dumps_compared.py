@@ -348,8 +348,8 @@ class Documents(DumpCase):
     """What the documents print is what comes."""
 
     def test_the_example_is_so(self) -> None:
-        page = read(f"{TOP}/docs/FIELD.md")
-        a, b, wanted = (page.partition(f"<!-- {it} -->\n```text\n")[2].partition("```")[0] for it in ("dump a", "dump b", "compared"))
+        pages = read(f"{TOP}/docs/FIELD.md") + read(f"{TOP}/docs/FIELD-DETAILS.md")
+        a, b, wanted = (pages.partition(f"<!-- {it} -->\n```text\n")[2].partition("```")[0] for it in ("dump a", "dump b", "compared"))
         said = self.run_with(self.file("fw1.txt", a), self.file("fw2.txt", b))
         self.assertEqual((said.status, said.out, said.err), (1, wanted.splitlines(), []))
 

@@ -26,8 +26,8 @@ SCRIPT = "PAIR.pfl"
 
 
 def field_dumps() -> Tuple[str, str]:
-    """The dumps of docs/FIELD.md."""
-    page = read(f"{TOP}/docs/FIELD.md")
+    """The dumps of docs/FIELD-DETAILS.md."""
+    page = read(f"{TOP}/docs/FIELD-DETAILS.md")
     a, b = (page.split(f"<!-- dump {node} -->\n```text\n")[1].partition("```")[0] for node in "ab")
     return a, b
 
@@ -83,7 +83,7 @@ class OpeningCase(DumpCase):
 
 
 class OfThePage(OpeningCase):
-    """The dumps of docs/FIELD.md."""
+    """The dumps of docs/FIELD-DETAILS.md."""
 
     def setUp(self) -> None:
         super().setUp()
@@ -124,9 +124,9 @@ class OfThePage(OpeningCase):
         ]
         self.assertEqual(self.asked("diff"), wanted)
 
-    def test_the_page_shows_what_comes(self) -> None:
-        page = read(f"{TOP}/docs/FIELD.md")
-        blocks = (page.partition(f"<!-- {it} -->\n```text\n")[2].partition("```")[0] for it in ("pair said", "pair diff"))
+    def test_the_pages_show_what_comes(self) -> None:
+        pages = read(f"{TOP}/docs/FIELD.md") + read(f"{TOP}/docs/FIELD-DETAILS.md")
+        blocks = (pages.partition(f"<!-- {it} -->\n```text\n")[2].partition("```")[0] for it in ("pair said", "pair diff"))
         said, diff = (it.splitlines() for it in blocks)
         self.assertEqual([it.replace("fw1.txt", "a").replace("fw2.txt", "b") for it in said], self.said.err)
         self.assertEqual(diff, self.asked("diff"))

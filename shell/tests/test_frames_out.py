@@ -389,7 +389,7 @@ class Layouts(unittest.TestCase):
         self.assertEqual(found, {name: [(f.name, str(f.size), str(f.sure)) for f in part.fields] for name, part in its.items()})
 
     def test_the_manual(self) -> None:
-        with open(f"{TOP}/docs/FIELD.md", encoding="utf-8") as it:
+        with open(f"{TOP}/docs/FIELD-DETAILS.md", encoding="utf-8") as it:
             text = it.read().partition("<!-- layout -->\n")[2]
         rows = []
         for part in PARTS:

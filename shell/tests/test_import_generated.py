@@ -82,11 +82,11 @@ class Generated(unittest.TestCase):
         self.assertEqual((len(paths), sum(rules.values())), (FILES, RULES))
         self.assertGreaterEqual(rules["exact"], EXACT)
         # The numbers are those of the page.
-        with open(f"{TOP}/docs/FIELD.md", encoding="utf-8") as it:
+        with open(f"{TOP}/docs/FIELD-DETAILS.md", encoding="utf-8") as it:
             page = it.read()
         for kind in ("rule", "translation"):
             said = ", ".join(f"{sums[kind][it]} {it}" for it in VERDICTS)
-            self.assertTrue(said in page, f"docs/FIELD.md does not say {said}")
+            self.assertTrue(said in page, f"docs/FIELD-DETAILS.md does not say {said}")
 
 
 if __name__ == "__main__":

@@ -1,16 +1,17 @@
-"""What docs/FIELD.md shows of an import is what it makes."""
+"""What docs/FIELD.md and FIELD-DETAILS.md show of an import is what it makes."""
 from __future__ import annotations
 
 import unittest
 
+from ..scripts import read
 from . import TOP, reasons
 from .imports import taken_in
 
 
 def block(mark: str) -> str:
-    """A block that the page shows, by its mark."""
-    with open(f"{TOP}/docs/FIELD.md", encoding="utf-8") as it:
-        return it.read().partition(f"<!-- import {mark} -->\n```text\n")[2].partition("```")[0]
+    """A block that one of the pages shows, by its mark."""
+    pages = read(f"{TOP}/docs/FIELD.md") + read(f"{TOP}/docs/FIELD-DETAILS.md")
+    return pages.partition(f"<!-- import {mark} -->\n```text\n")[2].partition("```")[0]
 
 
 class Page(unittest.TestCase):
