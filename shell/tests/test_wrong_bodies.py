@@ -79,5 +79,49 @@ class Fit(unittest.TestCase):
                     self.assertTrue(any(seen.has_line(*it) for it in changed(folder, texts)), "no caller sees what it edits")
 
 
+OUTPUT = """
+fn pfl_low::sums::plus: proved
+note: src/sums.rt:3:5: it is not proved that what the function ensures holds when it returns (`returns`)
+fn pfl_low::sums::Sum::least: no proof: expected answers in ./proofs/sums/Sum/least/Answers.antt; `search` did not prove `returns`
+fn pfl_low::sums::Sum::most: no proof: it calls `pfl_low::sums::Sum::least`, which is not proved
+note: `returns` of proofs/sums/Sum/least/Answers.antt must prove: 1 ≡ 2
+logic=not-proved
+"""
+
+
+class Together(unittest.TestCase):
+    """Which bodies one check tries, and what it says of each."""
+
+    def setUp(self) -> None:
+        self.tool = runpy.run_path(f"{TOP}/wrong-bodies")
+
+    def test_a_function_has_the_checkers_name(self) -> None:
+        lines = ["impl<A: Allocator> Table<A> {", "    pub fn least(&self) -> u32 {", "        0", "    }", "}"]
+        lines += ["impl Display for Table<Global> {", "    fn fmt(&self) -> u32 {", "        0", "    }", "}"]
+        lines += ["pub fn plus(a: u32) -> u32 {", "    a", "}", "const MOST: u32 = 1;"]
+        of = self.tool["function_at"]
+        self.assertEqual([of("src/a/b.rt", lines, at) for at in (2, 7, 11)], ["a::b::Table::least", "a::b::TableDisplay::fmt", "a::b::plus"])
+        self.assertEqual(of("src/lib.rt", lines, 11), "plus")
+        self.assertIsNone(of("src/lib.rt", ["const MOST: u32 = 1;"], 0))
+
+    def test_a_check_has_one_body_of_a_function(self) -> None:
+        """All bodies of a crate are tried, each function's in different checks, and what is left over alone."""
+        for crate in ("pfl_base", "pfl_desk"):
+            bodies = self.tool["bodies_of"](crate)
+            checks, alone = self.tool["together"](bodies, f"{TOP}/crates/{crate}")
+            tried = [body for it in checks for body in it.functions]
+            self.assertEqual(sorted((*tried, *alone)), sorted(bodies))
+            for it in checks:
+                self.assertEqual(len(set(it.functions.values())), len(it.functions))
+                self.assertTrue(2 <= len(it.functions) <= self.tool["MOST_TOGETHER"])
+
+    def test_only_what_a_function_says_itself_refuses_its_body(self) -> None:
+        of = self.tool["refused"]
+        lines = OUTPUT.split("\n")
+        self.assertEqual(of(lines, "pfl_low", "sums::Sum::least"), "pfl_low::sums::Sum::least: `returns` must prove: 1 ≡ 2")
+        self.assertIsNone(of(lines, "pfl_low", "sums::Sum::most"))
+        self.assertIsNone(of(lines, "pfl_low", "sums::plus"))
+
+
 if __name__ == "__main__":
     unittest.main()
