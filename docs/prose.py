@@ -1,5 +1,6 @@
 #!/usr/bin/env python3
-"""Checks the prose of the documents for users and of the help: reports long sentences, and words that give a translation away.
+"""Checks the prose of the documents for users, of the help and of the language's messages: reports long sentences, and words that give a
+translation away.
 
     docs/prose.py            checks the files below
     docs/prose.py FILE..     checks these files
@@ -26,7 +27,8 @@ TOP = Path(__file__).resolve().parent.parent
 DOCUMENTS = (
     *("README.md", "CHANGELOG.md", "CONTRIBUTING.md", "docs/TUTORIAL.md", "docs/SHELL.md", "docs/PAGE.md", "docs/FIELD.md"),
     *("docs/FIELD-DETAILS.md", "docs/FORMATS.md", "docs/REAL.md", "docs/KERNEL.md", "docs/COLLECT.md", "examples/README.md"),
-    *("shell/helps.py", "shell/texts/help.txt", "shell/texts/run.txt", "shell/texts/check.txt", "shell/texts/serve.txt"),
+    *("shell/texts/help.txt", "shell/texts/run.txt", "shell/texts/check.txt", "shell/texts/serve.txt", "shell/arguments.py"),
+    *("shell/helps.py", *(f"shell/language/{it.name}" for it in sorted((TOP / "shell/language").glob("*.py")))),
 )
 MOST = 35
 # Words and phrases that read like a translation, as regular expressions, each with what to write.

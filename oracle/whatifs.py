@@ -75,7 +75,7 @@ def faulty(events: Sequence[str], name: str) -> List[Step]:
     """The events of the run with a fault."""
     own: List[List[Step]] = [[], *([(at, line.split())] for at, line in enumerate(events, 1))]
     last = own[-1]
-    found = re.fullmatch(r"(?:(a|b) restarts|the clock of (a|b) 61 s on) before event (\d+)", name)
+    found = re.fullmatch(r"(?:(a|b) restarts|the clock of (a|b) advances by 61 s) before event (\d+)", name)
     if found:
         own[int(found[3])].insert(0, (0, ["restart", found[1]] if found[1] else ["tick", found[2], "61000"]))
         return [it for steps in own for it in steps]

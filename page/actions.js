@@ -45,7 +45,7 @@ export class Actions {
     const nodes = choiceField("nodes", [["ab", "both nodes"], ["a", "node a"], ["b", "node b"]], "ab");
     const fields = make("div", { class: "fields" }, labelled("milliseconds", time), labelled("at", nodes));
     const submit = make("button", { type: "submit" }, "Tick");
-    const form = make("form", { class: "tick-form", role: "group", "aria-label": "Time goes on" }, fields, submit);
+    const form = make("form", { class: "tick-form", role: "group", "aria-label": "Advance the clock" }, fields, submit);
     form.addEventListener("submit", async (event) => {
       event.preventDefault();
       for (const node of nodes.value) {

@@ -119,7 +119,7 @@ export class Live {
   /** The laboratory has ended. */
   end(why) {
     this.hasEnded = true;
-    this.showBanner(`The laboratory has ended: ${why}. What happened can still be looked at.`);
+    this.showBanner(`The laboratory has ended: ${why}. You can still look at what happened.`);
     this.show(false);
   }
 

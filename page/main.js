@@ -18,7 +18,7 @@ const CONTROLS_ROOM = 6;
 const MOST_TOP = 0.4;
 
 /** What is said of the rules that the pair goes by. */
-const RULES = "Whose rules the pair goes by. An event has the mark k if it comes to something else by other ones.";
+const RULES = "Whose rules apply to the pair. An event has the mark k if other rules give it a different outcome.";
 
 /** In windows as narrow as this only the controls stay in sight, and what is above them scrolls away. */
 const NARROW = matchMedia("(max-width: 42em)");

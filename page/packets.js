@@ -79,7 +79,7 @@ export class PacketForm {
     this.line = make("code", { class: "preview" });
     this.ends = make("div", { class: "fields" }, ...endFields());
     this.rest = make("div", { class: "fields" });
-    const title = "The ends change places, and it goes the other way";
+    const title = "Swap the ends and the direction";
     const answer = makeButton(`Answer at ${node}`, { title }, () => this.fill(answered(this.read())));
     const submit = make("button", { type: "submit", class: "main-button" }, `Send packet to ${node}`);
     const buttons = make("div", { class: "buttons" }, submit, answer);

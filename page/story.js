@@ -67,7 +67,7 @@ export class Story {
     const parted = others.filter((it) => partingOf(it, branch) === place);
     return [
       ...begun.map((it) => this.way(it, `Branch ${it.name} begins here`)),
-      ...parted.map((it) => this.way(it, `${it.former ? "The earlier run" : "Branch"} ${it.name} goes on differently`)),
+      ...parted.map((it) => this.way(it, `${it.former ? "The earlier run" : "Branch"} ${it.name} continues differently`)),
     ];
   }
 

@@ -101,8 +101,8 @@ def parser(name: str = "./lab") -> argparse.ArgumentParser:
     _shell(
         kinds.add_parser(
             "shell",
-            help="a dialogue with the laboratory",
-            description="A dialogue with the laboratory; `help` in it lists its words.",
+            help="opens a dialogue with the laboratory",
+            description="Opens a dialogue with the laboratory; `help` in it lists its words.",
         )
     )
     _scripts(kinds.add_parser("verify", help="compares the replies with the lines `#>` of scripts"))
@@ -113,8 +113,8 @@ def parser(name: str = "./lab") -> argparse.ArgumentParser:
             "page",
             help="shows what happens in a script as a page for a browser",
             usage=f"{name} page SCRIPT OUT.html\n       {name} page --serve PORT [SCRIPT | --port P [--setup FILE]]",
-            description="Writes what happens in a script as a page, which is one file and needs nothing else; or serves a page that"
-            " shows a pair as it goes on, and steps it, to browsers on this machine.",
+            description="Writes what happens in a script as a page: one file that needs nothing else. With --serve, it serves a page to"
+            " browsers on this machine, which shows a pair as it changes, and steps it.",
         )
     )
     _further(kinds.add_parser, name)
@@ -134,9 +134,9 @@ def _further(add: Callable[..., argparse.ArgumentParser], name: str) -> None:
     _depends(
         add(
             "depends",
-            help="says which replies of scripts depend on the rules of the profile or of the kernel",
-            description="Plays scripts again with each word of `kernel` and with all of them, and says which replies change, the first of"
-            " them with its reason. Status: 0 if none does, 1 if one does, 2 if a script could not be played.",
+            help="shows which replies of scripts depend on the choice of rules, the profile's or the kernel's",
+            description="Plays scripts again with each word of `kernel` and with all of them. It shows which replies change, the first of"
+            " them with its reason. Status: 0 if none changes, 1 if any does, 2 if a script could not be played.",
         )
     )
     _compare(
@@ -144,9 +144,9 @@ def _further(add: Callable[..., argparse.ArgumentParser], name: str) -> None:
             "compare",
             help="compares the state tables of two firewalls, as pfctl printed them",
             usage=f"{name} compare A B [--stats A B] [--apart S] [--all] [--out PAIR.pfl [--rules SETUP.pfl] [--flow ADDRESS[:PORT]]]",
-            description="Compares two files with the output of `pfctl -ss -vv` at the two firewalls of a pair: which states only one"
-            " has, and which differ, field by field. Status: 0 if they agree, 1 if they differ, 2 if a file could not be read, or the"
-            " script not be written.",
+            description="Compares two files with the output of `pfctl -ss -vv`, one from each firewall of a pair. It shows the states that"
+            " only one has, and those that differ, field by field. Status: 0 if they agree, 1 if they differ, 2 if a file could not be"
+            " read or the script could not be written.",
             allow_abbrev=False,
         )
     )
@@ -161,21 +161,22 @@ def _further(add: Callable[..., argparse.ArgumentParser], name: str) -> None:
     _capture(
         add(
             "capture",
-            help="reads captures of the sync interface: what the nodes of a pair sent one another, and what calls for a look",
+            help="reads captures of the sync interface: what the nodes of a pair sent each other, and what needs attention",
             usage=f"{name} capture A [B] [--a ADDRESS] [--flow ADDRESS[:PORT]] [--from TIME] [--to TIME] [--states] [--all]"
             " [--script NIGHT.pfl [--rules PAIR.pfl] [--log-a PFLOG] [--log-b PFLOG] [--data-a PCAP] [--data-b PCAP]]",
-            description="Reads captures of the sync interface of a pair, pcap or pcapng of `tcpdump -s 0 -w FILE ip proto 240`, of one node"
-            " or of both: frames that are not in the other capture, requests, bulk updates and the like, and a timeline. Status: 0 if"
-            " nothing is found, 1 if something is, 2 if a file could not be read to its end, or the script not be written.",
+            description="Reads captures of a pair's sync interface, of one node or of both: pcap or pcapng files, as `tcpdump -s 0 -w FILE ip"
+            " proto 240` writes them. It shows frames that are not in the other capture, requests, bulk updates and the like, and a"
+            " timeline. Status: 0 if nothing is found, 1 if something is, 2 if a file could not be read to its end or the script could"
+            " not be written.",
             allow_abbrev=False,
         )
     )
     _import(
         add(
             "import",
-            help="takes in the rules of an interface from a pf.conf",
+            help="imports the rules of an interface from a pf.conf",
             description="Writes the rules that a pf.conf(5) has for one interface as a setup of the laboratory, and reports on standard"
-            " error what is approximated or out.",
+            " error what is approximated or left out.",
         )
     )
 
@@ -208,7 +209,7 @@ def _annotate(words: argparse.ArgumentParser) -> None:
 def _chart(words: argparse.ArgumentParser) -> None:
     words.add_argument("file", metavar="FILE")
     words.add_argument(
-        "picture", nargs="?", type=picture, metavar="FILE.svg", help="the picture's file; without it the chart comes as text"
+        "picture", nargs="?", type=picture, metavar="FILE.svg", help="the picture's file; without it the chart is printed as text"
     )
     words.add_argument("--branch", default="main", metavar="BRANCH", help="draws this branch instead of `main`")
     words.add_argument("--from", dest="first", type=event, default=1, metavar="K", help="draws from the K-th event on")
@@ -218,7 +219,7 @@ def _chart(words: argparse.ArgumentParser) -> None:
 
 
 def _page(words: argparse.ArgumentParser) -> None:
-    words.add_argument("script", nargs="?", metavar="SCRIPT", help="the script; a served page goes on after it")
+    words.add_argument("script", nargs="?", metavar="SCRIPT", help="the script; a served page continues after it")
     words.add_argument("page", nargs="?", type=page_name, metavar="OUT.html", help="the page's file")
     words.add_argument(
         "--serve", type=port, metavar="PORT", help="serves the page at this port of 127.0.0.1, and prints its addresses"
@@ -254,7 +255,7 @@ def _compare(words: argparse.ArgumentParser) -> None:
         "--apart",
         type=tolerance,
         metavar="S",
-        help="how many seconds ages and expiry times may differ; without it ages are not compared, and expiry times may differ by"
+        help="by how many seconds ages and expiry times may differ; without it ages are not compared, and expiry times may differ by"
         f" {Tolerance().seconds} seconds",
     )
     words.add_argument("--all", action="store_true", help="lists every state, not only the first of those that have something in common")
@@ -269,7 +270,7 @@ def tolerance(word: str) -> int:
 
 def _import(words: argparse.ArgumentParser) -> None:
     words.add_argument("conf", metavar="PF.CONF", help="the file")
-    words.add_argument("--on", required=True, type=interface, metavar="IF", help="the interface whose rules are taken in")
+    words.add_argument("--on", required=True, type=interface, metavar="IF", help="the interface whose rules are imported")
     words.add_argument(
         "--address",
         action="append",
@@ -285,8 +286,8 @@ def _import(words: argparse.ArgumentParser) -> None:
     )
     words.add_argument("--group", action="append", type=group, metavar="GROUP=IF", help="IF is in this group, such as egress=em0")
     words.add_argument("--node", default="both", choices=("a", "b", "both"), help="the node that gets the rules; the default is both")
-    words.add_argument("--rc", metavar="FILE", help="an rc.conf(5), from which `maxupd` and `defer` of pfsync0 are taken in")
-    words.add_argument("--strict", action="store_true", help="writes nothing if a statement is out, with status 4")
+    words.add_argument("--rc", metavar="FILE", help="takes `maxupd` and `defer` of pfsync0 from this rc.conf(5)")
+    words.add_argument("--strict", action="store_true", help="writes nothing if a statement is left out, and exits with status 4")
     words.add_argument("-o", "--output", metavar="FILE", help="the setup's file; without it the setup goes to standard output")
     words.add_argument("--unopened", action="store_true", help="leaves out the last line, `open`, so that more of the setup can follow")
 
@@ -373,7 +374,7 @@ def page_fault(words: Words) -> str:
     if not words.serve:
         return "a page needs SCRIPT and OUT.html, or --serve PORT" if not words.page or words.port or words.setup else ""
     if words.page:
-        return "a page that is served is not written"
+        return "--serve serves a page and writes none: leave out OUT.html"
     if words.port and words.script:
-        return "--port joins a server that has its pair, and goes without a script"
-    return "--setup is what a server read, and goes with --port" if words.setup and not words.port else ""
+        return "--port joins a server, which has its own pair, and takes no script"
+    return "--setup is what a server read, and needs --port" if words.setup and not words.port else ""

@@ -15,7 +15,7 @@ def changes(lab: Laboratory, branch: Branch, number: int, paint: Paint) -> List[
     before, after = (lab.with_contents(lab.past(branch.name, place), branch) for place in (number - 1, number))
     lines = [paint.head(f"event {number}: {it.line}: {it.came}")]
     if number > branch.cursor:
-        lines.append(paint.dim("  it was undone: this is what it changed while it stood"))
+        lines.append(paint.dim("  it was undone: this is what it changed before that"))
     found = differences(before, after)
     if not found:
         return [*lines, "  it changed nothing"]

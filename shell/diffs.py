@@ -198,7 +198,7 @@ def _where_they_part(one: Branch, two: Branch) -> List[str]:
     for number, (first, second) in enumerate(events, 1):
         if first != second:
             none = "no more events"
-            parting = f"their events part at number {number}:"
+            parting = f"their events diverge at number {number}:"
             return [parting, f"  {one.name}: {first or none}", f"  {two.name}: {second or none}"]
     return [f"their events are the same: {counted(len(events), 'event')}"]
 

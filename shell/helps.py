@@ -99,8 +99,8 @@ COMMANDS = {word: _of_line(it) for word, it in commands.TYPED.items()}
 ADDED = {
     "back to": _word(
         "back [BRANCH] to K\nback [BRANCH] to MARK",
-        "go[es] to where the first K events stand, or to a mark, by `back` or `forward`",
-        "Without BRANCH it is the branch in use, or the one where the mark was set. A mark can be found in another branch with the same "
+        "move[s] the cursor to the place after the first K events, or to a mark, by `back` or `forward`",
+        "Without BRANCH it takes the branch in use, or the one where the mark was set. A mark can be found in another branch with the same "
         "events. If a branch is called `to`, the two forms without BRANCH are about that branch.",
     ),
     "fork here": _word("fork here NEW", "make[s] a branch NEW of the events before the cursor of the branch in use"),
@@ -110,8 +110,8 @@ EVENTS = {word: _of_event(it) for word, it in events.EVENTS.items()}
 SEARCH_PARTS = (
     (
         "drops packet ..",
-        "the packet would be dropped, for any reason of pf's. One that is held is not dropped, and one that is refused neither is dropped nor "
-        "passes.",
+        "the packet would be dropped, for any reason of pf's. A packet that is held is not dropped. One that is refused is neither dropped "
+        "nor passes.",
     ),
     ("passes packet ..", "the packet would pass, or be held."),
     ("splits packet ..", "the packet would be dropped at its node, and pass or be held at the other: what a failover harms."),
@@ -123,12 +123,12 @@ SEARCH_PARTS = (
     (APART, "one node has a state whose name the other does not have. Nothing else of the states is compared."),
     (
         "quiet",
-        "ask only when nothing is in flight or pending, and neither node serves a bulk update; so by default, unless a node dies. A node may "
+        "ask only when nothing is in flight or pending, and neither node serves a bulk update; the default, unless a node dies. A node may "
         "wait for a bulk update that was lost.",
     ),
     ("settled", "ask as with `quiet`, and only when neither node waits for a bulk update."),
     ("landed", "ask only when no frame is in flight."),
-    ("anywhere", "ask where the branch stands and after each event; so by default if a node dies."),
+    ("anywhere", "ask at the cursor of the branch and after each event; the default if a node dies."),
     ("within N", "a run has at most N events, up to 64; by default 8."),
     ("deliver N", "frames are delivered, at most N times in all; by default as often as there are events."),
     ("flush NODE N", "the node flushes, at most N times; by default each does as often as there are events."),
@@ -142,13 +142,13 @@ SEARCH_PARTS = (
     ),
     (
         "then",
-        "the next phase begins: once an event of a later phase came, none of an earlier one happens. Deliveries and flushes are of each phase, "
-        "as often as in the one before it unless it says otherwise. Everything else is only of the phase in which it is said.",
+        "the next phase begins: once an event of a later phase has happened, none of an earlier one does. Each phase has deliveries and "
+        "flushes, as many as the one before it unless it says otherwise. Everything else belongs only to the phase that names it.",
     ),
     (
         "dies NODE",
-        "the next phase begins, in which and after which the node does nothing more: what waits in it is never sent. A run need not use this phase, "
-        "since a node may do nothing more before it as well: `lose 1, dies a` is one lost frame in all.",
+        "the next phase begins: from then on the node does nothing more, and never sends what waits in it. A run need not use this phase, since a "
+        "node may do nothing more before it as well: `lose 1, dies a` is one lost frame in all.",
     ),
     ("at most RUNS", "give up if a depth needs more runs than this; by default 1,000,000."),
 )
@@ -157,7 +157,7 @@ SHELL: Dict[str, Help] = {
     VIEW: _word(
         "view [BRANCH] [K]\nview [BRANCH] [K] NODE\nview [BRANCH] [K] NAME",
         "show[s] the pair, one node, or a state at both nodes in the words of pfctl: states, counters, queues, held packets, frames",
-        "With K the pair is as it was after the first K events, even events after the cursor. The branch stays as it is.",
+        "With K it shows the pair as it was after the first K events, even events after the cursor. The branch stays as it is.",
     ),
     "diff": _word(
         "diff [BRANCH]\ndiff BRANCH BRANCH",
@@ -169,8 +169,8 @@ SHELL: Dict[str, Help] = {
     ),
     "why": _word(
         "why [[BRANCH] K]\nwhy [BRANCH] EVENT",
-        "explain[s] the last reply, the outcome of the K-th event, or what would come of an event",
-        "Such an event does not happen: the branch stays as it is.",
+        "explain[s] the last reply, the outcome of the K-th event, or what an event would do",
+        "An event that is only asked about does not happen: the branch stays as it is.",
     ),
     "frame": _word(
         "frame [BRANCH] TICKET",
@@ -185,14 +185,14 @@ SHELL: Dict[str, Help] = {
     SEARCH: _word(
         "\n".join((*FOR_PEOPLE, f"{SEARCH} BRANCH DEPTH RUNS GOAL [; CHOICE]..")),
         "find[s] a shortest run of events that leads to what you seek, or report[s] that there is none, which is proved",
-        "The run begins where the branch in use stands, and nothing changes. The first part says what is sought, and further parts follow "
+        "The run begins at the cursor of the branch in use, and nothing changes. The first part says what is sought, and further parts follow "
         "after commas:",
         SEARCH_PARTS,
         "Runs without events are searched first, then those of one event, and so on. If there is none, the answer has the number of runs that "
         "were tried, and of those that end where the question is asked. If the second is 0, it says nothing about the packet or the states. "
-        "An interrupt (Ctrl-C) ends the search, which reports up to which depth there is none. The program's line that was answered last is "
-        "shown, and `save` writes it with its answer. The last form is such a line: pfl_lab(1) has its parts. `take` steps what was found. A "
-        "search on a server needs one that reports its setup.",
+        "An interrupt (Ctrl-C) ends the search, which reports up to which depth there is none. It shows the program's line that was "
+        "answered last, and `save` writes that line with its answer. The last form is such a line: pfl_lab(1) has its parts. `take` steps what "
+        "was found. On a server it works only if the server reports its setup.",
     ),
     "take": _word(
         "take [NAME]",
@@ -208,18 +208,18 @@ SHELL: Dict[str, Help] = {
     WHATIF: _word(
         f"{WHATIF} [BRANCH] {' '.join(f'[{it}]' for it in WHATIF_OPTIONS)}",
         "play[s] the events before the cursor again with each single fault, and group[s] the faults by what they change",
-        "Each fault is tried in a run of its own, in which at the end what is pending is sent and delivered, as by `quiet`; nothing changes "
-        "here. The groups that change most come first, each with the reason in its first fault. An interrupt (Ctrl-C) ends it, and what was "
-        "found is shown.",
+        "Each fault is tried in a run of its own, at whose end all that is pending is sent and delivered, as by `quiet`. Nothing changes here. "
+        "The groups that change most come first, each with the reason in its first fault. An interrupt (Ctrl-C) ends it, and it shows what it "
+        "has found.",
         WHATIF_PARTS,
     ),
     DEPENDS: _word(
         f"{DEPENDS} [BRANCH] [--all-replies]",
-        "report[s] which outcomes of a branch's events depend on whose rules they go by, the profile's or the kernel's",
+        "report[s] which outcomes of a branch's events depend on the choice of rules, the profile's or the kernel's",
         "The events before the cursor are played again with each word of `kernel` and with all of them. If the setup has such a line, each "
-        "word is added or taken away. For each word the first outcome that changes is shown with its reason, and what the end has "
-        "otherwise; then what several words do only together. Nothing changes here. The command `depends` does the same for scripts, with "
-        "all of their replies, searches too.",
+        "word is added or removed. For each word it shows the first outcome that changes, with its reason, and how the end differs; then "
+        "what several words do only together. Nothing changes here. The command `depends` does the same for scripts, with all of their "
+        "replies, searches too.",
         (("--all-replies", "shows each reply that changes."),),
     ),
     "summary": _word(
@@ -228,27 +228,27 @@ SHELL: Dict[str, Help] = {
     NOTES: _word(
         f"{NOTES} on\n{NOTES} off",
         "show[s] what other sessions of a server do, or stop[s] that",
-        "At first notes are on. They come above the prompt, one for each command that does more than look, and many in a row are one line. "
+        "Notes are on at first. They appear above the prompt, one for each command except those that only look; many in a row are one line. "
         "`notes` alone says whether they are on.",
     ),
     "mark": _word(
         "mark [NAME]",
-        "name[s] the place where the branch in use stands, for `back to NAME`; without NAME, list[s] the marks",
+        "name[s] the cursor's place in the branch in use, for `back to NAME`; without NAME, list[s] the marks",
         "Marks last as long as the dialogue; `save` does not write them.",
     ),
-    "use": _word("use BRANCH", "make[s] a branch the one in use: events and questions without a branch are about it"),
+    "use": _word("use BRANCH", "choose[s] the branch in use: events and questions without a branch are about it"),
     "verify": _word("verify FILE..", "run[s] scripts by themselves, and report[s] where their lines `#>` and the replies differ"),
     "annotate": _word(
         "annotate [--dry-run] FILE..",
         "write[s] the replies into scripts, as lines `#>`",
         "A dry run (-n) shows what would change, as `diff -u` does, and writes nothing.",
     ),
-    "read": _word("read FILE", "take[s] the lines of a file as if they were typed"),
+    "read": _word("read FILE", "read[s] the lines of a file as if they were typed"),
     "save": _word(
         "save FILE",
         "write[s] the setup and the commands of this session with their replies, as a script",
-        "Comments that were typed (`# ..`) stay in it, so a story can be typed as well; faulty lines are left out. Searches stay in it "
-        "with their answers, and `verify` asks them anew. On a server it has the commands of all sessions, but no searches and no typed "
+        "It keeps comments that were typed (`# ..`), so a story can be typed as well; faulty lines are left out. It keeps searches with "
+        "their answers, and `verify` asks them again. On a server it has the commands of all sessions, but no searches and no typed "
         "comments.",
     ),
     "help": _word("help [WORD]", "list[s] all words, or explain[s] one"),

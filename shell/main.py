@@ -60,9 +60,9 @@ def main(arguments: Sequence[str], name: str = "./lab") -> int:
     if not words.word and not words.version:
         kinds.error(f"a word is missing: {one_of(WORDS)}")
     if words.word == "shell" and words.setup and not words.port:
-        kinds.error("--setup says what a server read, and goes with --port; a pair of your own has its setup from lines")
+        kinds.error("--setup says what a server read, and needs --port; a pair of your own gets its setup from lines")
     if words.word == "compare" and not words.out and (words.rules or words.of_flow):
-        kinds.error("--rules and --flow say what the script of --out has, and go with it")
+        kinds.error("--rules and --flow say what the script of --out has, and need --out")
     if words.word == "capture" and script_fault(words):
         kinds.error(script_fault(words))
     if words.word == "page" and page_fault(words):

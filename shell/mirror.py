@@ -133,7 +133,7 @@ class Shared(Session):
         if self._mirror:
             self._mirror.kill()
             self._mirror = None
-            self.say(f"the mirror of the server's pair is no longer used, and the server answers looks: {why}")
+            self.say(f"the mirror of the server's pair is no longer used, and the server answers questions: {why}")
 
     # ---- lines
 
@@ -227,10 +227,10 @@ def joined(client: Client, program: str, given: Optional[Setup]) -> Joined:
         return Joined(client, given)
     if last == TOO_LONG:
         rest = "the setup is that of --setup" if given else "what needs the setup needs --setup FILE, the file that it read"
-        return Joined(client, given, f"the server's setup is too long for it to send; the server answers looks, and {rest}")
+        return Joined(client, given, f"the server's setup is too long for it to send; the server answers questions, and {rest}")
     fault = check_setup(program, lines)
     if fault:
-        return Joined(client, given, f"the program here does not take the server's setup: {fault.words}; the server answers looks")
+        return Joined(client, given, f"the program here does not take the server's setup: {fault.words}; the server answers questions")
     setup = Setup.of(lines)
     said = "" if given is None or _is_same(setup, given) else "the server's setup differs from the file of --setup, and is used"
     return Joined(Shared(client, program, lines), setup, said)

@@ -52,7 +52,7 @@ class Mismatch:
     came: str
 
     def __str__(self) -> str:
-        return f"{self.line}: {self.what}\n  wanted: {self.wanted or 'nothing'}\n  came:   {self.came or 'nothing'}"
+        return f"{self.line}: {self.what}\n  expected: {self.wanted or 'nothing'}\n  got:      {self.came or 'nothing'}"
 
 
 @dataclass

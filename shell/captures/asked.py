@@ -65,7 +65,7 @@ class CaptureOptions(argparse.Namespace):
 
 def add_options(words: argparse.ArgumentParser) -> None:
     """The captures and the options."""
-    files = "a capture of the sync interface at node a, and one at node b; one alone is of a"
+    files = "a capture of the sync interface at node a, and one at node b; a single capture is that of a"
     words.add_argument("captures", nargs="+", metavar="FILE", help=files)
     words.add_argument("--a", dest="address_of_a", type=_address, metavar="ADDRESS", help="the address of node a on the sync interface")
     words.add_argument(

@@ -176,7 +176,7 @@ class Overlay:
 def _refuse_the_same(files: Sequence[str], paths: Sequence[str]) -> None:
     """Refuses one capture that is given twice, as one file or as two of the same bytes."""
     if len(files) == 2 and (os.path.samefile(files[0], files[1]) or filecmp.cmp(files[0], files[1], shallow=False)):
-        raise BadCapture(f"{paths[0]} and {paths[1]} are one capture: one of node a and one of node b are compared")
+        raise BadCapture(f"{paths[0]} and {paths[1]} are the same capture: one of node a and one of node b are compared")
 
 
 class _Entry:

@@ -47,7 +47,7 @@ def _verdict(story: Story, timeline: Timeline, how: Shown) -> str:
     findings = story.findings
     said = [_counted(kind, part) for kind, part in findings.parts.items() if part.count]
     if not timeline.number:
-        none = how.paint.bad(f"no frame of {_frames(story):,} has what is asked for")
+        none = how.paint.bad(f"none of {counted(_frames(story), 'frame')} has what is asked for")
         return none + (f"; of all flows: {', '.join(said)}" if said else "")
     if not said:
         return how.paint.good(f"nothing found{where}") + f" in {counted(_frames(story), 'frame')}"

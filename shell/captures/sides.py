@@ -14,7 +14,7 @@ _TOO_NEAR = 2000
 # A median is clear beyond so many standard errors. Of what one capture alone has, as many to one, or two and none against, are.
 _ERRORS, _TO_ONE, _LEAST_ALONE = 4, 4, 2
 _SAID = "as --a says"
-_UNSAID = "a guess, since one capture does not show whose it is, and is taken as that of a; --a ADDRESS says it"
+_UNSAID = "a guess, since one capture does not show whose it is, and is taken as that of a; --a ADDRESS settles it"
 _OWN = "a capture of pfsync0 has what its node sent"
 
 
@@ -92,7 +92,7 @@ def _with_one_own(surveys: Sequence[Survey], a: Optional[str]) -> Sides:
         nodes = {first: its_node, **{it: NODES[1 - own] for it in those if it != first}}
         why = f"the capture of the pfsync0 of {its_node} has the same messages"
     else:
-        nodes, why = dict(zip(those, NODES)), "a guess, since the captures have no message in common; --a ADDRESS says it"
+        nodes, why = dict(zip(those, NODES)), "a guess, since the captures have no message in common; --a ADDRESS settles it"
     clocks = measured([it for it in met if nodes.get(it.sender) == its_node]).clocks
     exchanged = ""
     if a and found and nodes.get(found[0][0]) != its_node:
@@ -124,7 +124,7 @@ def _of_two(surveys: Sequence[Survey], a: Optional[str]) -> Sides:
         exchanged = f"{clear.those[0] or 'the other node'}: {clear.why}" if clear and clear.those[0] != a else ""
         return Sides(dict(zip(those, NODES)), _SAID, False, its.clocks, latency, exchanged)
     order = clear or next((it for it in reversed(found) if it), None) or _Order(those, "", False)
-    guess = f"a guess: {order.why or 'nothing shows it'}, and nothing else shows it clearly; --a ADDRESS says it"
+    guess = f"a guess: {order.why or 'nothing shows it'}, and nothing else shows it clearly; --a ADDRESS settles it"
     nodes = {it: node for it, node in zip(order.those, NODES) if it}
     return Sides(nodes, clear.why if clear else guess, not clear, its.clocks, latency)
 

@@ -18,7 +18,7 @@ def besides(records: Sequence[TakenRecord]) -> str:
     bad, stale = sum(it.is_bad for it in records), sum(bool(it.stale) for it in records)
     freed = sum(it.fate[0] == "acknowledged" for it in records)
     asked = [it.about[0] for it in records if it.fate[0] == "asked"]
-    counts = ((bad, "bad"), (stale, "stale"), (freed, "held let go"))
+    counts = ((bad, "bad"), (stale, "stale"), (freed, "held released"))
     parts = [f"{number} {words}" for number, words in counts if number]
     return ", ".join(parts + ([f"asks for {_names(asked)}"] if asked else []))
 

@@ -19,7 +19,7 @@ class Options(argparse.Namespace):
 
 def add_options(words: argparse.ArgumentParser) -> None:
     """The options, the same on a command line and in a dialogue."""
-    words.add_argument(ALL_REPLIES, action="store_true", help="shows each reply that changes, and not only the first by each word")
+    words.add_argument(ALL_REPLIES, action="store_true", help="shows each reply that changes, not only the first by each word")
 
 
 def read(words: Sequence[str]) -> Tuple[str, bool]:

@@ -58,7 +58,7 @@ def by_rules(own: Kernel, kernel: Kernel) -> str:
         return kernel.by
     more = [it.word for it in kernel.switches if it not in own.switches]
     less = [it.word for it in own.switches if it not in kernel.switches]
-    parts = [f"with {KERNEL.word} {', '.join(more)} besides"] * bool(more) + [f"without {KERNEL.word} {', '.join(less)}"] * bool(less)
+    parts = [f"also with {KERNEL.word} {', '.join(more)}"] * bool(more) + [f"without {KERNEL.word} {', '.join(less)}"] * bool(less)
     return " and ".join(parts)
 
 

@@ -130,7 +130,7 @@ def _used(before: Reply, after: Reply) -> Tuple[str, ...]:
     """The flows of which nothing but the time of their last use is another one at the end."""
     one, two = (read_shown(it) for it in (before, after))
     pairs = ((node, state, two.nodes[node].states.get(name)) for node in NODES for name, state in one.nodes[node].states.items())
-    return tuple(f"last used at another time on {node}: {flow(was)}" for node, was, now in pairs if now and was.last != now.last)
+    return tuple(f"last used at a different time on {node}: {flow(was)}" for node, was, now in pairs if now and was.last != now.last)
 
 
 def _ends(script: Script, kernel: Kernel, partings: _Partings) -> List[AtEnd]:

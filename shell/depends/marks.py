@@ -77,6 +77,6 @@ def notes_of(its: Marks, own: Kernel, events: int) -> Dict[int, List[str]]:
     notes = {number - 1: [f"Event {number}, {'; '.join(map(str, those))}."] for number, those in its.of.items()}
     which = f" (event{'s' * (len(its.of) > 1)} {', '.join(map(str, sorted(its.of)))})" if its.of else ""
     depend = f"{len(its.of) or 'none'} of {counted(events, 'event')} depend{'s' * (len(its.of) < 2)} on the choice of rules{which}"
-    others = [f"{by} it is another run from event {number} on" for by, number in its.partings.items()]
+    others = [f"{by} it is a different run from event {number} on" for by, number in its.partings.items()]
     notes.setdefault(events, []).append(f"{own.by.capitalize()}; {'; '.join([depend, *others])}.")
     return notes

@@ -31,10 +31,10 @@ class Kind:
         return f"{number} {self.one if number == 1 else self.many}"
 
 
-_PACKETS = Kind("packet gets another verdict", "packets get another verdict")
-_EVENTS = Kind("other event comes to something else", "other events come to something else")
-_SEARCHES = Kind("search has another answer", "searches have other answers")
-_OTHERS = Kind("other command", "other commands")
+_PACKETS = Kind("packet gets a different verdict", "packets get different verdicts")
+_EVENTS = Kind("other event has a different outcome", "other events have different outcomes")
+_SEARCHES = Kind("search has a different answer", "searches have different answers")
+_OTHERS = Kind("other command has a different reply", "other commands have different replies")
 _LOOKS = Kind("reply that shows the pair", "replies that show the pair")
 # In the order in which they are said.
 KINDS = (_PACKETS, _EVENTS, _SEARCHES, _OTHERS, _LOOKS)

@@ -53,7 +53,7 @@ class Report:
     def _headline(self) -> str:
         events = counted(sum(1 for _ in self.script.events), "event")
         where = f" on {counted(self.branches, 'branch', 'branches')}" * (self.branches > 1)
-        how = f"each word of `{KERNEL.word}` and all of them" if self.own.is_profile else "each word added or taken away, all of them, and none"
+        how = f"each word of `{KERNEL.word}` and all of them" if self.own.is_profile else "each word added or removed, all of them, and none"
         return f"{self.name}: {events}{where}, {self.own.by}; then by {how}"
 
     # ---- what changes by which rules
@@ -111,7 +111,7 @@ class Report:
     def _partings(self, group: _Group) -> List[str]:
         spots = [self.spots[it.place] for it in group.differences]
         those = [(it.number, f" of {it.branch}" * (self.branches > 1)) for it in group.its.partings if it in spots]
-        return [f"from event {number}{on} on it is another run, and nothing after it is compared" for number, on in those]
+        return [f"from event {number}{on} on it is a different run, and nothing after it is compared" for number, on in those]
 
     def _few(self, places: Sequence[int]) -> str:
         """The first of some commands, and how many more there are."""
@@ -156,7 +156,7 @@ class Report:
 
 def _ends(ends: Sequence[AtEnd]) -> List[str]:
     """What branches end with."""
-    changes = [f"{it.branch} ends otherwise: {text}" for it in ends for text in it.changes]
+    changes = [f"{it.branch} ends differently: {text}" for it in ends for text in it.changes]
     more = len(changes) - MOST_ENDS
     return [*changes[:MOST_ENDS], *([f"and so on for {counted(more, 'more flow')}"] if more > 0 else [])]
 

@@ -60,4 +60,4 @@ class Faults:
         if self.count:
             lines = "1 line was" if self.count == 1 else f"{self.count} lines were"
             more = "; each text is reported once, the first {MOST_REPORTED} of them" if self.count > len(self._texts) else ""
-            self._say(f"{self.path}: {lines} not understood and passed over{more.format(MOST_REPORTED=MOST_REPORTED)}")
+            self._say(f"{self.path}: {lines} not understood and skipped{more.format(MOST_REPORTED=MOST_REPORTED)}")

@@ -79,7 +79,7 @@ def _check_made(items: Items, asked: Asked) -> None:
 
 
 def _about(asked: Asked) -> List[str]:
-    return [f"of both dumps only the states that have {asked.about} at an end; so all numbers are of these"] if asked.about else []
+    return [f"of both dumps only the states that have {asked.about} at an end; all numbers count only these"] if asked.about else []
 
 
 # ---- the setup

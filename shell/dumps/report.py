@@ -88,7 +88,7 @@ def _files(found: Compared, files: Dict[str, str], how: Shown) -> List[str]:
     lines = ["; ".join(f"{node}: {counted(found.sizes[node], 'state')} in {path}" for node, path in files.items())]
     for node, path in files.items():
         if found.again[node]:
-            lines.append(f"{path}: {counted(found.again[node], 'state comes', 'states come')} again; the first of each counts")
+            lines.append(f"{path}: {counted(found.again[node], 'state appears', 'states appear')} again; the first of each counts")
         if found.unnamed[node]:
             unnamed = counted(found.unnamed[node], "state without a name", "states without names")
             lines.append(f"{path}: {unnamed}, paired by flow alone; `pfctl -ss -vv` prints names")

@@ -27,7 +27,7 @@ def carry_out(words: Words) -> int:
         return 1
     say([*report(its, words.conf), *rc.said])
     if words.strict and (rc.is_out or any(it.verdict is Verdict.OUT for it in its.judged)):
-        say([f"{legible(words.conf)}: nothing is written, since statements are out (--strict)"])
+        say([f"{legible(words.conf)}: nothing is written, since statements are left out (--strict)"])
         return STRICT_STATUS
     write(words.output, setup_lines(its, NODES if words.node == "both" else [words.node], rc.lines, not words.unopened))
     return 0

@@ -55,7 +55,7 @@ def expanded(firewall: Firewall, words: Filter) -> List[PfRule]:
         _or_none(words.groups),
     )
     if prod(map(len, lists)) > MOST_OF_A_STATEMENT:
-        raise NotRead(f"its lists come to more than {MOST_OF_A_STATEMENT} rules")
+        raise NotRead(f"its lists expand to more than {MOST_OF_A_STATEMENT} rules")
     found = (PfRule(words, *its) for its in product(*lists))
     return [it._replace(family=max(_families(it))) for it in found if len(_families(it) - {0}) <= 1]
 

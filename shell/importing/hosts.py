@@ -11,7 +11,7 @@ from .grammar import Host, HostKind
 from .names import number_of
 
 _INTERFACE = re.compile(r"[a-z][a-z0-9_.]*[0-9]$|self$")
-_NO_ROUTES = "the laboratory has no routes: every address has one, and no packet fails the reverse path test"
+_NO_ROUTES = "the laboratory has no routes: every address counts as having one, and no packet fails the reverse path test"
 
 SELF = "`self` is lo0, and what --address says"
 

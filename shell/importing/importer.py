@@ -33,8 +33,8 @@ _OTHERS = {
     "queue": "bandwidth is left out",
 }
 _ANCHORED = "the rules of this anchor are not in the file: pfctl can load them while pf runs"
-_NEVER_ASKED = "pf never comes to these statements: no anchor of the file has this name"
-_OF_ANCHOR = "the anchor that it is in is out"
+_NEVER_ASKED = "pf never reaches these statements: no anchor of the file has this name"
+_OF_ANCHOR = "the anchor that it is in is left out"
 
 
 @dataclass
@@ -196,7 +196,7 @@ class Import:
         numbered = zip(ruleset.take(len(rules)), rules)
         own = [(number, it) for number, it in numbered if self._is_for([it.interface] if it.interface else [])]
         if not rules:
-            judged.out("pfctl refuses it: its addresses are of two families, so it comes to no rule")
+            judged.out("pfctl refuses it: its addresses are of two families, so it gives no rule")
         elif not own:
             self._elsewhere(judged)
         elif isinstance(content, Filter) and content.is_anchor:
@@ -354,7 +354,7 @@ class Import:
         lost = [f"in pf {', '.join(above)} above it sees packets as they came, and here translated"] if above else []
         earlier = [it for one in self.translations for it in one.pieces]
         if any(one.is_again(it) for one in earlier for it in pieces):
-            lost.append("in pf packets come to it that an earlier translation has translated, and here they do not")
+            lost.append("in pf it gets packets that an earlier translation has translated, and here it does not")
         return lost
 
     def _is_translation(self, line: Line) -> bool:

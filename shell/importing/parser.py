@@ -77,7 +77,7 @@ def _macro_value(reader: Reader) -> str:
     while reader.next.kind in (Kind.WORD, Kind.QUOTED):
         parts.append(reader.take().text)
     if not parts or not reader.is_done:
-        raise NotRead(f"{reader.next} in a macro: pfctl wants nets and lists in quotes")
+        raise NotRead(f"{reader.next} in a macro: pfctl expects nets and lists in quotes")
     value = " ".join(parts)
     if len(value) > LONGEST_MACRO:
         raise NotRead(f"a macro has more than {LONGEST_MACRO} characters")
@@ -169,7 +169,7 @@ def _option(reader: Reader, rule: Filter) -> None:
 def _misplaced(word: str) -> str:
     """Why a word is not one of the options at the end of a rule."""
     if word in _BEFORE_OPTIONS:
-        return f"`{word}` is in the wrong place: pfctl wants {', '.join(_BEFORE_OPTIONS)} in this order, and then the options"
+        return f"`{word}` is in the wrong place: pfctl expects {', '.join(_BEFORE_OPTIONS)} in this order, and then the options"
     return _LATER.get(word, f"`{word}` is not an option of a rule")
 
 

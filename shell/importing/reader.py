@@ -159,7 +159,7 @@ class Reader:
             return Operation("=", first)
         low, _, high = first.partition(":")
         if not low or not high:
-            raise NotRead(f"`{first}` is not a range of ports: both ends are wanted, LOW:HIGH")
+            raise NotRead(f"`{first}` is not a range of ports: it needs both ends, LOW:HIGH")
         return Operation(":", low, high)
 
     def user(self) -> Operation:

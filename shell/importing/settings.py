@@ -107,7 +107,7 @@ class Settings:
             self.limit = number
         most = STATES.most if name == "states" else AEND.most
         if number > most or (name == "states" and number == 0):
-            return [f"`{name} {number}` becomes {most}, the most that there is here"]
+            return [f"`{name} {number}` becomes {most}, the maximum here"]
         return []
 
     def lines(self) -> List[str]:

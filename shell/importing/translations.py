@@ -83,7 +83,7 @@ def translated(firewall: Firewall, words: Translation, context: Context) -> Piec
         of_filter = [it for it in words.options if it.word in _OF_FILTER]
         rules = expanded(firewall, Filter(words.kind, replace(words.match, family=target.family), options=of_filter))
         if not rules:
-            raise Out("pfctl refuses it: its addresses are of two families, so it comes to no rule")
+            raise Out("pfctl refuses it: its addresses are of two families, so it gives no rule")
         for rule in (it for it in rules if firewall.is_for(it.interface)):
             its.pieces += _of_rule(words, rule, target, context, its.lost)
             if len(its.pieces) > MOST_RULES:

@@ -291,7 +291,7 @@ class Causes:
             then = merged(kernel, replace(state, source=ends[0], destination=ends[1]), came).state
             packets = self._packets(node, state, trial) if not missed(then, goal) else []
             if packets:
-                self.playing.say(f"frame {later.sent.number} shows that {node} went on before this frame came")
+                self.playing.say(f"frame {later.sent.number} shows that {node} had moved on before this frame came")
                 for packet in packets:
                     self.playing.packet(packet)
                 return

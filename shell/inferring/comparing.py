@@ -68,7 +68,7 @@ class Comparing:
         if frame is None:
             lines.append("parts: nothing is pending here, so no frame is sent")
         elif ours != theirs:
-            parts = [f"{word} {_listed(its)}" for word, its in (("without", theirs - ours), ("besides with", ours - theirs)) if its]
+            parts = [f"{word} {_listed(its)}" for word, its in (("without", theirs - ours), ("also with", ours - theirs)) if its]
             lines.append(f"parts: {', and '.join(parts)}")
         else:
             it.same += 1

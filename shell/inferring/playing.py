@@ -86,7 +86,7 @@ class Playing:
             return
         for node in NODES:
             if self.step(f"{TICK.word} {node} {milliseconds}")[0] == _REFUSED:
-                raise TooMuch(f"the captures cover more than the {LAST_MILLISECOND // YEAR} years that a clock of the laboratory goes on")
+                raise TooMuch(f"the captures cover more than the {LAST_MILLISECOND // YEAR} years that a clock of the laboratory can run")
         self.followed.tick(milliseconds)
         self.time += milliseconds * _MILLISECOND
 

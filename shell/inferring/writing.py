@@ -150,4 +150,4 @@ def _drift(playing: Playing) -> Iterator[str]:
     drift = playing.drift()
     if drift:
         states = f"{counted(len(drift), 'state')} at the end, such as {drift[0]}, {_they(len(drift), 'are', 'is')}"
-        yield f"{states} not as the replies let expect: packets may be inferred wrongly."
+        yield f"{states} not as the replies suggest: packets may be inferred wrongly."

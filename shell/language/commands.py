@@ -68,7 +68,7 @@ SET = Line(
     f"Limits: {', '.join(it.word + ' (0 or 1)' * it.is_switch for it in LIMITS.values())}. The last value "
     "of each limit and of each class counts. If a node has more states than `astart` (three fifths of `states` if it is not "
     "set), timeouts are scaled by (aend - its states) / (aend - astart), and from `aend` (six fifths of `states`) on they are 0. If `aend` is "
-    "not above `astart`, as with both 0, they are whole.",
+    "not above `astart`, as with both 0, they are not scaled.",
     other=Other(1, (TIMEOUT.word,), (choice(TIMEOUT.word, (TIMEOUT.word,)), *TIMEOUT.values)),
 )
 RULE = Line(
@@ -76,26 +76,26 @@ RULE = Line(
     (form.NODE, _read_apart(RULE_FORM)),
     "adds a rule to node a's or b's set; the last rule that matches decides, or the first that is quick",
     "The words come in this order. NET is ADDRESS/LENGTH. PORTS is N, or LO:HI for the ports from LO to HI. POOL is ADDRESS:PORTS, "
-    "for IPv6 [ADDRESS]:PORTS: a new state gets the first of its ports that no state has in use. `nat` replaces the near end on the "
+    "for IPv6 [ADDRESS]:PORTS: a new state gets the first of its ports that no state uses. `nat` replaces the near end on the "
     "wire, on a rule that is `out`; `rdr` replaces it on the stack, on one that is `in`. If no rule matches, the packet passes "
     "without a state.",
 )
 # Any number of words, at least one, each of which is one of these.
 KERNEL_WORD = choice("WORD..", (*SWITCHES, EVERY_SWITCH))
 KERNEL = Line(
-    "kernel", (KERNEL_WORD,), "puts rules of FreeBSD's kernel, as far as we know them, in the place of the profile's, at both nodes",
+    "kernel", (KERNEL_WORD,), "replaces rules of the profile by those of FreeBSD's kernel, as far as we know them, at both nodes",
     "Several lines add up, in any order, and a word may come twice. Here `kernel` alone says which rules are the kernel's.\n"
     + "\n".join(f"{it.word}: {it.what} ({it.sure})" for it in SWITCHES.values())
-    + f"\n{EVERY_SWITCH}: all of these\nThe numbers say how sure we are: these rules are FreeBSD 13's as far as we know its sources; nobody could "
-    "look them up here. A kernel before 13.2-RELEASE-p7 has `window` without `reset`: there a reset passes with any number. `reset` without "
-    "`window` is no kernel that we know, and is for comparing. docs/KERNEL.md says more.",
+    + f"\n{EVERY_SWITCH}: all of these\nThe numbers say how sure we are. These rules are FreeBSD 13's as far as we know its sources, which could "
+    "not be looked up here. A kernel before 13.2-RELEASE-p7 has `window` without `reset`: there a reset passes with any number. No kernel that "
+    "we know has `reset` without `window`; it is for comparing. docs/KERNEL.md says more.",
 )
 OPEN = Line("open", (), "ends the setup; events and commands follow", "The branch main is there, with no events.")
 SETUP = {it.word: it for it in (SET, RULE, KERNEL, OPEN)}
 
 _BRANCH, _BRANCH_N, _BRANCH_K = (form.BRANCH,), (form.BRANCH, form.N), (form.BRANCH, form.K)
 STEP = Line(
-    "step", (form.BRANCH, EVENT), "lets an event happen on a branch; events that were undone are discarded",
+    "step", (form.BRANCH, EVENT), "makes an event happen on a branch; events that were undone are discarded",
     "Answers the outcome: see help EVENT.", ("step OUTCOME dropped N",), ("NoBranch", "Event"),
 )
 BACK = Line(
@@ -103,7 +103,7 @@ BACK = Line(
     "Answers `at CURSOR`, or refused TooFarBack.", ("at CURSOR",), ("NoBranch", "TooFarBack"),
 )
 FORWARD = Line(
-    "forward", _BRANCH_N, "lets the next N events after the cursor happen again",
+    "forward", _BRANCH_N, "makes the next N events after the cursor happen again",
     "Answers `at CURSOR`, or refused NothingForward.", ("at CURSOR",), ("NoBranch", "NothingForward"),
 )
 FORK = Line(

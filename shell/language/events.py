@@ -101,7 +101,7 @@ PACKET = Event(
 )
 FLUSH = Event("flush", _NODE, "a node sends one frame to the other", (SENT,), ("NothingPending", "LinkFull", "CountFull"))
 DELIVER = Event(
-    "deliver", _TICKET, "a frame in flight comes to its receiver", (TAKEN, BROKEN), ("NoSuchFrame", "QueueFull", "CountFull"),
+    "deliver", _TICKET, "a frame in flight reaches its receiver", (TAKEN, BROKEN), ("NoSuchFrame", "QueueFull", "CountFull"),
     more="`deliver all` delivers every frame in flight, by ticket.", every="all",
 )
 LOSE = Event("lose", _TICKET, "a frame in flight is lost", (LOST,), ("NoSuchFrame",))
@@ -112,7 +112,7 @@ CUT = Event(
     "cut", (form.TICKET, CUT_LENGTH), "a frame in flight keeps its first LEN bytes", (Outcome("cut LEN"),), ("NoSuchFrame",)
 )
 TICK = Event(
-    "tick", (form.NODE, form.MS), "a node's clock goes on by MS milliseconds",
+    "tick", (form.NODE, form.MS), "a node's clock advances by MS milliseconds",
     (Outcome("clock MS", drawn="clock {clock}"),), ("ClockFull",), "+{},",
     more="`tick both MS` ticks both nodes.", every="both",
 )
@@ -122,19 +122,19 @@ PURGE = Event(
     more="Timeouts depend on how many states it finds (`help set`).",
 )
 RELEASE = Event(
-    "release", _NODE, "a node lets go held packets that are due",
-    (Outcome("released N", drawn="{packets} let go"),), ("NothingPending", "TooEarly", "CountFull"), "release:",
+    "release", _NODE, "a node releases the held packets that are due",
+    (Outcome("released N", drawn="{packets} released"),), ("NothingPending", "TooEarly", "CountFull"), "release:",
 )
 KILL = Event(
     "kill", (form.NODE, form.NAME), "a node deletes the state NAME, which is CREATOR.ID",
     (Outcome("killed"),), ("NoSuchState", "QueueFull", "CountFull"), "kill {}",
 )
 CLEAR = Event(
-    "clear", _NODE, "a node gives up all its states, and reports that to the peer",
-    (Outcome("cleared N", drawn="{states} given up"),), ("QueueFull", "CountFull"), "clear:",
+    "clear", _NODE, "a node clears all its states, and reports that to the peer",
+    (Outcome("cleared N", drawn="{states} cleared"),), ("QueueFull", "CountFull"), "clear:",
 )
 RESTART = Event(
-    "restart", _NODE, "a node begins anew without states, and asks the peer for all of them",
+    "restart", _NODE, "a node starts anew without states, and asks the peer for all of them",
     (Outcome("boot N", drawn="boot {n}"),), ("CountFull",), "restart:",
 )
 TURN = Event(

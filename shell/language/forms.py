@@ -55,13 +55,13 @@ def nearest(word: str, words: Iterable[str]) -> str:
 
 
 def one_of(words: Iterable[str]) -> str:
-    """Words, one of which is wanted: `a`, `a or b`, `a, b or c`."""
+    """Words, one of which is expected: `a`, `a or b`, `a, b or c`."""
     *others, last = words
     return f"{', '.join(others)} or {last}" if others else last
 
 
 def quoted(words: Iterable[str]) -> str:
-    """Words, one of which is wanted, as they are typed: `a` or `b`, each with its marks."""
+    """Words, one of which is expected, as they are typed: `a` or `b`, each with its marks."""
     return one_of(f"`{it}`" for it in words)
 
 

@@ -124,7 +124,7 @@ def _check_rule_end(reader: Reader) -> None:
         reader.take(TIMEOUT.values[0])
         raise LineFault("Extra", place, "the timeouts must be in the order of their classes' numbers, each class once")
     if word in OPTIONS:
-        raise LineFault("Extra", place, f"`{word}` is out of order, or there twice: the order is {' '.join(OPTIONS)}")
+        raise LineFault("Extra", place, f"`{word}` is out of order or repeated: the order is {' '.join(OPTIONS)}")
     meant = f": {hint(word)}" if hint(word) else nearest(word, OPTIONS)
     raise LineFault("Unknown", place, f"`{word}` is not an option of a rule{meant}")
 

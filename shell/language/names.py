@@ -35,7 +35,7 @@ LOST = CounterName("lost", "held packets lost with their state")
 COUNTERS: Tuple[CounterName, ...] = (
     CounterName("passed", "packets passed"),
     CounterName("blocked", "packets dropped"),
-    CounterName("freed", "held packets let go"),
+    CounterName("freed", "held packets released"),
     LOST,
     CounterName("bad", "records not taken"),
     CounterName("stale", "updates older than the state"),

@@ -20,7 +20,7 @@ _OPTIONS = {
 
 
 def hint(word: str, wanted: str = "") -> str:
-    """What to write instead of a word of a pf.conf, when a form of this name is wanted, or if none is named, an option of a rule;
+    """What to write instead of a word of a pf.conf, when a form of this name is expected, or if none is named, an option of a rule;
     empty if nothing is known about the word."""
     if word.startswith("{"):
         return "there are no lists; write a rule for each member"

@@ -123,7 +123,7 @@ class Bridge:
             raise Ended(f"the server did not answer in {PATIENCE:.0f} seconds") from error
         except (OSError, Unknown) as error:
             # (for example if the program's file is gone: the next look ends the page)
-            raise Ended(f"the page cannot go on: {error}") from error
+            raise Ended(f"the page cannot continue: {error}") from error
 
     def _submitted(self, task: Callable[..., T], *arguments: object) -> "Future[T]":
         try:

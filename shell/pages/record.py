@@ -94,7 +94,7 @@ class Record:
 
     def rules(self, number: int) -> List[str]:
         """By which other rules an event comes to something else, and to what; and since when the run is another one."""
-        others = [f"{by}: another run from here on" for by, since in self.marks.partings.items() if since == number]
+        others = [f"{by}: a different run from here on" for by, since in self.marks.partings.items() if since == number]
         return [*map(str, self.marks.of.get(number, [])), *others]
 
     def chart_as_data(self) -> Dict[str, object]:

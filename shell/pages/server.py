@@ -64,4 +64,4 @@ def started(program: str, setup: Sequence[str]) -> Server:
         if server.is_listening:
             return server
         said = server.close()
-    raise Ended(f"the server did not begin: {said or f'status {server.process.returncode}'}")
+    raise Ended(f"the server did not start: {said or f'status {server.process.returncode}'}")

@@ -190,7 +190,7 @@ class Visit(BaseHTTPRequestHandler):
     def _events(self, query: str) -> None:
         after = re.fullmatch("after=([0-9]{1,15})", query)
         if not after:
-            raise Refused(HTTPStatus.BAD_REQUEST, "events?after=VERSION is wanted")
+            raise Refused(HTTPStatus.BAD_REQUEST, "events?after=VERSION is expected")
         if not self.server.bridge.news.come():
             raise Refused(HTTPStatus.SERVICE_UNAVAILABLE, "too many people are watching")
         try:

@@ -49,7 +49,7 @@ def read_wanted(query: str) -> Wanted:
     found = _WANTED.fullmatch(query)
     places = [*dict.fromkeys(found[2].split(","))] if found else []
     if not found or len(places) > MOST_PLACES or not all(map(PLACE.fullmatch, places)):
-        raise NotTaken(f"offers?branch=NAME&places=PLACE,.. is wanted, with at most {MOST_PLACES} places like a, frame/1 and b/state/1.1")
+        raise NotTaken(f"offers?branch=NAME&places=PLACE,.. is expected, with at most {MOST_PLACES} places like a, frame/1 and b/state/1.1")
     return Wanted(found[1], places)
 
 

@@ -47,8 +47,7 @@ def _too_far_back(lab: Laboratory, words: Sequence[str]) -> List[str]:
     cursor, number = _branch(lab, words).cursor, int(words[2])
     if number <= cursor:
         return [NOT_SHOWN]
-    stand = "stands" if cursor == 1 else "stand"
-    return [f"{counted(number, 'event')} cannot be undone: {counted(cursor, 'event')} of {words[1]} {stand}"]
+    return [f"{counted(number, 'event')} cannot be undone: {words[1]} has {counted(cursor, 'event')} before the cursor"]
 
 
 def _nothing_forward(lab: Laboratory, words: Sequence[str]) -> List[str]:
@@ -56,7 +55,7 @@ def _nothing_forward(lab: Laboratory, words: Sequence[str]) -> List[str]:
     if words[0] in (FORK.word, PAST.word):
         if number <= pair.events:
             return [NOT_SHOWN]
-        return [f"{words[1]} has {counted(pair.events, 'event')}, so there are no first {number} of them"]
+        return [f"{words[1]} has {counted(pair.events, 'event')}, which is less than {number}"]
     undone = pair.events - pair.cursor
     if number <= undone:
         return [NOT_SHOWN]
@@ -67,12 +66,12 @@ def _nothing_forward(lab: Laboratory, words: Sequence[str]) -> List[str]:
 def _last_branch(lab: Laboratory, words: Sequence[str]) -> List[str]:
     if len(lab.names()) > 1:
         return [NOT_SHOWN]
-    return [f"{words[1]} is the only branch, and one has to be left: fork another one first"]
+    return [f"{words[1]} is the only branch, and one has to remain: fork another one first"]
 
 
 def _branches_full(lab: Laboratory, words: Sequence[str]) -> List[str]:
     count = len(lab.names())
-    return [f"there are {count} branches, and at most {MOST_BRANCHES} can be: `drop` one first"]
+    return [f"there are {count} branches, and at most {MOST_BRANCHES} are possible: `drop` one first"]
 
 
 def _no_event(lab: Laboratory, words: Sequence[str]) -> List[str]:
@@ -85,7 +84,7 @@ def _no_event(lab: Laboratory, words: Sequence[str]) -> List[str]:
 
 def _no_frame(lab: Laboratory, words: Sequence[str]) -> List[str]:
     sent = lab.past(words[1], _branch(lab, words).events).next_ticket - 1
-    sends = f"of {counted(sent, 'frame')} the last has the ticket {sent}" if sent else "they sent none"
+    sends = f"its events sent {counted(sent, 'frame')}, the last under the ticket {sent}" if sent else "its events sent none"
     return [f"no event of {words[1]} sent a frame under the ticket {int(words[2])}: {sends}"]
 
 
@@ -107,12 +106,14 @@ _REFUSALS: Dict[str, Callable[[Laboratory, Sequence[str]], List[str]]] = {
 }
 
 
-# What the first word of a reply to a search says.
+# What the first word of a reply to a search says, line by line.
 _SEARCHED = {
-    FOUND: "no run of these choices with fewer events leads to the goal: that is proved; `take` steps this one on a new branch",
-    NONE: "no run of these choices leads to the goal, of at most this many events, or of any length where it says `any`: that is proved; "
-    "the last number is how many runs end where the goal is asked for, and if it is 0, this says nothing about the goal",
-    GAVE_UP: "there were more runs to try, so nothing is known: allow more runs, or fewer events or choices",
+    FOUND: ["no run of these choices with fewer events leads to the goal: that is proved", "`take` steps this one on a new branch"],
+    NONE: [
+        "no run of these choices leads to the goal, of at most this many events, or of any length where it says `any`: that is proved",
+        "the last number is how many runs end where the goal is asked for; if it is 0, this says nothing about the goal",
+    ],
+    GAVE_UP: ["there were more runs to try, so nothing is known: allow more runs, or fewer events or choices"],
 }
 
 
@@ -125,13 +126,14 @@ def explain_done(words: Sequence[str], reply: str) -> List[str]:
     """What there is to explain about a command that was done: for an excision, why other events fell out."""
     places = reply.split()[1:]
     if words[0] == SEARCH:
-        return [_SEARCHED[reply.split()[0]]]
+        return _SEARCHED[reply.split()[0]]
     if words[0] != EXCISE.word:
         return ["it was done: `why` gives reasons for events, refusals and faulty lines"]
     if not places:
-        return [f"every other event of {words[1]} was accepted without event {words[2]} too: none fell out with it"]
+        return [f"every other event of {words[1]} was accepted without event {words[2]} as well, so none fell out with it"]
     gone = f"events {', '.join(places[:-1])} and {places[-1]}" if len(places) > 1 else f"event {places[0]}"
+    numbers = f"{'their places' if len(places) > 1 else 'its place'} in the list as it was"
     return [
-        f"without event {words[2]} {gone} of {words[1]} would be refused, and fell out too, by the places in the list as it was",
+        f"without event {words[2]}, {gone} of {words[1]} (by {numbers}) would be refused, and fell out too",
         f"`restore {words[1]}` brings all of them back, until an event is accepted",
     ]

@@ -20,7 +20,7 @@ def explain_dependence(lab: Laboratory, events: Sequence[str], number: int, reas
         return []
     found, named = marks_of(lab.program, lab.setup, events[:number], number), {*_words(reason)}
     lines = [_words_of(it) for it in found.of.get(number, []) if not _are_named(it.words, named)]
-    return [*lines, *(f"{by} the run is another one since event {since} ({PAGE})" for by, since in found.partings.items() if since < number)]
+    return [*lines, *(f"{by} the run is a different one since event {since} ({PAGE})" for by, since in found.partings.items() if since < number)]
 
 
 def _words_of(it: Mark) -> str:

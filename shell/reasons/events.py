@@ -28,15 +28,15 @@ def _purged(question: Question) -> List[str]:
     assert isinstance(purge, Purge)
     due = sorted(purge.due, key=lambda it: (it.expires, it.name))
     left = [it for it in purge.expiries if it.expires > purge.clock]
-    lines = [f"the clock of {node.id} stands at {purge.clock} ms", *filter(None, [scaled_by(purge.adaptive, node.id, purge.states)])]
+    lines = [f"the clock of {node.id} is at {purge.clock} ms", *filter(None, [scaled_by(purge.adaptive, node.id, purge.states)])]
     lines += [_expired(question, it, node.states[it.name]) for it in due] + _held_lost(node, [it.name for it in due])
     if not left:
-        return [*lines, "no state is left"]
+        return [*lines, "no states remain"]
     expires = min(it.last + 1000 * purge.adaptive.scaled(it.timeout, len(left)) for it in left)
-    lines.append(f"of the {counted(len(left), 'state')} left the next expires at {expires} ms")
+    lines.append(f"1 state remains; it expires at {expires} ms" if len(left) == 1 else f"{len(left)} states remain; the next expires at {expires} ms")
     if not due or not purge.adaptive.shortens(purge.states):
         return lines
-    whole = f"timeouts of {node.id} are whole again: it has {counted(len(left), 'state')}"
+    whole = f"timeouts of {node.id} are no longer scaled: it has {counted(len(left), 'state')}"
     return [*lines, scaled_by(purge.adaptive, node.id, len(left)) or whole]
 
 
@@ -57,7 +57,7 @@ def _released(question: Question) -> List[str]:
     node = _node(question)
     left = [it.name for it in question.after.nodes[node.id].held]
     gone = [it for it in node.held if it.name not in left]
-    lines = [f"the clock of {node.id} stands at {node.clock} ms, and a packet is due a while after it was held: {question.lab.limit(DEFER_MS)}"]
+    lines = [f"the clock of {node.id} is at {node.clock} ms, and a packet is due some time after it was held: {question.lab.limit(DEFER_MS)}"]
     lines += [f"the packet of state {it.name}, held since {it.since} ms, went out" for it in gone]
     return lines + ([f"still held: {name_list(left)}"] if left else [])
 
@@ -74,7 +74,7 @@ def _sent(question: Question) -> List[str]:
 
 def _lost(question: Question) -> List[str]:
     frame = question.history.flight(int(question.words[1])).now
-    return [f"frame {frame.ticket} was on its way to {frame.to}, and carried {frame.summary}; nobody learns of its loss"]
+    return [f"frame {frame.ticket} was on its way to {frame.to}, and carried {frame.summary}; neither node learns of its loss"]
 
 
 def _queued(question: Question) -> List[str]:
@@ -82,16 +82,16 @@ def _queued(question: Question) -> List[str]:
     after = question.after.nodes[node.id]
     ended = f"these were the last: {node.id} lists the end of the bulk update"
     return [
-        f"a turn passes over states that are queued already, `no-sync`, or newer from the peer; {question.lab.limit(BATCH)}",
-        ended if after.serve == "-" else f"{node.id} goes on serving",
+        f"a turn skips states that are already queued, `no-sync`, or newer from the peer; {question.lab.limit(BATCH)}",
+        ended if after.serve == "-" else f"{node.id} continues to serve",
     ]
 
 
 def _clock(question: Question) -> List[str]:
     node = _node(question)
     return [
-        f"the clock of {node.id} went on from {node.clock} ms",
-        "nothing else happens by itself: `purge`, `release` and `retry` look at the clock",
+        f"the clock of {node.id} advanced from {node.clock} ms",
+        "nothing else happens by itself: `purge`, `release` and `retry` read the clock",
     ]
 
 
@@ -102,7 +102,7 @@ def _killed(question: Question) -> List[str]:
     return [
         f"{state_words(node.states[name])} of {node.id} is deleted",
         *_held_lost(node, [name]),
-        f"a short delete is queued for {peer}" if is_queued else f"nothing about it was ever sent to {peer}, and nothing is now",
+        f"a short delete is queued for {peer}" if is_queued else f"nothing about it was ever sent to {peer}, and nothing is sent now",
     ]
 
 
@@ -111,11 +111,11 @@ def _cleared(question: Question) -> List[str]:
     clears = question.after.nodes[node.id].clears
     own, former = clears[-1], len(node.clears)
     beside = f"; it comes after {counted(former, 'clear')} that {node.id} has not sent yet, and each is a record of its own"
-    given_up = f"{node.id} gave up {counted(len(node.states), 'state')}, including those of other boots"
+    gone = f"{node.id} cleared {counted(len(node.states), 'state')}, including those of other boots"
     return [
-        given_up if node.states else f"{node.id} has no state to give up",
+        gone if node.states else f"{node.id} has no state to clear",
         *_held_lost(node, node.states),
-        f"a clear is listed: {other(node.id)} is to give up those of boot {own.creator} up to id {own.bound}" + beside * bool(former),
+        f"a clear is listed: {other(node.id)} is to clear those of boot {own.creator} up to id {own.bound}" + beside * bool(former),
     ]
 
 
@@ -126,14 +126,14 @@ def _cut(question: Question) -> List[str]:
         return [f"frame {ticket} had {was} bytes, and keeps them all"]
     if now < HEADER:
         return [f"frame {ticket} had {was} bytes; {now} are less than a header, so its receiver cannot read it (Short)"]
-    return [f"frame {ticket} had {was} bytes; its header still has its first length, so its receiver cannot read it"]
+    return [f"frame {ticket} had {was} bytes; its header still has the original length, so its receiver cannot read it"]
 
 
 def _boot(question: Question) -> List[str]:
     node = _node(question)
     return [
         f"{node.id} was boot {node.boot}, and forgot {counted(len(node.states), 'state')} and what was queued, held and counted",
-        f"its clock and its rules stay, and it asks {other(node.id)} for all states",
+        f"it keeps its clock and its rules, and asks {other(node.id)} for all states",
     ]
 
 
@@ -142,7 +142,7 @@ def _retried(question: Question) -> List[str]:
     tries, asked = node.sync.split("/")
     waited = f"{node.id} has waited since {asked} ms, and {question.lab.limit(BULK_MS)}"
     if question.outcome == [SERVED.word]:
-        return [waited, f"it had asked {tries} times, and goes on as if it had been served: {MOST_TRIES} tries are the most"]
+        return [waited, f"it had asked {tries} times, and {MOST_TRIES} tries are the most: it continues as if it had been served"]
     return [waited, f"this is try {int(tries) + 1} of {MOST_TRIES} at most"]
 
 

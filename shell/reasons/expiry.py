@@ -19,7 +19,7 @@ def explain_overdue(question: Question, node: Node, state: State) -> List[str]:
     if not question.lab.knows_setup or it.expires > node.clock:
         return []
     expired = f"state {state.name} expired at {it.expires} ms ({use_words(question, node.id, state, it)})"
-    return [f"{expired}; the clock of {node.id} stands at {node.clock} ms, and it is still there because no purge has deleted it"]
+    return [f"{expired}; the clock of {node.id} is at {node.clock} ms, and the state is still there because no purge has deleted it"]
 
 
 def use_words(question: Question, node: str, state: State, it: Expiry) -> str:

@@ -18,7 +18,7 @@ _WORDS = {
     "Missing": "a word is missing",
     "Number": "a word has the wrong form",
     "Extra": "there are words left over, or out of order",
-    "Packet": "the fields make no packet",
+    "Packet": "the fields do not make a packet",
 }
 _OF_SETUPS = {
     "open": "the setup ends without a line `open`",
@@ -50,7 +50,7 @@ def _wanted(words: Sequence[str], shown: Set[str]) -> List[str]:
     forms, word = wanted_form(words), wanted_word(words)
     if not shown.issuperset(forms):
         shown.update(forms)
-        return [f"wanted: {it}" for it in forms]
+        return [f"expected: {it}" for it in forms]
     return [f"`help {word}` shows the form"] if forms and helps.shows(word, forms) else []
 
 

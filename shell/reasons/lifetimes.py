@@ -40,7 +40,7 @@ def explain_lifetimes(setup: Setup, frame: Frame, fates: Sequence[TakenRecord], 
         said = (f"{it} lives {lives(it, here[it])}, and by the profile {lives(it, there[it])}" for it in names[:MOST])
         return [f"by {BY} {'; '.join(said)}{more}"]
     said = (f"{it} lives {lives(it, there[it])}, and not {lives(it, here[it])}" for it in names[:MOST])
-    return [f"{THE_KERNEL} counts the last use otherwise: by {BY} {'; '.join(said)}{more} ({PAGE})"]
+    return [f"{THE_KERNEL} counts the last use differently: by {BY} {'; '.join(said)}{more} ({PAGE})"]
 
 
 def _last_uses(setup: Setup, kernel: Kernel, frame: Frame, fates: Sequence[TakenRecord], node: Node) -> Dict[Name, int]:

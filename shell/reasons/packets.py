@@ -41,7 +41,7 @@ def _passed(question: Question, reason: OfState) -> List[str]:
     return [
         f"{by_key}; a packet of a state is not tested against rules",
         *(explain_way(question, reason, state) if question.packet.is_tcp else []),
-        *["it also let the held packet of the state go"] * (reason.name in [it.name for it in node.held]),
+        *["it also released the held packet of the state"] * (reason.name in [it.name for it in node.held]),
         *(_closing(state, question.after.nodes[node.id].states[reason.name]) if question.packet.is_tcp else []),
         *explain_overdue(question, node, state),
         *explain_elsewhere(question, state),
@@ -52,7 +52,7 @@ def _closing(before: State, after: State) -> List[str]:
     """How far a packet closes a connection of TCP, by the levels of its ends before and after."""
     if is_closed(before) or levels(before) == levels(after) or _furthest(after) < CLOSING:
         return []
-    how = "goes on closing" if _furthest(before) >= CLOSING else "begins to close"
+    how = "continues to close" if _furthest(before) >= CLOSING else "begins to close"
     return [f"it {'closes' if is_closed(after) else how} the state: {levels(before)} -> {levels(after)}"]
 
 
@@ -79,7 +79,7 @@ def _judged(question: Question, reason: Judged) -> List[str]:
     states, node = question.table(question.packet.node).states, question.packet.node
     rule = question.rule_words(node, reason.rule)
     if reason.how == "":
-        lines = [f"no rule of {node} matches it{_of(question)}: what no rule matches passes, without a state", *_but_for_flags(question)]
+        lines = [f"no rule of {node} matches it{_of(question)}: a packet that no rule matches passes, without a state", *_but_for_flags(question)]
     elif reason.how == "block":
         lines = [f"{rule} decided{_place(question.rule(node, reason.rule))}", *_but_for_flags(question)]
     elif reason.how == "new":
@@ -92,14 +92,14 @@ def _judged(question: Question, reason: Judged) -> List[str]:
         lines = [_room(question, reason), f"{rule} decided, and would make a state"]
     if reason.closed is not None:
         old = state_words(states[reason.closed])
-        lines.append(f"{old} was closed at both ends, and this packet begins a new connection: so it was deleted first")
+        lines.append(f"{old} was closed at both ends, and this packet begins a new connection, so the state was deleted first")
     return lines
 
 
 def _of(question: Question) -> str:
     """How many rules there are, none of which matches."""
     rules = question.lab.setup.rules[question.packet.node]
-    return f", which has {counted(len(rules), 'rule')}" if question.lab.knows_setup else ""
+    return f" ({question.packet.node} has {counted(len(rules), 'rule')})" if question.lab.knows_setup else ""
 
 
 def _place(rule: Optional[Rule]) -> str:

@@ -64,10 +64,10 @@ def became(it: Came) -> str:
     if it.record.kind is CLEAR:
         names = name_list(sorted(name for name in it.node.states if it.taken.takes(name)))
         of = "of boot {} up to id {}".format(*it.record.about)
-        return f"{node} gave up {counted(int(it.taken.fate[1]), 'state')} {of}" + f": {names}" * bool(names)
+        return f"{node} cleared {counted(int(it.taken.fate[1]), 'state')} {of}" + f": {names}" * bool(names)
     ends = it.taken.fate[-1] == "ends"
     return {
-        "asked": f"unknown: {node} has no such state, and asks for it" + " already" * (it.name in it.node.asks),
+        "asked": f"unknown: {node} has no such state, and {'has asked for it already' if it.name in it.node.asks else 'asks for it'}",
         "queued": "asked for: the whole state is queued as an update",
         "bulk": f"{node} has no state to send: the bulk update is over at once" if ends else f"{node} begins a bulk update",
         "acknowledged": "acknowledged: its held packet is released",
@@ -87,14 +87,14 @@ def _bad(it: Came) -> str:
     return "bad: " + {
         "unknown": f"{node.id} has no such state to {'send' if it.record.kind is UPDATE_REQUEST else 'delete'}",
         "known": f"{has} ({known.protocol} {known.wire.near}, {known.wire.far})" if known else has,
-        "notgiven": f"{node.id} is boot {node.boot} itself and has not given the id {it.name.id} yet (its next id is {node.next_id})",
+        "notgiven": f"{node.id} is boot {node.boot} itself and has not assigned the id {it.name.id} yet (its next id is {node.next_id})",
         "deleting": f"{node.id} has deleted the state, and has yet to report that",
         "full": f"the state table of {node.id} is full: {it.limit}",
     }[why]
 
 
 def _imported(it: Came) -> str:
-    last = f"last used at {it.taken.last} ms" + f", which is after {it.node.id}'s clock" * ((it.taken.last or 0) > it.node.clock)
+    last = f"last used at {it.taken.last} ms" + f", which is ahead of {it.node.id}'s clock" * ((it.taken.last or 0) > it.node.clock)
     if it.record.kind is not INSERT:
         return f"new: inserted, since {it.node.id} did not know the state; {last}"
     asks = isinstance(it.record.state, Carried) and it.record.state.asks_for_acknowledgement
@@ -147,15 +147,15 @@ def _nothing(it: Came) -> str:
         is_kept = known is not None and "n" in known.flags
         return "asked for, but its rule says `no-sync`: it is not sent" if is_kept else "asked for: it is queued already"
     if known is None:
-        return f"unknown: {it.node.id} has no such state, and passes over it"
-    return "acknowledged: nothing waited for it any more"
+        return f"unknown: {it.node.id} has no such state, and ignores it"
+    return "acknowledged: nothing was waiting for it any more"
 
 
 def _heard(status: int, node: Node) -> str:
     waits = node.sync != "-"
     if status == BULK_START:
-        return f"the bulk update begins, and {node.id} " + ("goes on waiting for its end" if waits else "was not waiting for one")
-    ended = f"{node.id}, which was waiting, no longer waits, whatever came" if waits else f"{node.id} was not waiting for it"
+        return f"the bulk update begins, and {node.id} " + ("continues to wait for its end" if waits else "was not waiting for one")
+    ended = f"{node.id}, which was waiting, no longer waits, whatever arrived" if waits else f"{node.id} was not waiting for it"
     return f"the server says that it is at the end; {ended}"
 
 
@@ -188,7 +188,7 @@ def _endless(came: List[Came]) -> List[str]:
     node = came[0].node.id
     answered = f"{other(node)} would find {node}'s own {name_list(names)} stale in turn, unless it has heard more since"
     rest = f"by {KERNEL.word} {MERGE.word} they come to rest, unless their frames keep crossing"
-    return [f"{answered}: by this project's profile the two can go on so without end; {rest} ({PAGE})"]
+    return [f"{answered}: by this project's profile the two can continue like this without end; {rest} ({PAGE})"]
 
 
 def _is_crossed(it: Came) -> bool:
@@ -245,9 +245,9 @@ def _begun(came: List[Came], after: Node) -> List[str]:
         for name, it in sorted(after.states.items())
         if name > Name.read(cursor) and name not in queued and "n" not in it.flags and (it.peer or 0) <= int(since)
     ]
-    passed = "; turns pass over states that are queued already or `no-sync`" * (len(due) < len(after.states))
+    passed = "; turns skip states that are already queued or `no-sync`" * (len(due) < len(after.states))
     names = f": {name_list(due)}" * bool(due)
-    return [f"as {after.id} is after this frame, the bulk update has {counted(len(due), 'state')} to send{names}{passed}"]
+    return [f"after this frame the bulk update of {after.id} has {counted(len(due), 'state')} to send{names}{passed}"]
 
 
 def _without_start(history: History, came: List[Came], node: Node) -> List[str]:

@@ -25,7 +25,7 @@ def _no_such_frame(question: Question, next_ticket: int) -> List[str]:
     flying = ", ".join(f"{it.ticket} (to {it.to})" for it in question.pair.frames.values()) or "none"
     line = f"no frame in flight has the ticket {ticket}; in flight: {flying}"
     if ticket >= next_ticket:
-        return [line, f"frame {ticket} was not sent yet: the next frame gets the ticket {next_ticket}"]
+        return [line, f"frame {ticket} has not been sent yet: the next frame gets the ticket {next_ticket}"]
     flight = question.history.flight(ticket) if ticket else None
     if flight is None or flight.ended is None:
         return [line]
@@ -60,7 +60,7 @@ def _link_full(question: Question, limit: int, frames: int) -> List[str]:
 
 def _queue_full(question: Question, limit: int, pending: int) -> List[str]:
     node = _node(question)
-    more = f"at some point of the event more would be pending at {node.id} than allowed: the limit `{QUEUE.word}` is {limit}"
+    more = f"during the event more would be pending at {node.id} than allowed: the limit `{QUEUE.word}` is {limit}"
     alone = f"the event itself would queue more than {counted(limit - pending, 'entry', 'entries')}"
     room = f"`flush {node.id}` makes room"
     return [more, f"pending before it: {pending} ({_pending_parts(node)})", *[alone] * (pending < limit), *[room] * bool(pending)]
@@ -75,8 +75,8 @@ def _pending_parts(node: Node) -> str:
 def _clock_full(question: Question, clock: int, last: int) -> List[str]:
     node, more = question.words[1:]
     return [
-        f"the clock of {node} stands at {clock} ms, and {int(more)} ms more would pass its last, {last} ms",
-        f"it can go on by {last - clock} ms at most",
+        f"the clock of {node} is at {clock} ms, and {int(more)} ms more would pass its maximum, {last} ms",
+        f"it can advance by {last - clock} ms at most",
     ]
 
 
@@ -97,7 +97,7 @@ def _not_syncing(question: Question) -> List[str]:
             f"node {node} serves no bulk update: nobody has asked it for all its states, or all are sent",
             f"it begins when a request for all states comes (`restart {other(node)}`, then flush and deliver)",
         ]
-    return [f"node {node} waits for no bulk update: it has asked for none, or its end has come"]
+    return [f"node {node} waits for no bulk update: it has asked for none, or the end of the update has come"]
 
 
 def _too_early(question: Question, clock: int, due: int) -> List[str]:
@@ -110,12 +110,12 @@ def _too_early(question: Question, clock: int, due: int) -> List[str]:
         what = f"{node.id} can ask for all states again at"
     return [
         f"{what} {due} ms: it has waited since {since} ms, and `{limit.word}` is {due - since} ms",
-        f"the clock of {node.id} stands at {clock} ms: `tick {node.id} {due - clock}` first",
+        f"the clock of {node.id} is at {clock} ms: `tick {node.id} {due - clock}` first",
     ]
 
 
 def _no_memory(question: Question) -> List[str]:
-    return ["the program had no memory for it; nothing else kept it from happening"]
+    return ["the program had no memory for it; nothing else prevented it"]
 
 
 # (each takes the numbers that explain its refusal)

@@ -73,7 +73,7 @@ def why_last(lab: Laboratory, paint: Paint, columns: Optional[int] = None) -> Li
         branch = lab.branch(words[1])
         lines = why_event(lab, branch, branch.cursor, paint)
         same = lines[0] == paint.head(f"{plain_event(words[2:])}: {outcome_of(reply)}")
-        return lines if same else [paint.note(f"another session has moved {branch.name} on since; its newest event is this:"), *lines]
+        return lines if same else [paint.note(f"another session has changed {branch.name} since; its newest event is this:"), *lines]
     lines = why_ahead(lab, words[1], " ".join(words[2:]), paint)
     moved = paint.dim("this is from the branch as it is now, which other sessions may have changed since")
     return lines if lab.port is None else [*lines, *_indented([moved])]

@@ -128,7 +128,7 @@ class Finder:
             found_none = "the last search found nothing to take"
             raise Unknown(found_none if self.has_searched else "nothing was found yet: `search` first")
         if self.way.branch not in self.lab.names():
-            raise Unknown(f"there is no branch {self.way.branch} any more, from which the search went on: search again")
+            raise Unknown(f"the branch {self.way.branch}, from which the search began, is gone: search again")
         branch = self.lab.branch(self.way.branch)
         if tuple(branch.events[: branch.cursor]) != self.way.stood:
             raise Unknown(f"{self.way.branch} has changed since the search: its events before the cursor differ; search again")

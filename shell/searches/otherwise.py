@@ -22,7 +22,7 @@ def by_other_rules(lab: Laboratory, branch: Branch, sought: Sought, answer: Opti
     outcomes = there.outcomes(branch.events[: branch.cursor])
     parted = next((number for number, it in enumerate(outcomes, 1) if it.startswith("refused")), 0)
     if parted:
-        return f"{kernel.by} this branch is another run from event {parted} on, and is not searched"
+        return f"{kernel.by} this branch is a different run from event {parted} on, and is not searched"
     other = search(there, branch, sought, watch).answer
     return "" if other and is_same(answer, other) else f"{kernel.by}: {_words(other)}"
 

@@ -67,7 +67,7 @@ def _packet(words: Sequence[str]) -> str:
             raise Unknown(f"a comma is missing: `{SEARCH} {kind}, {' '.join(event)}`")
         return ""
     if event[:1] != [PACKET.word]:
-        raise Unknown(f"what {kind} is a packet: `{SEARCH} {kind} packet NODE in|out ..`; `help packet` has its form")
+        raise Unknown(f"`{SEARCH} {kind}` needs a packet: `{SEARCH} {kind} packet NODE in|out ..`; `help packet` has its form")
     return event_of(event)
 
 
@@ -98,7 +98,7 @@ class _Parts:
 
     def take(self, words: Sequence[str]) -> None:
         if not words:
-            raise Unknown("a part without a word: commas separate the parts")
+            raise Unknown("a part is empty: commas separate the parts")
         if words[0] in WHERE:
             _alone(words, 1)
             _once("where it is asked", self.scope)
@@ -175,7 +175,7 @@ def _choices(words: Sequence[str]) -> List[Tuple[str, Optional[int]]]:
     """What a part allows, and how often; nothing for a number means as often as there are events."""
     if words[0] not in EVENTS:
         meant = nearest(words[0], PARTS) or "; `help search` lists them"
-        raise Unknown(f"`{words[0]}` begins no part of a search{meant}")
+        raise Unknown(f"no part of a search begins with `{words[0]}`{meant}")
     if list(words) == [DELIVER.word, DELIVER.every]:
         return [(ANY_DELIVERY, None)]
     what, uses = _times(words)
@@ -206,7 +206,7 @@ def _times(words: Sequence[str]) -> Tuple[List[str], int]:
 def _counted(words: Sequence[str], noun: str, most: int, form: str) -> int:
     """A number, and its noun if people say it."""
     if not words or len(words) > 2 or words[1:] not in ([], [noun], [f"{noun}s"]):
-        raise Unknown(f"`{form}` has one number")
+        raise Unknown(f"`{form}` takes one number")
     return _number(words[0], most, form)
 
 

@@ -39,7 +39,7 @@ def _found(sought: Sought, outcome: Outcome, answer: Found, paint: Paint) -> Lis
     if answer.events:
         head = f"found: {counted(len(answer.events), 'event')}, a shortest way {tried}"
     else:
-        head = f"found: no event is needed, it is so where the branch stands {tried}"
+        head = f"found: no event is needed, it is so at the cursor of the branch {tried}"
     lines = [paint.head(head), *_steps(outcome.steps)]
     return lines if outcome.last is None else [*lines, *_then(sought, outcome, outcome.last, paint)]
 
@@ -114,7 +114,7 @@ def _stopped(outcome: Outcome) -> str:
     """A line that a search gave up or was interrupted, and what is known nevertheless."""
     known = "nothing is known"
     if outcome.known:
-        never = "" if outcome.known.asked else ", but it was asked nowhere"
+        never = "" if outcome.known.asked else ", but it was never asked"
         known = f"up to depth {outcome.known.depth} there is none{never}"
     if isinstance(outcome.answer, GaveUp):
         return f"gave up after {runs(outcome.answer.runs)} at depth {outcome.depth}; {known}"

@@ -30,7 +30,7 @@ WHERE: Dict[str, str] = {
     LANDED: "when no frame is in flight",
     QUIET: "when nothing is in flight or pending, and neither node serves a bulk update",
     SETTLED: "when nothing is in flight or pending, and neither node serves a bulk update or waits for one",
-    ANYWHERE: "where the branch stands and after each event",
+    ANYWHERE: "at the cursor of the branch and after each event",
 }
 EVENTS, RUNS = 8, 1_000_000
 ANY_DELIVERY = f"{ANY} {DELIVER.word}"

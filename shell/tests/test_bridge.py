@@ -57,7 +57,7 @@ class Steps(Bridged):
         self.assertIn("node a waits for no bulk update", refused["why"][1])
         self.assertIn("did you mean main?", self.step(door, "back mian 1")["why"][0])
         self.assertEqual(self.step(door, "fork main 0 main")["why"], ["there is a branch main already"])
-        self.assertEqual(self.step(door, "back main 2")["why"], ["2 events cannot be undone: 1 event of main stands"])
+        self.assertEqual(self.step(door, "back main 2")["why"], ["2 events cannot be undone: main has 1 event before the cursor"])
         self.assertIn("the event is missing", self.step(door, "step main")["why"][0])
         self.assertEqual(self.step(door, "step main tick a 1")["version"], 1)
 

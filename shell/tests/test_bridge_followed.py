@@ -185,7 +185,7 @@ class Setups(Pages):
         door = self.served(joined(program(), self.begin(1, TOO_LONG_BY_ONE), Setup.of(RULES[:-1]), out))
         self.step(door, PACKET)
         self.assertEqual(self.page(door)["branches"][0]["moments"][0]["outcome"], "pass 1.1")
-        self.assertRegex(out.getvalue().splitlines()[1], "^the server's setup is too long for it to send; the server answers looks, and what needs")
+        self.assertRegex(out.getvalue().splitlines()[1], "^the server's setup is too long for it to send; the server answers questions, and what needs")
         self.assertRegex(out.getvalue().splitlines()[3], "the setup is that of --setup$")
 
 

@@ -50,7 +50,7 @@ class Offers(unittest.TestCase):
         self.assertEqual(
             found["release a"].would,
             "the oldest packet that a holds (of state 1.1) is due at 20 ms: it has waited since 0 ms, and `defer_ms` is 20 ms; "
-            "the clock of a stands at 0 ms: `tick a 20` first",
+            "the clock of a is at 0 ms: `tick a 20` first",
         )
 
     def test_they_are_those_where_the_branch_stands(self) -> None:
@@ -126,7 +126,7 @@ class Asked(Bridged):
         for query in ("", "branch=main", "branch=Main&places=a", "places=a&branch=main", *(f"branch=main&places={it}" for it in wrong)):
             answer = self.asks(door, query)
             self.assertEqual(answer.status, 400, query)
-            self.assertIn("offers?branch=NAME&places=PLACE,.. is wanted", answer.body)
+            self.assertIn("offers?branch=NAME&places=PLACE,.. is expected", answer.body)
 
 
 if __name__ == "__main__":

@@ -160,7 +160,7 @@ class Ends(Bridged):
         watcher = self.watcher(door)
         answer = self.asked(door, "POST", f"/{door.tokens.step}/do", '{"line": "fork main 1 other"}')
         missing = f"[Errno 2] No such file or directory: '{copied}'"
-        self.assertEqual((answer.status, answer.body), (503, f"the page cannot go on: {missing}\n"))
+        self.assertEqual((answer.status, answer.body), (503, f"the page cannot continue: {missing}\n"))
         with self.assertRaises(FileNotFoundError):
             watch(door.bridge)
         self.assertEqual(watcher.update(), {"ended": missing})

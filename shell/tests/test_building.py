@@ -114,7 +114,7 @@ class Building(SmallTree):
         said = lab.communicate(timeout=60)[1]
         log = self.top / "out/lab/pfl_low.failed.log"
         self.assertEqual(lab.returncode, 125)
-        self.assertIn(f"lab: pfl_low is not proved or built; what the checker said is in {log}\n", said)
+        self.assertIn(f"lab: pfl_low is not proved or built; the checker's output is in {log}\n", said)
         self.build(QUICK).communicate(timeout=60)
         self.assertEqual(log.read_text(), "no proof of it\n")
 

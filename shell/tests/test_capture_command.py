@@ -147,7 +147,7 @@ class Selected(CaptureCase):
         for flow in ("198.51.100.7:50001", "2001:db8::90", "8.8.8.8"):
             none = self.captured(NIGHT, "--flow", flow)
             self.assertEqual((none.status, timeline(none.out)), (1, []))
-            self.assertEqual(none.out[0], "no frame of 9 has what is asked for; of all flows: 1 bulk update, 1 clear")
+            self.assertEqual(none.out[0], "none of 9 frames has what is asked for; of all flows: 1 bulk update, 1 clear")
 
     def test_times(self) -> None:
         said = self.captured(NIGHT, "--from", "12:00:01", "--to", "12:00:02").out
@@ -157,7 +157,7 @@ class Selected(CaptureCase):
         self.assertEqual(timeline(said), TIMELINE[10:12])
         self.assertEqual(said[0], "nothing found among what is asked for in 9 frames")
         none = self.captured(NIGHT, "--from", "13:00:01")
-        self.assertEqual((none.status, none.out[0]), (0, "no frame of 9 has what is asked for"))
+        self.assertEqual((none.status, none.out[0]), (0, "none of 9 frames has what is asked for"))
         self.set_zone("XYZ-11:30")
         said = self.captured(NIGHT, "--from", "2026-01-10T00:00").out
         self.assertEqual(len(timeline(said)), 2)

@@ -508,7 +508,7 @@ class Alone(CaptureCase):
         self.assertEqual(
             said.out[1],
             f"a is {A}: a guess, since one capture does not show whose it is, and is taken as that of a;"
-            " --a ADDRESS says it",
+            " --a ADDRESS settles it",
         )
         self.assertEqual(said.out[3], "a -> b: 1 frame: no capture says whether 1 came")
 

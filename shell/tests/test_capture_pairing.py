@@ -72,7 +72,7 @@ def fates(those: List[Sent]) -> List[Tuple[int, str, Optional[bool]]]:
     return [(it.message.records[0].id, it.node, it.arrived) for it in those]
 
 # A guess of the sides, by something; and how they are known by who saw a message first.
-GUESS = "a guess: {}, and nothing else shows it clearly; --a ADDRESS says it"
+GUESS = "a guess: {}, and nothing else shows it clearly; --a ADDRESS settles it"
 FIRST = "messages are in the capture of the sender first, {} ms before the other, the difference of the clocks taken off"
 
 class Laid(CaptureCase):
@@ -347,7 +347,7 @@ class OtherCaptures(CaptureCase):
             ([pcap([])], "A.pcap has no message of pfsync: is it a capture of the sync interface?"),
             ([pcap([(NOON, b"what")]), both(FIVE)[1]], f"A.pcap has no message of pfsync: is it a capture of the sync interface?{alone}"),
             ([both(FIVE)[0], pcap([(NOON, b"what")])], f"B.pcap has no message of pfsync: is it a capture of the sync interface?{alone}"),
-            ([both(FIVE)[0], both(FIVE)[0]], "A.pcap and B.pcap are one capture: one of node a and one of node b are compared"),
+            ([both(FIVE)[0], both(FIVE)[0]], "A.pcap and B.pcap are the same capture: one of node a and one of node b are compared"),
             ([b"no capture"], "A.pcap: the file is neither pcap nor pcapng"),
         ):
             with self.assertRaises(BadCapture) as fault:
@@ -360,7 +360,7 @@ class OtherCaptures(CaptureCase):
         for path in (first, str(second)):
             with self.assertRaises(BadCapture) as fault:
                 Overlay([first, path])
-            self.assertIn(" are one capture: ", str(fault.exception))
+            self.assertIn(" are the same capture: ", str(fault.exception))
 
     def test_captures_that_are_exchanged(self) -> None:
         """The address of a is given, and the captures show another one."""

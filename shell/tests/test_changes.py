@@ -56,7 +56,7 @@ class Changes(unittest.TestCase):
 
     def test_an_undone_event_says_so(self) -> None:
         self.lab.ask("back main 3")
-        self.assertEqual(self.lines(3)[1], "  it was undone: this is what it changed while it stood")
+        self.assertEqual(self.lines(3)[1], "  it was undone: this is what it changed before that")
 
     def test_no_such_event(self) -> None:
         for number in (0, 6):

@@ -67,7 +67,7 @@ class Models(unittest.TestCase):
         self.assertEqual((it.rows[0].marks[0].fate, it.rows[0].marks[0].tone), ("held 1.1", "note"))
         told = [record_words(way.frame.records) for way in it.flights.values()]
         self.assertEqual(told, [(f"insert 1.1 (wants{KEPT}ack)",), ("insert ack 1.1",)])
-        self.assertEqual(it.rows[2].marks[0].words, ("taken 1:", "1 held let go"))
+        self.assertEqual(it.rows[2].marks[0].words, ("taken 1:", "1 held released"))
 
     def test_packets_outside_the_window_have_their_numbers(self) -> None:
         flow = "tcp 10.0.0.1:1000 192.0.2.9:80"

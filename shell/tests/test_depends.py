@@ -54,9 +54,9 @@ class Kernels(unittest.TestCase):
         for own, other, wanted in (
             (PROFILE, by("loose", "window"), "by kernel window, loose"),
             (PROFILE, EVERY, "by kernel all"),
-            (by("merge"), by("merge", "expiry"), "with kernel expiry besides"),
+            (by("merge"), by("merge", "expiry"), "also with kernel expiry"),
             (by("merge", "expiry"), by("merge"), "without kernel expiry"),
-            (by("merge", "expiry"), by("merge", "scale"), "with kernel scale besides and without kernel expiry"),
+            (by("merge", "expiry"), by("merge", "scale"), "also with kernel scale and without kernel expiry"),
             (by("merge"), PROFILE, "by the profile"),
             (by("merge"), EVERY, "by kernel all"),
         ):
@@ -184,12 +184,12 @@ class Answers(unittest.TestCase):
         self.assertTrue(found.depends)
         self.assertEqual(found.lines, [
             "it: 5 events, by the profile; then by each word of `kernel` and all of them",
-            "by kernel loose: 1 packet gets another verdict",
+            "by kernel loose: 1 packet gets a different verdict",
             "  event 5 (line 10): drop window -> pass 1.1",
             "    packet b out tcp 10.0.0.1:1000 192.0.2.9:80 PA 101 501 60000 400",
             "    by kernel loose it passes nevertheless: where the other end was not heard, a packet may begin 67035 before lo, and end 67035"
             " after hi",
-            "  main ends otherwise: changed on b (numbers): tcp 10.0.0.1:1000 -> 192.0.2.9:80",
+            "  main ends differently: changed on b (numbers): tcp 10.0.0.1:1000 -> 192.0.2.9:80",
             "by kernel all: as by kernel loose",
             "no other word changes anything: window, merge, expiry, reset, scale",
             "how sure we are that FreeBSD has loose: 95%; that it moves the other end's hi: 85% (docs/REAL.md)",
@@ -205,7 +205,7 @@ class Answers(unittest.TestCase):
 
     def test_several_words_together(self) -> None:
         lines = of_lines(CLOSED).lines
-        at = lines.index("by kernel window, loose together: 1 packet gets another verdict")
+        at = lines.index("by kernel window, loose together: 1 packet gets a different verdict")
         self.assertEqual(lines[at + 1], "  event 7 (line 9): drop window -> pass 1.1")
         self.assertIn("by kernel all: as by kernel window, loose together", lines)
 
@@ -215,7 +215,7 @@ class Answers(unittest.TestCase):
         heads = [it.split(":")[0] for it in lines if it.startswith("by kernel")]
         self.assertEqual(heads, ["by kernel loose", "by kernel all"])
         lines = of_lines([*SESSION, "show main", BLIND]).lines
-        self.assertIn("by kernel window: 1 packet gets another verdict, 1 reply that shows the pair", lines)
+        self.assertIn("by kernel window: 1 packet gets a different verdict, 1 reply that shows the pair", lines)
 
     def test_an_earlier_event_made_the_difference(self) -> None:
         lines = of_script(program(), lines_of(read(f"{TOP}/examples/late-update.pfl")), "it", False, PLAIN).lines
@@ -226,7 +226,7 @@ class Answers(unittest.TestCase):
 
     def test_another_run(self) -> None:
         lines = of_lines([*SESSION, BLIND, "step main tick a 200000", "step main purge a", "step main kill a 1.1", "step main tick a 1"]).lines
-        self.assertIn("  from event 7 on it is another run, and nothing after it is compared", lines)
+        self.assertIn("  from event 7 on it is a different run, and nothing after it is compared", lines)
         self.assertIn("by kernel all: every reply as it was", lines)
 
     def test_each_reply(self) -> None:
@@ -241,12 +241,12 @@ class Answers(unittest.TestCase):
     def test_a_line_of_its_own(self) -> None:
         """The night by `kernel loose`: without it the packet is dropped, as by the profile."""
         lines = of_lines(["kernel loose", *NIGHT]).lines
-        self.assertEqual(lines[0], "it: 5 events, by kernel loose; then by each word added or taken away, all of them, and none")
-        self.assertIn("by the profile: 1 packet gets another verdict", lines)
+        self.assertEqual(lines[0], "it: 5 events, by kernel loose; then by each word added or removed, all of them, and none")
+        self.assertIn("by the profile: 1 packet gets a different verdict", lines)
         self.assertIn("  event 5 (line 11): pass 1.1 -> drop window", lines)
         self.assertIn("by kernel all: every reply as it was", lines)
         # (by `window` what was not heard is acknowledged as well, and moves the other end's `hi`)
-        self.assertIn("with kernel window besides: only the end", lines)
+        self.assertIn("also with kernel window: only the end", lines)
         self.assertIn("no other word changes anything: merge, expiry, reset, scale", lines)
 
     def test_branches(self) -> None:

@@ -195,7 +195,7 @@ class BetweenBranches(unittest.TestCase):
         lab = laboratory(f"{self.SETUP}{QUERY}\nfork main 1 other\nstep other flush a")
         expected = [
             "main and other show pairs that differ in 3 places",
-            "their events part at number 2:",
+            "their events diverge at number 2:",
             "  main: no more events",
             "  other: flush a",
             "a: queue 1.1 only in main: insert, number 1",
@@ -211,7 +211,7 @@ class BetweenBranches(unittest.TestCase):
         expected = [
             # The clock; the counter; both levels and the class of 1.1. Both branches still have its insertion queued.
             "main and other show pairs that differ in 5 places",
-            "their events part at number 2:",
+            "their events diverge at number 2:",
             f"  main: {answer}",
             "  other: tick a 1000",
             "a: clock: 0 s | 1 s",
@@ -233,7 +233,7 @@ class BetweenBranches(unittest.TestCase):
         # Without its setup, as of a server, only their logs are known to differ.
         lab.knows_setup = False
         told = between_branches(lab, lab.branch("main"), lab.branch("other"), PLAIN)
-        self.assertEqual(told[:2], ["main and other show the same pair", "their events part at number 1:"])
+        self.assertEqual(told[:2], ["main and other show the same pair", "their events diverge at number 1:"])
         lab.close()
 
 

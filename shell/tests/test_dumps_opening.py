@@ -300,7 +300,7 @@ class Missed(OpeningCase):
         self.assertEqual((said.status, said.err[-1]), (2, f"lab: {full}: --flow ADDRESS[:PORT] takes those of one address"))
         self.assertFalse((self.room / SCRIPT).exists())
         said = self.opened(dump, QUERY, "--flow", "10.0.1.2")
-        only = "of both dumps only the states that have 10.0.1.2 at an end; so all numbers are of these"
+        only = "of both dumps only the states that have 10.0.1.2 at an end; all numbers count only these"
         self.assertEqual(said.err[-3:], [only, there_of("a", 1, 1, 1), there_of("b", 0, 0, 0)])
 
 

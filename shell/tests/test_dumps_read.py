@@ -72,7 +72,7 @@ class Forms(DumpCase):
         self.assertGreater(len("".join(states)), 2 * BLOCK)
         said = self.compared("".join(states), "x\n" + "".join(states))
         self.assertEqual((said.status, said.out[0]), (0, "a and b agree in 4000 states"))
-        self.assertEqual(said.err, ["lab: b:1: not understood: x", "lab: b: 1 line was not understood and passed over"])
+        self.assertEqual(said.err, ["lab: b:1: not understood: x", "lab: b: 1 line was not understood and skipped"])
 
 
 class WithoutNames(DumpCase):
@@ -132,7 +132,7 @@ class NotUnderstood(DumpCase):
         said = self.compared("".join(ALL), with_bad)
         self.assertEqual((said.status, said.out), (0, NOTHING), bad)
         first = f"lab: b:{number}: not understood: {shown or bad.strip()}"
-        self.assertEqual(said.err, [first, "lab: b: 1 line was not understood and passed over"])
+        self.assertEqual(said.err, [first, "lab: b: 1 line was not understood and skipped"])
 
     def test_each_bad_line(self) -> None:
         for bad in (
@@ -180,7 +180,7 @@ class NotUnderstood(DumpCase):
         said = self.compared(QUERY, QUERY + broken)
         self.assertEqual((said.status, said.out[0]), (0, "a and b agree in 1 state"))
         self.assertEqual([it.split(": ")[1] for it in said.err], ["b:4", "b:5", "b:6", "b:7", "b:8", "b"])
-        self.assertEqual(said.err[-1], "lab: b: 5 lines were not understood and passed over")
+        self.assertEqual(said.err[-1], "lab: b: 5 lines were not understood and skipped")
 
     def test_control_characters_and_bytes_that_are_no_text(self) -> None:
         said = self.compared(WEB, b"\x1b[31mred\x07\n\xff\xfe\x00\n" + WEB.encode())
@@ -198,7 +198,7 @@ class NotUnderstood(DumpCase):
         said = self.compared(WEB, "again\n" * 5 + WEB)
         self.assertEqual(said.err[0], "lab: b:1: not understood: again")
         self.assertEqual(len(said.err), 2)
-        self.assertIn("b: 5 lines were not understood and passed over; each text is reported once", said.err[1])
+        self.assertIn("b: 5 lines were not understood and skipped; each text is reported once", said.err[1])
         said = self.compared(WEB, "".join(f"bad {it}\n" for it in range(100)) + WEB)
         self.assertEqual(len(said.err), MOST_REPORTED + 1)
         self.assertIn("b: 100 lines were not understood", said.err[-1])
@@ -217,8 +217,8 @@ class NotUnderstood(DumpCase):
     def test_states_that_come_again(self) -> None:
         said = self.compared(WEB + QUERY + WEB, WEB + QUERY + WEB + NAT + NAT)
         self.assertEqual(said.out[0], "a and b differ in 1 state: 0 only on a, 1 only on b (1 established TCP)")
-        self.assertIn("a: 1 state comes again; the first of each counts", said.out)
-        self.assertIn("b: 2 states come again; the first of each counts", said.out)
+        self.assertIn("a: 1 state appears again; the first of each counts", said.out)
+        self.assertIn("b: 2 states appear again; the first of each counts", said.out)
 
 
 class Damaged(DumpCase):

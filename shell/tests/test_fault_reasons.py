@@ -166,7 +166,7 @@ class FaultReasons(unittest.TestCase):
             ("why main lose x", ["why BRANCH lose TICKET"]),
             ("frame main", ["frame BRANCH TICKET"]),
         ):
-            self.assertEqual(explain_fault(line, "bad 6 Extra")[-len(wanted) :], [f"wanted: {it}" for it in wanted])
+            self.assertEqual(explain_fault(line, "bad 6 Extra")[-len(wanted) :], [f"expected: {it}" for it in wanted])
 
     def test_the_help_shows_the_forms_that_are_shown_once(self) -> None:
         for word in (*SETUP_WORDS, *TYPED, *EVENTS):

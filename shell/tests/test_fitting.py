@@ -112,7 +112,7 @@ class Command(unittest.TestCase):
 
     def test_help(self) -> None:
         rows = self.rows("--help", last="--version  Print version")
-        at = rows.index("  import     Takes in the rules of an interface from a pf.conf, as a setup:")
+        at = rows.index("  import     Imports the rules of an interface from a pf.conf(5), as a setup:")
         self.assertEqual(rows[at + 1], "             ./lab import PF.CONF --on IF")
 
     def test_a_fault(self) -> None:

@@ -68,7 +68,7 @@ class AtOnce(unittest.TestCase):
             self.assertRegex(ran.stdout, rf"(?m)^  {word} +\w")
 
     def test_help_that_could_not_be_written_is_reported_by_every_word(self) -> None:
-        asked: List[List[str]] = [[], ["--help"], ["help", "shell"], *([it, "--help"] for it in (*READS, *shell_options()))]
+        asked: List[List[str]] = [[], ["--help"], ["help", "shell"], *([it, "--help"] for it in (*READS, "build", *shell_options()))]
         for words in asked:
             with self.subTest(words), open("/dev/full", "w", encoding="utf-8") as full:
                 ran = subprocess.run((sys.executable, f"{TOP}/lab", *words), stdout=full, stderr=subprocess.PIPE, text=True, timeout=20)
@@ -108,8 +108,17 @@ class AtOnce(unittest.TestCase):
     def test_try_and_the_installer_know_their_words(self) -> None:
         self.assertEqual(lab("try", "serve").returncode, 2)
         for word in ("install", "uninstall"):
-            self.assertEqual(lab(word, "a", "b").returncode, 2)
-            self.assertEqual(lab("help", word).stderr, f"lab: usage: ./lab {word} [PREFIX]\n")
+            ran = lab(word, "a", "b")
+            self.assertEqual((ran.returncode, ran.stdout, ran.stderr), (2, "", f"lab: usage: ./lab {word} [PREFIX]\n"))
+
+    def test_help_of_the_words_that_run_no_program_is_on_standard_output(self) -> None:
+        ran = lab("build", "--help")
+        self.assertEqual((ran.returncode, ran.stdout), (0, "Proves and builds the program, and says where it is\n\nUsage: ./lab build\n"))
+        for word in ("try", "build", "release", "install", "uninstall"):
+            for words in ((word, "--help"), (word, "-h"), ("help", word)):
+                ran = lab(*words)
+                self.assertEqual((ran.returncode, ran.stderr), (0, ""), words)
+                self.assertIn(f"\nUsage: ./lab {word}", ran.stdout)
 
 
 if __name__ == "__main__":

@@ -90,7 +90,7 @@ class Braces(unittest.TestCase):
         self.assertEqual(its.rules(), ["pass out"])
         without = "without the rules of this anchor the others may be stricter or laxer"
         self.assertEqual(its.said[0], f"pf.conf:1: out: `probability 5%`: nothing is left to chance here; {without}")
-        self.assertEqual(its.said[1], "pf.conf:2: out: the anchor that it is in is out")
+        self.assertEqual(its.said[1], "pf.conf:2: out: the anchor that it is in is left out")
 
     def test_very_many_in_one_another(self) -> None:
         its = taken_in("anchor {\n" * 200 + "pass in\n" + "}\n" * 200)
@@ -143,7 +143,7 @@ class Loaded(unittest.TestCase):
     def test_what_pf_never_comes_to(self) -> None:
         its = taken_in('load anchor web from "web.conf"\npass in', web_conf="block in\n")
         self.assertEqual(its.rules(), ["pass in"])
-        why = "pf never comes to these statements: no anchor of the file has this name"
+        why = "pf never reaches these statements: no anchor of the file has this name"
         self.assertEqual(its.said[0], f"pf.conf:1: approximated: {why}")
         self.assertEqual(its.said[1], "pf.conf: 1 rule of em0: 1 exact, 0 approximated, 0 out; 1 rule line a node")
 

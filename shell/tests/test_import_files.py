@@ -114,7 +114,7 @@ class Command(unittest.TestCase):
     def test_out_of_a_strict_import_nothing_is_written(self) -> None:
         its = taken_in("block in probability 5%\npass in", "--strict")
         self.assertEqual((its.status, its.setup), (4, []))
-        self.assertEqual(its.said[-1].split(": ", 1)[1], "nothing is written, since statements are out (--strict)")
+        self.assertEqual(its.said[-1].split(": ", 1)[1], "nothing is written, since statements are left out (--strict)")
         self.assertEqual(taken_in("block in on em1 probability 5%\nblock return in", "--strict").status, 0)
 
     def test_an_interface_that_no_statement_names(self) -> None:
@@ -165,7 +165,7 @@ class Command(unittest.TestCase):
         self.assertEqual(taken_in(text).status, 1)
         hundred = " ".join(str(it) for it in range(1, 400))
         its = taken_in(f"pass in proto tcp from any port {{ {hundred} }} to any port {{ {hundred} }}")
-        self.assertIn("its lists come to more than 100000 rules", its.said[0])
+        self.assertIn("its lists expand to more than 100000 rules", its.said[0])
 
     def test_rc_conf(self) -> None:
         rc = '# pfsync\npfsync_syncdev="em2"\nifconfig_pfsync0="up maxupd 5"\nifconfig_pfsync0="syncdev em2 maxupd 64 defer" # now\n'

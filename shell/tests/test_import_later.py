@@ -75,7 +75,7 @@ class Matches(unittest.TestCase):
     def test_what_an_earlier_one_has_translated(self) -> None:
         first = "match out on em0 proto esp from 10.0.0.0/24 to any nat-to 192.0.2.5"
         its = taken_in(f"{first}\nmatch out on em0 proto esp from any to any nat-to 192.0.2.6\npass out")
-        why = "in pf packets come to it that an earlier translation has translated, and here they do not"
+        why = "in pf it gets packets that an earlier translation has translated, and here it does not"
         self.assertEqual(its.said[0], f"pf.conf:2: approximated: {why}")
         its = taken_in(f"{first}\nmatch out on em0 proto esp from 10.1.0.0/24 to any nat-to 192.0.2.6\npass out")
         self.assertNotIn("approximated: ", its.said[0])

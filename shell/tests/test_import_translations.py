@@ -356,7 +356,7 @@ class NotExact(unittest.TestCase):
 
     def test_what_is_out(self) -> None:
         nets = "a net would keep the rest of each address, and addresses are translated one by one here"
-        families = "pfctl refuses it: its addresses are of two families, so it comes to no rule"
+        families = "pfctl refuses it: its addresses are of two families, so it gives no rule"
         beyond = "its ports go beyond the last one, or from the last to the first"
         tagged = "`tagged X`: packets of the laboratory have no tags, and this file gives them this one"
         for text, why in (
@@ -439,7 +439,7 @@ class Said(unittest.TestCase):
         self.assertEqual([(origin(it), is_of_import(it)) for it in others], [("", False)] * len(others))
 
 
-NO_ROUTES = "the laboratory has no routes: every address has one, and no packet fails the reverse path test"
+NO_ROUTES = "the laboratory has no routes: every address counts as having one, and no packet fails the reverse path test"
 
 if __name__ == "__main__":
     unittest.main()

@@ -213,7 +213,7 @@ class Rules(unittest.TestCase):
         self.approximated("pass in rtable 1", "`rtable` is left out: the laboratory has no routes", "pass in")
 
     def test_what_packets_of_the_laboratory_do_not_have(self) -> None:
-        routes = "the laboratory has no routes: every address has one, and no packet fails the reverse path test"
+        routes = "the laboratory has no routes: every address counts as having one, and no packet fails the reverse path test"
         self.approximated("block in from no-route", routes)
         self.approximated("block in from urpf-failed", routes)
         self.approximated("pass in from ! no-route", routes, "pass in")
@@ -326,7 +326,7 @@ class Settings(unittest.TestCase):
     def test_what_is_above_the_limits_here(self) -> None:
         its = taken_in("set limit states 1000000")
         self.assertEqual(its.settings, ["set states 65536", "set astart 131072", "set aend 131072"])
-        most = "becomes 65536, the most that there is here"
+        most = "becomes 65536, the maximum here"
         never = "timeouts never shrink here: pf shortens them with more than {} states, and there are at most 65536 here"
         self.assertEqual(its.said[0], f"pf.conf:1: approximated: `states 1000000` {most}; {never.format(600000)}")
         # pfctl begins at 60% of a limit: 65400 states are still few enough, and 66000 are too many.

@@ -118,7 +118,7 @@ class RandomNights(Nights):
             made = self.infer(captures, *words)
             self.assertIn(made.status, (0, 1, 2), seed)
             self.assertTrue(made.script or made.status == 2 and made.said, (seed, made.said))
-            self.assertNotIn("not as the replies let expect", " ".join(made.said), seed)
+            self.assertNotIn("not as the replies suggest", " ".join(made.said), seed)
 
     def content(self, path: str) -> bytes:
         with open(path, "rb") as it:

@@ -117,7 +117,7 @@ class Others(unittest.TestCase):
         reset = "kernel reset\n" + KNOWN + PACKET + "A 5001 9001 100 0\n" + FAR_PACKET + "R 9500 0 0 0\n"
         lines = reset + "step main tick a 100000\nstep main purge a\nstep main kill a 1.1\n"
         self.assertEqual(others(lines), ["by the profile it is `refused NoSuchState` (docs/REAL.md)"])
-        self.assertEqual(others(lines + "step main tick a 1\n"), ["by the profile the run is another one since event 7 (docs/REAL.md)"])
+        self.assertEqual(others(lines + "step main tick a 1\n"), ["by the profile the run is a different one since event 7 (docs/REAL.md)"])
 
     def test_of_a_long_run_only_depends_asks(self) -> None:
         with patch.object(marks, "MOST_EVENTS", 3):

@@ -105,7 +105,7 @@ class Kernels(Dialogue):
                 "`revive` is no rule of the kernel: expected `window`, `loose`, `merge`, `expiry`, `reset`, `scale` or `all`",
                 "  kernel loose revive",
                 "               ^^^^^^",
-                "wanted: kernel WORD..",
+                "expected: kernel WORD..",
                 "this line is left out of the setup: bad 3 Unknown",
             ],
         )
@@ -179,7 +179,7 @@ class Answers(Dialogue):
         """By the profile the reset in the window closes the state, which is purged; by the kernel it is there and can be killed."""
         night = [*FAILOVER, SYN_ACK, ACK, RESET, "tick a 200000", "purge a"]
         said = self.said(self.shell("kernel all", *RULES, *night, "kill a 1.1"), f"search drops {DATA}, anywhere")
-        self.assertEqual(said[-1], "by the profile this branch is another run from event 9 on, and is not searched")
+        self.assertEqual(said[-1], "by the profile this branch is a different run from event 9 on, and is not searched")
 
     def test_faults_are_tried_by_them(self) -> None:
         shell = self.shell("kernel loose", *RULES, *FAILOVER, DATA)
@@ -199,7 +199,7 @@ class Answers(Dialogue):
     def test_faults_of_another_run_are_not_tried(self) -> None:
         night = [*FAILOVER, SYN_ACK, ACK, RESET, "tick a 200000", "purge a", "kill a 1.1"]
         said = self.said(self.shell("kernel all", *RULES, *night), "whatif --faults lose")
-        self.assertEqual(said[-1], "by the profile the run is another one from event 9 on, and its faults are not tried")
+        self.assertEqual(said[-1], "by the profile the run is a different one from event 9 on, and its faults are not tried")
         self.assertFalse([it for it in said if it.startswith("   by ")])
 
     def test_an_import_has_no_such_line(self) -> None:

@@ -218,7 +218,7 @@ RECORDS: Cases = {
     "left of a timeout that is not cut": (
         "kernel expiry\n" + LONGER,
         [
-            "1. insert 1.1: new: inserted; last used at 540000 ms, which is after b's clock",
+            "1. insert 1.1: new: inserted; last used at 540000 ms, which is ahead of b's clock",
             "without the number of its rule, since the sender's rules are not those of b: 1.1",
             "by kernel expiry 1.1 lives until 600000 ms, and by the profile until 60000 ms",
         ],
@@ -240,7 +240,7 @@ RECORDS: Cases = {
             "1. short update 1.1: merged in part, counted as stale: the source end is taken; "
             "the destination end's lo 10001 here is after the 9001 that came; last used at 0 ms; "
             "b has its own state queued for a already (short update)",
-            "a would find b's own 1.1 stale in turn, unless it has heard more since: by this project's profile the two can go on so without "
+            "a would find b's own 1.1 stale in turn, unless it has heard more since: by this project's profile the two can continue like this without "
             "end; by kernel merge they come to rest, unless their frames keep crossing (docs/REAL.md)",
             TAKES.format("the destination end of 1.1 too, since the source end is not stale (by kernel merge; docs/REAL.md)"),
         ],

@@ -52,7 +52,7 @@ class Lines(unittest.TestCase):
     def test_a_fault_is_shown_at_its_word(self) -> None:
         self.assertEqual(
             explain_fault("kernel loose windw", "line 3 Unknown"),
-            ["`windw` is no rule of the kernel (did you mean `window`?)", "  kernel loose windw", "               ^^^^^", "wanted: kernel WORD.."],
+            ["`windw` is no rule of the kernel (did you mean `window`?)", "  kernel loose windw", "               ^^^^^", "expected: kernel WORD.."],
         )
         self.assertEqual(
             explain_fault("kernel", "line 4 Missing")[:3],
@@ -126,7 +126,7 @@ class Words(unittest.TestCase):
         for it in SWITCHES.values():
             self.assertIn(f" {it.word}: {it.what} ({it.sure}) ", text)
         self.assertIn(" all: all of these ", text)
-        self.assertIn("as far as we know its sources; nobody could look them up here", text)
+        self.assertIn("as far as we know its sources, which could not be looked up here", text)
         self.assertIn("docs/KERNEL.md", text)
 
     def test_the_page_has_them_in_the_same_words(self) -> None:

@@ -78,7 +78,7 @@ class Places(unittest.TestCase):
         forms = [line for line in self.said("help back", "help fork") if line[0] != " "]
         self.assertEqual(forms, ["back BRANCH N", "back [BRANCH] to K", "back [BRANCH] to MARK", "fork BRANCH K NEW", "fork here NEW"])
         listed = self.said("help")
-        for it in ("back to   goes to where", "fork here makes a branch"):
+        for it in ("back to   moves the cursor", "fork here makes a branch"):
             self.assertTrue(any(line.startswith(f"  {it}") for line in listed), it)
 
 

@@ -239,7 +239,7 @@ class Long(Followers):
 
     def test_of_a_longer_one_all_is_asked_of_the_server(self) -> None:
         lab = self.laboratory(self.serve(1, TOO_LONG_BY_ONE))
-        looks = "the server's setup is too long for it to send; the server answers looks"
+        looks = "the server's setup is too long for it to send; the server answers questions"
         told = f"{looks}, and what needs the setup needs --setup FILE, the file that it read"
         self.assertEqual((lab.join(), lab.shared, lab.knows_setup), (told, None, False))
         shell = Shell(lab, io.StringIO(), PLAIN)
@@ -250,7 +250,7 @@ class Long(Followers):
 
     def test_the_setup_of_a_file_is_taken_for_a_longer_one(self) -> None:
         lab = self.laboratory(self.serve(1, TOO_LONG_BY_ONE), Setup.of(RULES[:-1]))
-        told = "the server's setup is too long for it to send; the server answers looks, and the setup is that of --setup"
+        told = "the server's setup is too long for it to send; the server answers questions, and the setup is that of --setup"
         self.assertEqual((lab.join(), lab.shared, lab.setup), (told, None, Setup.of(RULES[:-1])))
         shell = Shell(lab, io.StringIO(), PLAIN)
         self.said(shell, QUERY)
@@ -280,7 +280,7 @@ class Given(Followers):
         shared_by = lab.session
         assert isinstance(shared_by, Client)
         shared_by.wait()
-        told = "the program here does not take the server's setup: bad 3 Unknown; the server answers looks"
+        told = "the program here does not take the server's setup: bad 3 Unknown; the server answers questions"
         self.assertEqual((lab.join(), lab.knows_setup, lab.names()), (told, False, ["main"]))
 
 

@@ -48,7 +48,7 @@ class Broken(Followers):
         lab.ask(STEP)
         self.kill(lab)
         self.assertEqual(lab.show("main").events, 1)
-        told = "the mirror of the server's pair is no longer used, and the server answers looks: the program has ended"
+        told = "the mirror of the server's pair is no longer used, and the server answers questions: the program has ended"
         self.assertEqual(said, [told])
         self.assertEqual(lab.ask("step main flush a"), ["step sent 1 148 dropped 0"])
         self.assertEqual(lab.show("main").events, 2)

@@ -173,7 +173,7 @@ class Paper(PageCase):
             self.assertEqual(text.count(words), 1, words)
 
     def test_no_heading_is_the_last_thing_on_a_page(self) -> None:
-        parts = r"Node [ab]|clock .*|Counters|Numbers|In flight|Waits to be sent|Changed by this event|at [ab]|Setup|node [ab], boot \d"
+        parts = r"Node [ab]|clock .*|Counters|Numbers|In flight|Waiting to be sent|Changed by this event|at [ab]|Setup|node [ab], boot \d"
         heading = re.compile(rf"{parts}|The story of \S+|\S+( \(an earlier run\))?: \d+ events|The pair .*|[≠=] a and b .*")
         for height in (8, 9.2, 10, 11, 11.7, 13):
             self.open(example("lost-bulk-frame"), "#main/21")

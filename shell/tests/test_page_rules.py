@@ -38,7 +38,7 @@ class Data(unittest.TestCase):
         found = rules(["kernel reset", *SESSION, BLIND.replace("3000000000", "1000"), *purge, "step main kill a 1.1", "step main tick a 1"])
         self.assertEqual(found[3:], [
             ["by the profile: pass 1.1"], [], ["by the profile: purged 1"],
-            ["by the profile: refused NoSuchState", "by the profile: another run from here on"], [],
+            ["by the profile: refused NoSuchState", "by the profile: a different run from here on"], [],
         ])
 
     def test_only_the_first_events_of_a_long_branch_are_asked_about(self) -> None:

@@ -45,9 +45,9 @@ class Story(PageCase):
         self.open(RUN, "#main/0")
         self.assertEqual(self.ways("main", 1), ())
         self.assertEqual(self.ways("main", 2), ("Branch later begins here",))
-        self.assertEqual(self.ways("main", 3), ("The earlier run main~1 goes on differently",))
-        self.assertEqual(self.ways("main~1", 3), ("Branch main goes on differently",))
-        self.assertEqual(self.ways("later", 2), ("Branch main goes on differently", "The earlier run main~1 goes on differently"))
+        self.assertEqual(self.ways("main", 3), ("The earlier run main~1 continues differently",))
+        self.assertEqual(self.ways("main~1", 3), ("Branch main continues differently",))
+        self.assertEqual(self.ways("later", 2), ("Branch main continues differently", "The earlier run main~1 continues differently"))
         self.assertEqual(self.ways("later", 3), ())
 
     def test_a_way_goes_to_the_next_event_of_the_other_run(self) -> None:

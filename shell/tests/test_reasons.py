@@ -30,7 +30,7 @@ LAST_ACK = "step main packet a out tcp 10.0.0.1:1000 192.0.2.9:80 A 5002 9002 10
 ANSWER = "step main packet a in udp 192.0.2.9:53 10.0.0.1:1000 80\n"
 EXPIRED = (
     "state 1.1 expired at 60000 ms (last used at 0 ms, and udp.first is 60 s); "
-    "the clock of a stands at {} ms, and it is still there because no purge has deleted it"
+    "the clock of a is at {} ms, and the state is still there because no purge has deleted it"
 )
 FLOW = "state 1.1 (udp 10.0.0.1:1000 -> 192.0.2.9:53)"
 TCP_FLOW = "state 1.1 (tcp 10.0.0.1:1000 -> 192.0.2.9:80)"
@@ -235,7 +235,7 @@ DROPS: Cases = {
         WALLS + SYN + "step main tick a 120001\n" + ACK.format(126001, 9001),
         [
             "state 1.1 expired at 120000 ms (last used at 0 ms, and tcp.first is 120 s); "
-            "the clock of a stands at 120001 ms, and it is still there because no purge has deleted it"
+            "the clock of a is at 120001 ms, and the state is still there because no purge has deleted it"
         ],
     ),
     "window, an update was lost": (
@@ -258,12 +258,12 @@ PASSES: Cases = {
     ),
     "no rule": (
         "rule a block in\nopen\n" + QUERY,
-        ["no rule of a matches it, which has 1 rule: what no rule matches passes, without a state"],
+        ["no rule of a matches it (a has 1 rule): a packet that no rule matches passes, without a state"],
     ),
     "no rule, but for its flags": (
         "rule a pass out\nopen\nstep main packet a out tcp 10.0.0.1:1000 192.0.2.9:80 A 1 2 3 4",
         [
-            "no rule of a matches it, which has 1 rule: what no rule matches passes, without a state",
+            "no rule of a matches it (a has 1 rule): a packet that no rule matches passes, without a state",
             "rule 0 of a (pass out) would pass it, but for its flags A",
             "a pass rule without `flags any` takes only a TCP packet that begins a connection: SYN without ACK",
         ],
@@ -271,14 +271,14 @@ PASSES: Cases = {
     "an answer from the end before a redirection": (
         "rule a pass in rdr 10.0.0.80:8080\nopen\n" + REDIRECTED.format(1) + "step main packet a out udp 203.0.113.1:80 192.0.2.7:5000 80",
         [
-            "no rule of a matches it, which has 1 rule: what no rule matches passes, without a state",
+            "no rule of a matches it (a has 1 rule): a packet that no rule matches passes, without a state",
             "state 1.1 (udp 10.0.0.80:8080 (203.0.113.1:80) <- 192.0.2.7:5000) of a is translated: "
             "on the way out its stack key counts, with 10.0.0.80:8080, and the packet has 203.0.113.1:80",
         ],
     ),
     "a new connection": (
         OPEN + SYN + SYN_ACK + RESET + SYN,
-        [f"{TCP_FLOW} was closed at both ends, and this packet begins a new connection: so it was deleted first"],
+        [f"{TCP_FLOW} was closed at both ends, and this packet begins a new connection, so the state was deleted first"],
     ),
     "a reset closes the state": (
         OPEN + SYN + SYN_ACK + RESET,
@@ -287,7 +287,7 @@ PASSES: Cases = {
     "the first FIN": (OPEN + SYN + SYN_ACK + FIN, ["it begins to close the state: ESTABLISHED:SYN_SENT -> CLOSING:ESTABLISHED"]),
     "the second FIN": (
         OPEN + SYN + SYN_ACK + FIN + FAR_FIN,
-        ["it goes on closing the state: CLOSING:ESTABLISHED -> FIN_WAIT_2:CLOSING"],
+        ["it continues to close the state: CLOSING:ESTABLISHED -> FIN_WAIT_2:CLOSING"],
     ),
     "the acknowledgement of the second FIN": (
         OPEN + SYN + SYN_ACK + FIN + FAR_FIN + LAST_ACK,
@@ -299,7 +299,7 @@ PASSES: Cases = {
         "set astart 1\nset aend 3\n" + WALLS + QUERY + SECOND + "step main tick a 30000\n" + QUERY,
         [
             "state 1.1 expired at 30000 ms (last used at 0 ms, and udp.first is 60 s, scaled to 30 s); "
-            "the clock of a stands at 30000 ms, and it is still there because no purge has deleted it"
+            "the clock of a is at 30000 ms, and the state is still there because no purge has deleted it"
         ],
     ),
     "the peer would block it, since the state was not sent": (
@@ -352,7 +352,7 @@ REFUSALS: Cases = {
         WALLS + QUERY + FLUSH + "step main deliver 7",
         [
             "no frame in flight has the ticket 7; in flight: 1 (to b)",
-            "frame 7 was not sent yet: the next frame gets the ticket 2",
+            "frame 7 has not been sent yet: the next frame gets the ticket 2",
         ],
     ),
     "nothing to send": (
@@ -369,15 +369,15 @@ REFUSALS: Cases = {
     "queue full": (
         "set queue 1\n" + WALLS + QUERY + SECOND,
         [
-            "at some point of the event more would be pending at a than allowed: the limit `queue` is 1",
+            "during the event more would be pending at a than allowed: the limit `queue` is 1",
             "pending before it: 1 (1 state, 0 requests, 0 bulk statuses, 0 clears)",
         ],
     ),
     "clock full": (
         WALLS + "step main tick a 999999999999\nstep main tick a 2",
         [
-            "the clock of a stands at 999999999999 ms, and 2 ms more would pass its last, 1000000000000 ms",
-            "it can go on by 1 ms at most",
+            "the clock of a is at 999999999999 ms, and 2 ms more would pass its maximum, 1000000000000 ms",
+            "it can advance by 1 ms at most",
         ],
     ),
     "serving nobody": (
@@ -386,20 +386,20 @@ REFUSALS: Cases = {
     ),
     "waiting for nothing": (
         WALLS + "step main retry a",
-        ["node a waits for no bulk update: it has asked for none, or its end has come"],
+        ["node a waits for no bulk update: it has asked for none, or the end of the update has come"],
     ),
     "too early to release": (
         "set defer 1\n" + WALLS + QUERY + "step main tick a 15\nstep main release a",
         [
             "the oldest packet that a holds (of state 1.1) is due at 20 ms: it has waited since 0 ms, and `defer_ms` is 20 ms",
-            "the clock of a stands at 15 ms: `tick a 5` first",
+            "the clock of a is at 15 ms: `tick a 5` first",
         ],
     ),
     "too early to retry": (
         WALLS + "step main restart a\nstep main tick a 1\nstep main retry a",
         [
             "a can ask for all states again at 10000 ms: it has waited since 0 ms, and `bulk_ms` is 10000 ms",
-            "the clock of a stands at 1 ms: `tick a 9999` first",
+            "the clock of a is at 1 ms: `tick a 9999` first",
         ],
     ),
 }
@@ -410,22 +410,22 @@ COMMANDS: Cases = {
     "bad name, its first letter": (WALLS + "fork main 0 X", ["`X` begins with `X`"]),
     "bad name, another letter": (WALLS + "fork main 0 a_b", ["`a_b` has a `_`"]),
     "bad name, too long": (WALLS + "fork main 0 abcdefghijklmnopq", ["`abcdefghijklmnopq` has 17 characters"]),
-    "too far back": (WALLS + QUERY + "back main 3", ["3 events cannot be undone: 1 event of main stands"]),
+    "too far back": (WALLS + QUERY + "back main 3", ["3 events cannot be undone: main has 1 event before the cursor"]),
     "nothing forward": (
         WALLS + QUERY + "back main 1\nforward main 2",
         ["2 events cannot happen again: 1 undone event of main is after the cursor"],
     ),
-    "a fork of too many": (WALLS + QUERY + "fork main 2 x", ["main has 1 event, so there are no first 2 of them"]),
-    "a place after all events": (WALLS + QUERY + "past main 2", ["main has 1 event, so there are no first 2 of them"]),
-    "last branch": (WALLS + "drop main", ["main is the only branch, and one has to be left: fork another one first"]),
+    "a fork of too many": (WALLS + QUERY + "fork main 2 x", ["main has 1 event, which is less than 2"]),
+    "a place after all events": (WALLS + QUERY + "past main 2", ["main has 1 event, which is less than 2"]),
+    "last branch": (WALLS + "drop main", ["main is the only branch, and one has to remain: fork another one first"]),
     "branches full": (
         WALLS + "".join(f"fork main 0 b{it}\n" for it in range(16)),
-        ["there are 16 branches, and at most 16 can be: `drop` one first"],
+        ["there are 16 branches, and at most 16 are possible: `drop` one first"],
     ),
     "no event 0": (WALLS + QUERY + "excise main 0", ["events are counted from 1"]),
     "no event": (WALLS + QUERY + "excise main 2", ["main has 1 event: there is no event 2"]),
-    "no frame": (WALLS + QUERY + FLUSH + "frame main 2", ["no event of main sent a frame under the ticket 2: of 1 frame the last has the ticket 1"]),
-    "no frame at all": (WALLS + "frame main 1", ["no event of main sent a frame under the ticket 1: they sent none"]),
+    "no frame": (WALLS + QUERY + FLUSH + "frame main 2", ["no event of main sent a frame under the ticket 2: its events sent 1 frame, the last under the ticket 1"]),
+    "no frame at all": (WALLS + "frame main 1", ["no event of main sent a frame under the ticket 1: its events sent none"]),
     "nothing excised": (
         WALLS + "restore main",
         ["main has nothing to bring back: no event was taken out, or an event was accepted or restored since"],
@@ -433,15 +433,15 @@ COMMANDS: Cases = {
     "an excision": (
         WALLS + QUERY + FLUSH + "step main deliver 1\nexcise main 1",
         [
-            "without event 1 events 2 and 3 of main would be refused, and fell out too, by the places in the list as it was",
+            "without event 1, events 2 and 3 of main (by their places in the list as it was) would be refused, and fell out too",
             "`restore main` brings all of them back, until an event is accepted",
         ],
     ),
     "an excision alone": (
         WALLS + QUERY + SECOND + "excise main 1",
-        ["every other event of main was accepted without event 1 too: none fell out with it"],
+        ["every other event of main was accepted without event 1 as well, so none fell out with it"],
     ),
-    "a faulty line": (WALLS + "step main flush c", ["expected `a` or `b`, found `c`", "wanted: step BRANCH flush NODE"]),
+    "a faulty line": (WALLS + "step main flush c", ["expected `a` or `b`, found `c`", "expected: step BRANCH flush NODE"]),
 }
 
 # Three flows, of which the second one has five seconds.
@@ -451,11 +451,11 @@ THIRD = "step main packet a out udp 10.0.0.3:1000 192.0.2.9:53 40\n"
 PURGES: Cases = {
     "nothing has expired": (
         WALLS + QUERY + "step main tick a 59999\nstep main purge a",
-        ["the clock of a stands at 59999 ms", "of the 1 state left the next expires at 60000 ms"],
+        ["the clock of a is at 59999 ms", "1 state remains; it expires at 60000 ms"],
     ),
     "the last state": (
         WALLS + QUERY + "step main tick a 60000\nstep main purge a",
-        [f"{FLOW} expired at 60000 ms: last used at 0 ms, and udp.first is 60 s", "no state is left"],
+        [f"{FLOW} expired at 60000 ms: last used at 0 ms, and udp.first is 60 s", "no states remain"],
     ),
     "timeouts of a rule and of the setup": (
         "set timeout udp.first 7\n" + HALVED.replace("aend 4", "aend 0") + QUERY + SECOND + "step main tick a 7000\nstep main purge a",
@@ -472,8 +472,8 @@ PURGES: Cases = {
             "timeouts of a are scaled by 1/2: it has 3 states, `astart` is 2, `aend` 4",
             "state 1.2 (udp 10.0.0.2:1000 -> 192.0.2.9:53) expired at 2000 ms: "
             "last used at 0 ms, and udp.first is 5 s (rule 1 of a), scaled to 2 s",
-            "of the 2 states left the next expires at 60000 ms",
-            "timeouts of a are whole again: it has 2 states",
+            "2 states remain; the next expires at 60000 ms",
+            "timeouts of a are no longer scaled: it has 2 states",
         ],
     ),
     # Behind the purge there are two states in place of three: two thirds are left, where it was one.
@@ -481,7 +481,7 @@ PURGES: Cases = {
         HALVED.replace("astart 2", "astart 1") + QUERY + SECOND + THIRD + "step main tick a 1000\nstep main purge a",
         [
             "timeouts of a are scaled by 1/3: it has 3 states, `astart` is 1, `aend` 4",
-            "of the 2 states left the next expires at 40000 ms",
+            "2 states remain; the next expires at 40000 ms",
             "timeouts of a are scaled by 2/3: it has 2 states, `astart` is 1, `aend` 4",
         ],
     ),
@@ -490,7 +490,7 @@ PURGES: Cases = {
         [
             "timeouts of a are all 0 s: it has 1 state, `astart` is 0, `aend` 1",
             f"{FLOW} expired at 0 ms: last used at 0 ms, and udp.first is 60 s, scaled to 0 s",
-            "no state is left",
+            "no states remain",
         ],
     ),
 }
@@ -509,12 +509,12 @@ HELD: Cases = {
 SENDS: Cases = {
     "a clear of no state": (
         WALLS + "step main clear a",
-        ["a has no state to give up", "a clear is listed: b is to give up those of boot 1 up to id 0"],
+        ["a has no state to clear", "a clear is listed: b is to clear those of boot 1 up to id 0"],
     ),
     "a third clear before a flush": (
         WALLS + QUERY + "step main clear a\nstep main clear a\nstep main clear a",
         [
-            "a clear is listed: b is to give up those of boot 1 up to id 1; "
+            "a clear is listed: b is to clear those of boot 1 up to id 1; "
             "it comes after 2 clears that a has not sent yet, and each is a record of its own"
         ],
     ),
@@ -530,7 +530,7 @@ WITHOUT_SETUP: Cases = {
         WALLS + QUERY + FLUSH + "step main lose 1\n" + ANSWER_AT_B,
         ["rule 0 of b decided", ABSENT + "its insertion was lost in frame 1 (event 3)"],
     ),
-    "no rule": ("open\n" + QUERY, ["no rule of a matches it: what no rule matches passes, without a state"]),
+    "no rule": ("open\n" + QUERY, ["no rule of a matches it: a packet that no rule matches passes, without a state"]),
     "max": (
         "rule a pass out max 1\nopen\n" + QUERY + SECOND,
         ["rule 0 of a decided: it may have 1 state, and has 1 now: 1.1"],
@@ -583,10 +583,10 @@ class Reasons(unittest.TestCase):
 
     def test_a_purge_tells_the_first_to_expire_first(self) -> None:
         told = [it.split(" (")[0] for it in reasons(HALVED + QUERY + SECOND + "step main tick a 60000\nstep main purge a")]
-        self.assertEqual(told, ["the clock of a stands at 60000 ms", "state 1.2", "state 1.1", "no state is left"])
+        self.assertEqual(told, ["the clock of a is at 60000 ms", "state 1.2", "state 1.1", "no states remain"])
         # A fourth state: each timeout is 0, and all expire at one time.
         told = reasons(HALVED + QUERY + SECOND + THIRD + THIRD.replace("10.0.0.3", "10.0.0.4") + "step main purge a")
-        self.assertEqual([it.split(" (")[0] for it in told[2:]], [*(f"state 1.{it}" for it in range(1, 5)), "no state is left"])
+        self.assertEqual([it.split(" (")[0] for it in told[2:]], [*(f"state 1.{it}" for it in range(1, 5)), "no states remain"])
 
     def test_the_outcome_comes_first(self) -> None:
         lab = laboratory(WALLS + ANSWER_AT_B)
@@ -609,7 +609,7 @@ class Reasons(unittest.TestCase):
         # As another session of a server does it.
         lab.session.ask("step main flush a")
         first, second, *_ = why_last(lab, PLAIN)
-        self.assertEqual(first, "another session has moved main on since; its newest event is this:")
+        self.assertEqual(first, "another session has changed main since; its newest event is this:")
         self.assertEqual(second, "flush a: sent 1 148")
 
     def test_a_new_connection_misses_no_state(self) -> None:

@@ -15,7 +15,7 @@ ANSWER = "step main packet b in udp 192.0.2.9:53 10.0.0.1:1000 80\n"
 ANSWERED = OPEN + SYN + SYNC + SYN_ACK + FLUSH
 # What the kernel does with a record instead.
 TAKES = "FreeBSD's kernel, as far as we know its sources, takes {}"
-COUNTS = "FreeBSD's kernel, as far as we know its sources, counts the last use otherwise: by kernel expiry {} (docs/REAL.md)"
+COUNTS = "FreeBSD's kernel, as far as we know its sources, counts the last use differently: by kernel expiry {} (docs/REAL.md)"
 # A connection is closed at both nodes, and the next one has its ports: a frame inserts the new state, and deletes the old one.
 CLOSED_THEN_NEW = OPEN + SYN + SYN_ACK + RESET + SYNC + SYN + FLUSH + "step main deliver 2"
 # B restarts and asks; the start comes with 1.1 in frame 3, which is lost, and the end with 1.2 in frame 4, which is in flight.
@@ -40,11 +40,11 @@ CASES: Cases = {
     ),
     "acknowledged too late": (
         "set defer 1\n" + OPEN + QUERY + SYNC + FLUSH_B + "step main tick a 20\nstep main release a\nstep main deliver 2",
-        ["1. insert acknowledgement 1.1: acknowledged: nothing waited for it any more"],
+        ["1. insert acknowledgement 1.1: acknowledged: nothing was waiting for it any more"],
     ),
     "acknowledged, but deleted": (
         "set defer 1\n" + OPEN + QUERY + SYNC + "step main flush b\nstep main kill a 1.1\nstep main deliver 2",
-        ["1. insert acknowledgement 1.1: unknown: a has no such state, and passes over it"],
+        ["1. insert acknowledgement 1.1: unknown: a has no such state, and ignores it"],
     ),
     "merged": (ANSWERED + "step main deliver 2", ["1. short update 1.1: merged: neither end is behind the one here; last used at 0 ms"]),
     "merged, by an update that was sent late": (
@@ -103,7 +103,7 @@ CASES: Cases = {
             "b has its own state queued for a already (short update)",
             # By its level b's destination end is the older one.
             "a would find b's own 1.1 stale in turn, unless it has heard more since: "
-            "by this project's profile the two can go on so without end; "
+            "by this project's profile the two can continue like this without end; "
             "by kernel merge they come to rest, unless their frames keep crossing (docs/REAL.md)",
             TAKES.format("the destination end of 1.1 too, since the source end is not stale (by kernel merge; docs/REAL.md)"),
         ],
@@ -134,7 +134,7 @@ CASES: Cases = {
     ),
     "unknown again": (
         OPEN + QUERY + FLUSH + QUERY + FLUSH + QUERY + FLUSH + "step main deliver 2\nstep main deliver 3",
-        ["1. short update 1.1: unknown: b has no such state, and asks for it already"],
+        ["1. short update 1.1: unknown: b has no such state, and has asked for it already"],
     ),
     "asked for": (
         OPEN + QUERY + FLUSH + QUERY + FLUSH + "step main deliver 2\nstep main flush b\nstep main deliver 3",
@@ -178,13 +178,13 @@ CASES: Cases = {
     ),
     "cleared": (
         OPEN + QUERY + SECOND + SYNC + "step main clear a\nstep main flush a\nstep main deliver 2",
-        ["1. clear: b gave up 2 states of boot 1 up to id 2: 1.1, 1.2"],
+        ["1. clear: b cleared 2 states of boot 1 up to id 2: 1.1, 1.2"],
     ),
     "all asked for": (
         OPEN + QUERY + SYNC + "step main restart b\nstep main flush b\nstep main deliver 2",
         [
             "1. update request of all states: a begins a bulk update",
-            "as a is after this frame, the bulk update has 1 state to send: 1.1",
+            "after this frame the bulk update of a has 1 state to send: 1.1",
         ],
     ),
     "all asked for, where nothing may be sent": (
@@ -193,13 +193,13 @@ CASES: Cases = {
         + (QUERY + SECOND + "step main restart b\nstep main flush b\nstep main deliver 1"),
         [
             "1. update request of all states: a begins a bulk update",
-            "as a is after this frame, the bulk update has 0 states to send; "
-            "turns pass over states that are queued already or `no-sync`",
+            "after this frame the bulk update of a has 0 states to send; "
+            "turns skip states that are already queued or `no-sync`",
         ],
     ),
     "all asked for, with a state in the same frame": (
         "rule b pass out\nopen\nstep main restart b\n" + QUERY.replace(" a ", " b ") + "step main flush b\nstep main deliver 1",
-        ["as a is after this frame, the bulk update has 1 state to send: 3.1"],
+        ["after this frame the bulk update of a has 1 state to send: 3.1"],
     ),
     "all asked for, where there is no state": (
         OPEN + "step main restart b\nstep main flush b\nstep main deliver 1",
@@ -208,7 +208,7 @@ CASES: Cases = {
     "the end of a bulk update": (
         OPEN + "step main restart b\nstep main flush b\nstep main deliver 1\nstep main flush a\nstep main deliver 2",
         [
-            "1. bulk status end: the server says that it is at the end; b, which was waiting, no longer waits, whatever came",
+            "1. bulk status end: the server says that it is at the end; b, which was waiting, no longer waits, whatever arrived",
         ],
     ),
     "the start of a bulk update": (
@@ -216,13 +216,13 @@ CASES: Cases = {
             "step main turn a\nstep main flush a\nstep main deliver 3"
         )[0]
         + "step main turn a\nstep main flush a\nstep main deliver 3",
-        ["2. bulk status start: the bulk update begins, and b goes on waiting for its end"],
+        ["2. bulk status start: the bulk update begins, and b continues to wait for its end"],
     ),
     "the end of a bulk update without its start": (
         UNHEARD + "step main deliver 4",
         [
             "1. update 1.2: new: inserted, since b did not know the state; last used at 0 ms",
-            "2. bulk status end: the server says that it is at the end; b, which was waiting, no longer waits, whatever came",
+            "2. bulk status end: the server says that it is at the end; b, which was waiting, no longer waits, whatever arrived",
             "b has not heard the start since it asked for all states (event 5, `restart b`): frame 3, which had it, was lost "
             "(event 10)",
         ],

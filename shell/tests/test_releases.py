@@ -65,8 +65,8 @@ class Releases(SmallTree):
         self.change_source()
         status, out, said = self.run_it(NO_CHECKER, "lab", "run")
         self.assertEqual((status, out), (125, ""))
-        self.assertRegex(said, r"^lab: no program of this tree is built here, and release 1 is of another tree\. \./lab build .* in about \d+ minutes")
-        self.assertIn("./lab --release WORD takes that release", said)
+        self.assertRegex(said, r"^lab: no program is built from this tree, and release 1 does not match it\. \./lab build .* in about \d+ minutes")
+        self.assertIn("./lab --release WORD uses that release", said)
         self.assertEqual(self.run_it(NO_CHECKER, "lab", "--release", "run"), (0, "ran run\n", ""))
 
     def test_a_release_with_one_byte_changed_is_refused(self) -> None:
@@ -112,7 +112,7 @@ class Releases(SmallTree):
         self.change_source()
         changing = QUICK + f'if [ "$crate" = pfl_lab ]; then echo "//! More." >> {self.top}/crates/pfl_side/src/lib.rt; fi\n'
         status, _, said = self.run_it(changing, "lab", "release")
-        self.assertEqual((status, said.splitlines()[-1][:53]), (125, "lab: the sources changed while they were built, and t"))
+        self.assertEqual((status, said.splitlines()[-1][:53]), (125, "lab: the sources changed during the build, and the st"))
         self.assertRegex((self.top / releases.RECORD).read_text(), r"^release 1\n")
 
     def test_a_changed_tree_has_the_next_number(self) -> None:

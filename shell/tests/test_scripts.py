@@ -30,19 +30,19 @@ class Verify(unittest.TestCase):
 
     def test_a_wrong_reply_is_told_with_its_line(self) -> None:
         text = RIGHT.replace("pass 1.1", "pass 1.2")
-        self.assertEqual(self.told(text), "6: reply\n  wanted: step pass 1.2 dropped 0\n  came:   step pass 1.1 dropped 0")
+        self.assertEqual(self.told(text), "6: reply\n  expected: step pass 1.2 dropped 0\n  got:      step pass 1.1 dropped 0")
 
     def test_a_reply_that_is_not_expected_is_told_at_its_command(self) -> None:
         text = RIGHT.replace("#> names main\n", "")
-        self.assertEqual(self.told(text), "7: reply\n  wanted: nothing\n  came:   names main")
+        self.assertEqual(self.told(text), "7: reply\n  expected: nothing\n  got:      names main")
 
     def test_a_reply_that_does_not_come_is_told(self) -> None:
         text = RIGHT.replace("#> names main\n", "#> names main\n#> names other\n")
-        self.assertEqual(self.told(text), "9: reply\n  wanted: names other\n  came:   nothing")
+        self.assertEqual(self.told(text), "9: reply\n  expected: names other\n  got:      nothing")
 
     def test_a_reply_above_the_first_command_belongs_to_no_line(self) -> None:
         self.assertEqual(
-            self.told(RIGHT.replace("# A story.\n", "#> names\n")), "1: reply to no line\n  wanted: names\n  came:   nothing"
+            self.told(RIGHT.replace("# A story.\n", "#> names\n")), "1: reply to no line\n  expected: names\n  got:      nothing"
         )
 
     def test_each_command_is_compared_by_itself(self) -> None:
@@ -52,8 +52,8 @@ class Verify(unittest.TestCase):
     def test_faults_and_the_status_are_compared(self) -> None:
         self.assertEqual(self.told("rule a pss\nopen\n#! pfl_lab: setup line 1: line 5\n#= 1\n"), "")
         said = self.told("rule a pss\nopen\n")
-        self.assertIn("2: fault\n  wanted: nothing\n  came:   pfl_lab: setup line 1: line 5", said)
-        self.assertIn("2: status\n  wanted: 0\n  came:   1", said)
+        self.assertIn("2: fault\n  expected: nothing\n  got:      pfl_lab: setup line 1: line 5", said)
+        self.assertIn("2: status\n  expected: 0\n  got:      1", said)
 
     def test_line_ends_of_other_systems_count_as_the_program_counts_them(self) -> None:
         self.assertEqual(self.told(RIGHT.replace("\n", "\r\n")), "")
@@ -69,7 +69,7 @@ class Verify(unittest.TestCase):
     def test_lines_of_check_are_compared(self) -> None:
         text = "open\nback main\n#> bad 4 Missing\n#? line 2 bad 4 Missing\n#? good 0\n#= 1\n"
         self.assertEqual(self.told(text), "")
-        self.assertEqual(self.told(text.replace("good 0", "good 1")), "5: check\n  wanted: good 1\n  came:   good 0")
+        self.assertEqual(self.told(text.replace("good 0", "good 1")), "5: check\n  expected: good 1\n  got:      good 0")
 
     def test_the_examples_reply_as_they_say(self) -> None:
         paths = sorted(glob(f"{TOP}/examples/*.pfl"))

@@ -55,11 +55,11 @@ LINES = [
 ]
 # Of each search that cannot be read a part of what is wrong with it.
 FAULTS = [
-    ("search drops", "what drops is a packet"),
-    ("search drops b in udp", "what drops is a packet"),
-    ("search passes flush a", "what passes is a packet"),
-    ("search splits", "what splits is a packet: `search splits packet NODE in|out ..`"),
-    ("search splits kill a 1.1", "what splits is a packet"),
+    ("search drops", "`search drops` needs a packet"),
+    ("search drops b in udp", "`search drops` needs a packet"),
+    ("search passes flush a", "`search passes` needs a packet"),
+    ("search splits", "`search splits` needs a packet: `search splits packet NODE in|out ..`"),
+    ("search splits kill a 1.1", "`search splits` needs a packet"),
     ("search apart landed", "a comma is missing: `search apart, landed`"),
     ("search differ then", "a comma is missing: `search differ, then`"),
     ("search apart, landed lose 2", "a comma is missing: `landed, lose 2`"),
@@ -74,20 +74,20 @@ FAULTS = [
     ("search apart, lose, then, repeat, repeat", "`any repeat` is given twice"),
     ("search apart" + ", then" * 16, "a search has at most 16 phases"),
     ("search apart" + ", then" * 5, "a search has at most 16 choices, but these are 18"),
-    ("search apart, dyes a", "`dyes` begins no part of a search (did you mean `dies`?)"),
+    ("search apart, dyes a", "no part of a search begins with `dyes` (did you mean `dies`?)"),
     (f"search drops {ANSWER} settled", "the line was complete before `settled`"),
     (f"search drops {ANSWER.replace('in', 'on')}", "expected `in` or `out`, found `on`"),
     (f"search drops {ANSWER.replace(':53', '')}", "`192.0.2.9` has no port"),
     ("search apart, landed, settled", "where it is asked is given twice"),
     ("search apart, within 3, within 4", "`within` is given twice"),
     ("search apart, lose 1, lose 2", "`any lose` is given twice"),
-    ("search apart,, lose 1", "a part without a word"),
+    ("search apart,, lose 1", "a part is empty"),
     ("search apart, within 65", "`65` is not a number from 0 to 64: within N"),
-    ("search apart, within", "`within N` has one number"),
-    ("search apart, at least 5", "`at most RUNS` has one number"),
+    ("search apart, within", "`within N` takes one number"),
+    ("search apart, at least 5", "`at most RUNS` takes one number"),
     ("search apart, at most 4294967296", "is not a number from 0 to 4294967295"),
     ("search apart, lose x", "`x` is not a number from 0 to 4294967295: lose N"),
-    ("search apart, flsh a 2", "`flsh` begins no part of a search (did you mean `flush`?)"),
+    ("search apart, flsh a 2", "no part of a search begins with `flsh` (did you mean `flush`?)"),
     ("search apart, flush c", "expected `a` or `b`, found `c`"),
     ("search apart, flush a; 3 any lose", "expected `a` or `b`, found `a;`"),
     ("search apart, " + ", ".join(f"tick a {it}" for it in range(14)), "a search has at most 16 choices, but these are 17"),
@@ -149,7 +149,7 @@ class Words(unittest.TestCase):
         self.assertEqual(
             read(f"search splits {ANSWER}, lose, deliver 3, dies a, tick b 5 2 times, then", "main").terms,
             [
-                "asked whether it is dropped at b, and passes or is held at a, where the branch stands and after each event; "
+                "asked whether it is dropped at b, and passes or is held at a, at the cursor of the branch and after each event; "
                 "within 8 events, at most 1,000,000 runs",
                 "allowed: deliver any frame (up to 3 times); flush a, flush b (up to 8 times each); lose any frame (once)",
                 "then, where a does nothing more: deliver any frame (up to 3 times); flush b (up to 8 times); tick b 5 (up to 2 times)",
@@ -245,7 +245,7 @@ class Answers(Dialogue):
 
     def test_it_can_be_so_at_once(self) -> None:
         said = self.said(self.shell(), f"search drops {ANSWER}, anywhere")
-        self.assertEqual(said[1], "found: no event is needed, it is so where the branch stands (1 run tried)")
+        self.assertEqual(said[1], "found: no event is needed, it is so at the cursor of the branch (1 run tried)")
         self.assertEqual(said[2], f"  then {ANSWER}: drop block")
         self.assertEqual(
             said[3],
@@ -322,7 +322,7 @@ class Answers(Dialogue):
         # No event is 1 run; then no event and a flush are 2 more.
         said = self.said(self.shell(), "search apart, within 4, at most 2")
         self.assertRegex(said[0], "^> search main 1 2 quiet apart; ")
-        self.assertEqual(said[1], "gave up after 2 runs at depth 1; up to depth 0 there is none, but it was asked nowhere")
+        self.assertEqual(said[1], "gave up after 2 runs at depth 1; up to depth 0 there is none, but it was never asked")
         said = self.said(self.shell(), "search apart, at most 0")
         self.assertEqual(said[1], "gave up after 0 runs at depth 0; nothing is known")
 
@@ -439,10 +439,15 @@ class Canned(Dialogue):
 
     def test_why_says_what_the_answer_to_a_line_claims(self) -> None:
         shell = self.shell(standin(self, {3: ["none 3 7 5"], 4: ["gave up 10"], 5: ["found main events 0 runs 1", "end"]}))
-        for depth, head, part in ((3, "none 3 7 5", "that is proved"), (4, "gave up 10", "nothing is known"), (5, "found", "`take` steps")):
-            told = self.said(shell, f"search main {depth} 10 apart", "why")[-2:]
+        for depth, head, *parts in (
+            (3, "none 3 7 5", "that is proved", "the last number is how many runs end where the goal is asked for"),
+            (4, "gave up 10", "nothing is known"),
+            (5, "found", "that is proved", "`take` steps"),
+        ):
+            told = self.said(shell, f"search main {depth} 10 apart", "why")[-1 - len(parts) :]
             self.assertTrue(told[0].startswith(f"search main {depth} 10 apart: {head}"), told)
-            self.assertIn(part, told[1])
+            for line, part in zip(told[1:], parts):
+                self.assertIn(part, line)
 
     def test_a_program_that_ends_costs_no_pair(self) -> None:
         with program_with("sed -u '/^search/Q' | \"$P\" \"$@\"") as path:

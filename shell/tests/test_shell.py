@@ -74,21 +74,21 @@ class Lines(Dialogue):
     def test_a_form_is_shown_once_in_a_dialogue(self) -> None:
         shell = self.shell()
         shell.is_typed = True
-        wanted = ["wanted: set LIMIT N", "wanted: set timeout CLASS SECONDS"]
+        wanted = ["expected: set LIMIT N", "expected: set timeout CLASS SECONDS"]
         said = [self.said(shell, line) for line in ("set states x", "set batch y", "rule a pas", *SETUP)]
         self.assertEqual(said[0][-3:-1], wanted)
         self.assertEqual(said[1][0], "`y` is not a number of decimal digits")
         self.assertEqual(said[1][-2], "`help set` shows the form")
-        self.assertRegex(said[2][-2], "^wanted: rule NODE ")
+        self.assertRegex(said[2][-2], "^expected: rule NODE ")
         # Each event has a form, and that of a packet is another one for TCP.
         udp, tcp = QUERY.replace(":53", ""), QUERY.replace("udp", "tcp")
         ends = [self.said(shell, line)[-1] for line in ("flush c", "step main flush", "step main", udp, udp, tcp, tcp)]
-        self.assertEqual(ends[:3], ["wanted: step BRANCH flush NODE", "`help flush` shows the form", "wanted: step BRANCH EVENT"])
-        self.assertEqual(ends[3::2], ["wanted: step BRANCH packet NODE in|out PROTO SRC DST LEN", self.said(shell, "why")[-1].strip()])
+        self.assertEqual(ends[:3], ["expected: step BRANCH flush NODE", "`help flush` shows the form", "expected: step BRANCH EVENT"])
+        self.assertEqual(ends[3::2], ["expected: step BRANCH packet NODE in|out PROTO SRC DST LEN", self.said(shell, "why")[-1].strip()])
         self.assertEqual(ends[4::2], ["`help packet` shows the form"] * 2)
         # The help of `search` has another form than the program's own.
         lines = [self.said(shell, "search main 65 9 apart") for _ in range(2)]
-        self.assertRegex(lines[0][-6], "^wanted: search BRANCH DEPTH RUNS ")
+        self.assertRegex(lines[0][-6], "^expected: search BRANCH DEPTH RUNS ")
         self.assertEqual(lines[1][-1].strip(" "), "^^")
 
     def test_a_question_before_open_says_what_is_missing(self) -> None:
@@ -278,7 +278,7 @@ class Files(Dialogue):
             self.said(shell, "# Before.", "open", "# Then.", "names", f"save {folder}/saved.pfl")
             with open(f"{folder}/saved.pfl", encoding="utf-8") as it:
                 self.assertEqual(it.read().splitlines(), ["# Before.", "open", "# Then.", "names", "#> names main"])
-        self.assertIn("Comments that were typed (`# ..`) stay in it", " ".join(self.said(shell, "help save")))
+        self.assertIn("It keeps comments that were typed (`# ..`)", " ".join(self.said(shell, "help save")))
 
     def test_verify_tells_its_time_to_who_types(self) -> None:
         shell = self.shell()
@@ -421,7 +421,7 @@ class Command(unittest.TestCase):
             with open(f"{folder}/wrong.pfl", "w", encoding="utf-8") as it:
                 it.write("open\nnames\n#> names other\n")
             ran = self.ran("verify", f"{folder}/wrong.pfl")
-        told = f"{folder}/wrong.pfl:3: reply\n  wanted: names other\n  came:   names main\n1 script: 1 differs\n"
+        told = f"{folder}/wrong.pfl:3: reply\n  expected: names other\n  got:      names main\n1 script: 1 differs\n"
         self.assertEqual((ran.stdout, ran.returncode), (told, 1))
 
     def test_a_dry_run_of_annotate_shows_what_would_change(self) -> None:
@@ -545,7 +545,7 @@ class Server(Dialogue):
         self.said(two, "flush a")
         rule = "  no state matched; rule 0 of a passed it, and made state 1.1"
         self.assertEqual(self.said(one, "why 1"), [f"{QUERY}: pass 1.1", rule])
-        told = "another session has moved main on since; its newest event is this:"
+        told = "another session has changed main since; its newest event is this:"
         self.assertEqual(self.said(one, "why")[:2], [told, "flush a: sent 1 148"])
         self.assertRegex("\n".join(self.said(one, "chart")), "#1: insert 1.1")
         self.assertEqual(self.said(one, "frame 1")[2:], ["  event 2, `flush a` (sent 1 148)", "  it is in flight"])

@@ -45,7 +45,7 @@ class Taken(Dialogue):
     def test_a_branch_that_is_gone_is_told(self) -> None:
         shell = self.found()
         self.said(shell, "fork main 0 other", "drop main")
-        self.assertRegex(self.said(shell, "take")[0], "there is no branch main any more")
+        self.assertRegex(self.said(shell, "take")[0], "the branch main, from which the search began, is gone")
 
     def test_words_left_over_are_told(self) -> None:
         self.assertEqual(self.said(self.found(), "take a b"), ["usage: take [NAME]"])

@@ -91,7 +91,7 @@ class Faults(Tries):
     def test_what_happens_between_events(self) -> None:
         course = self.course(ARRIVES)
         self.assertEqual(self.names(course, "restart"), [f"{node} restarts before event {number}" for node in "ab" for number in range(1, 5)])
-        self.assertEqual(self.names(course, "clock")[-1], "the clock of b 61 s on before event 4")
+        self.assertEqual(self.names(course, "clock")[-1], "the clock of b advances by 61 s before event 4")
         self.assertEqual(len(faults_of(course, ("restart", "clock"), 2, 3)), 8)
 
     def test_the_faults_of_the_run_itself(self) -> None:
@@ -358,9 +358,9 @@ class Groups(Tries):
             lab = laboratory("\n".join(it for it in script.read().splitlines() if not it.startswith("#")))
         self.addCleanup(lab.close)
         lines = answer(lab, lab.branch("main"), read(["--faults", "last", "--from", "10", "--to", "10"])[1], PLAIN, quiet_progress, lambda: "").lines
-        self.assertEqual(lines[3], "1  1 fault: at the end the nodes go on answering each other; the end was not compared")
+        self.assertEqual(lines[3], "1  1 fault: at the end the nodes keep answering each other; the end was not compared")
         self.assertTrue(lines[5].startswith("   by kernel all: "), lines[5])
-        self.assertNotIn("go on answering", lines[5])
+        self.assertNotIn("keep answering", lines[5])
         # One has the destination end in a higher level, and the other with a later number: so each finds the other's stale.
         self.assertIn("the destination end came as SYN_SENT, and is ESTABLISHED here", lines[8])
         self.assertIn("the destination end's lo 60001 here is after the 1 that came", lines[13])
@@ -372,13 +372,13 @@ class Groups(Tries):
         # The request waits in frame 3 while the answer comes to b: then each node has a newer part of the server's end.
         events += [f"packet b in tcp {server} {client} A 1 401 60000 60000", "deliver 3"]
         lines = self.lines(events, "--faults", "skip", "--from", "9")
-        self.assertEqual(lines[1], "as it was, at the end the nodes go on answering each other")
-        rest = "the end was not compared: the run does not come to rest: at the end the nodes go on answering each other"
+        self.assertEqual(lines[1], "as it was, at the end the nodes keep answering each other")
+        rest = "the end was not compared: the run does not come to rest: at the end the nodes keep answering each other"
         self.assertEqual(lines[3], f"1  1 fault: at the end nothing is pending or in flight any more; {rest}")
         self.assertEqual(lines[4], f"   without event 9 (packet b in tcp {server} {client})")
         # (of another fault it is not known whether anything changes)
         lines = self.lines(events, "--faults", "twice", "--from", "6", "--to", "6")
-        self.assertEqual(lines[3], f"1  1 fault: no packet judged otherwise; {rest}")
+        self.assertEqual(lines[3], f"1  1 fault: no packet judged differently; {rest}")
 
     def test_a_run_in_which_what_is_in_flight_cannot_arrive(self) -> None:
         # One entry may be pending: frame 2, b's request, would queue a second one at a, which has its clear to send. Doubled, the
@@ -391,7 +391,7 @@ class Groups(Tries):
             [it for it in lines if it[:1].isdigit()],
             [
                 f"1  1 fault: at the end nothing is pending or in flight any more; {rest}",
-                f"2  3 faults: no packet judged otherwise; {rest}",
+                f"2  3 faults: no packet judged differently; {rest}",
             ],
         )
         self.assertEqual(lines[4], "   frame 2 lost (sent by event 6)")
@@ -473,7 +473,7 @@ class Options(Tries):
         for words, told in (
             (("--from", "5"), "main has no event 5: those that stand are counted from 1 to 4"),
             (("--to", "9"), "main has no event 9"),
-            (("--from", "3", "--to", "2"), "there is no event from 3 on up to 2"),
+            (("--from", "3", "--to", "2"), "there are no events from 3 to 2"),
         ):
             with self.assertRaisesRegex(Unknown, told):
                 self.lines(ARRIVES, *words)
@@ -521,7 +521,7 @@ class Options(Tries):
         found = answer(lab, lab.branch("main"), read([])[1], PLAIN, stop, lambda: "")
         self.assertTrue(found.is_interrupted)
         # Lost, twice and last are tried.
-        self.assertEqual(found.lines[2], "interrupted: 3 of 22 are tried")
+        self.assertEqual(found.lines[2], "interrupted: 3 of 22 were tried")
         self.assertEqual([it for it in found.lines if it[:1].isdigit()][2:], ["3  1 fault: every packet and state as it was"])
 
 

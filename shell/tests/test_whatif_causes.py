@@ -201,7 +201,7 @@ class Flushing(Tries):
         events = [SYN, "flush a", "deliver 1", SYN_ACK, "flush b", "deliver 2", f"{tcp} PA 1 1 60000 400", "flush a"]
         events += ["deliver 3", f"packet b in tcp {SERVER} {CLIENT} A 1 401 60000 60000", "flush b", "deliver 4", "tick a 1", "tick a 1"]
         lines = self.lines(events, "--faults", "late", "--from", "9", "--to", "9", "--flushing")
-        self.assertTrue(any("the nodes go on answering each other; the end was not compared" in it for it in lines), lines)
+        self.assertTrue(any("the nodes keep answering each other; the end was not compared" in it for it in lines), lines)
 
     def test_a_refusal_is_explained_where_it_was(self) -> None:
         # Without the flush of a, the state is sent before the delivery; so the flush of b is as in the run.

@@ -38,7 +38,7 @@ class Judged(unittest.TestCase):
         self.assertEqual(faulty(late, "frame 1 late by 1 event (event 3)"), [*lines[:2], lines[3], deliver, lines[4]])
         self.assertEqual(faulty(late, "frame 1 last (event 3)"), [*lines[:2], *lines[3:], deliver])
         self.assertEqual(faulty(late, "without event 2 (flush a)"), [lines[0], *lines[2:]])
-        self.assertEqual(faulty(late, "the clock of b 61 s on before event 2"), [lines[0], (0, ["tick", "b", "61000"]), *lines[1:]])
+        self.assertEqual(faulty(late, "the clock of b advances by 61 s before event 2"), [lines[0], (0, ["tick", "b", "61000"]), *lines[1:]])
 
     def test_what_whatif_calls_as_it_was(self) -> None:
         self.assertEqual(

@@ -102,7 +102,7 @@ class Command(Written):
             ran.send_signal(signal.SIGINT)
             out = ran.communicate(timeout=60)[0]
         self.assertEqual(ran.returncode, 130)
-        self.assertRegex(out.splitlines()[2], r"^interrupted: [1-9][\d,]* of 4,950 are tried$")
+        self.assertRegex(out.splitlines()[2], r"^interrupted: [1-9][\d,]* of 4,950 were tried$")
 
 
 class Out(Written):
@@ -219,7 +219,7 @@ class Word(Dialogue):
         with patch("shell.shell.Counter", return_value=Mock(side_effect=stop)):
             shell.is_typed = True
             said = self.said(shell, "whatif", "names")
-            self.assertEqual((said[2], said[-1]), ("interrupted: 2 of 22 are tried", "names main"))
+            self.assertEqual((said[2], said[-1]), ("interrupted: 2 of 22 were tried", "names main"))
             shell.is_typed = False
             with self.assertRaises(KeyboardInterrupt):
                 self.said(shell, "whatif")

@@ -38,7 +38,7 @@ class Asked:
             if not 1 <= number <= events:
                 raise Unknown(f"{branch} has no event {number}: those that stand are counted from 1 to {events}")
         if self.first > last:
-            raise Unknown(f"there is no event from {self.first} on up to {last}, which comes before it")
+            raise Unknown(f"there are no events from {self.first} to {last}, which comes before it")
         return self.first, last
 
 

@@ -214,7 +214,7 @@ def _restarted(course: Course) -> Iterator[Fault]:
 
 def _jumped(course: Course) -> Iterator[Fault]:
     for node in NODES:
-        yield from _between("clock", course, f"the clock of {node} {seconds(JUMP)} on", f"{TICK.word} {node} {JUMP}")
+        yield from _between("clock", course, f"the clock of {node} advances by {seconds(JUMP)}", f"{TICK.word} {node} {JUMP}")
 
 
 def _undone(course: Course) -> Iterator[Fault]:

@@ -33,7 +33,7 @@ def otherwise(lab: Laboratory, branch: Branch, it: Tried, groups: Sequence[Numbe
     outcomes = there.outcomes(lines)
     parted = next((number for number, came in enumerate(outcomes, 1) if came.startswith("refused")), 0)
     if parted:
-        return Otherwise(f"{kernel.by} the run is another one from event {parted} on, and its faults are not tried", {})
+        return Otherwise(f"{kernel.by} the run is a different one from event {parted} on, and its faults are not tried", {})
     with there.beside(branch) as other:
         player = Player(other, branch, Course(lines, outcomes), it.asked.flushing)
         played = player.play(())

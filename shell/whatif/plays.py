@@ -24,7 +24,7 @@ NAMES = ("variant", "other")
 # has its turn in a bulk update, the frame that brings it, and an answer.
 STEPS_OF_ONE, SPARE_STEPS = 4, 100
 NOTHING_PENDING = "NothingPending"
-ENDLESS = "the nodes go on answering each other"
+ENDLESS = "the nodes keep answering each other"
 # How many lines are sent together: they and their replies fit in a pipe.
 MOST_TOGETHER = 128
 

@@ -49,7 +49,7 @@ def report(it: Tried, groups: Sequence[Numbered], paint: Paint, others: Mapping[
     ending = f"once nothing is pending or in flight: {between_nodes(read_shown(it.shown), it.setup, paint)[0]}"
     lines = [paint.head(_headline(it)), f"as it was, {f'at the end {it.base.trouble}' if it.base.trouble else ending}"]
     if it.is_interrupted:
-        lines.append(paint.note(f"interrupted: {it.done:,} of {it.total:,} are tried"))
+        lines.append(paint.note(f"interrupted: {it.done:,} of {it.total:,} were tried"))
     for number, group in groups:
         lines += ["", *_group(it, number, group, others.get(number, ""), paint)]
     if not groups:
@@ -98,7 +98,7 @@ def change(it: Tried, effect: Effect, paint: Paint) -> str:
     if not parts:
         but = [f"{counted(len(effect.impossible), 'packet')} could not have come"] * bool(effect.hung)
         but += [f"refused: {_few([_event(it.course, one) for one in effect.refused])}"] * bool(effect.refused)
-        same = "every packet and state as it was" if effect.is_compared else "no packet judged otherwise"
+        same = "every packet and state as it was" if effect.is_compared else "no packet judged differently"
         parts.append(f"{same}, but {but[0]}" if but else paint.good(same) if effect.is_compared else same)
     return "; ".join([*parts, *_not_compared(it, effect)])
 
