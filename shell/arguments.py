@@ -24,6 +24,7 @@ from .language.names import Name
 from .outputs import print_help
 from .scripts import DRY_RUN
 from .shell import STRICT_STATUS
+from .visits import ASKED_FOR, NO_ADDRESS, Address, cleaned
 from .whatif.asked import Options, add_options
 
 
@@ -36,6 +37,8 @@ class Words(Options, CaptureOptions, ScriptOptions):
     files: List[str]
     port: Optional[int]
     setup: Optional[str]
+    at: Optional[Address]
+    person: Optional[str]
     echo: bool
     strict: bool
     dry_run: bool
@@ -191,6 +194,14 @@ def _shell(words: argparse.ArgumentParser) -> None:
     words.add_argument("files", nargs="*", metavar="FILE", help="scripts to read first")
     words.add_argument("--port", type=port, metavar="P", help="joins the server at this port, with no pair of its own")
     words.add_argument("--setup", metavar="FILE", help="with --port: the setup that the server read, if it does not report it")
+    words.add_argument(
+        "--page",
+        type=page_address,
+        dest="at",
+        metavar="URL",
+        help="joins the pair of a served page by one of its addresses, or with --port exchanges names there; with - the address is asked for",
+    )
+    words.add_argument("--name", type=person, dest="person", metavar="NAME", help="your name for the others, with --page")
     words.add_argument("--echo", action="store_true", help="shows each line before its reply")
     words.add_argument(
         "--strict", action="store_true", help=f"stops at the first refused or faulty line, with status {STRICT_STATUS}"
@@ -355,6 +366,30 @@ def port(word: str) -> int:
     if not word.isdecimal() or len(word) > 5 or not 1 <= int(word) <= 65535:
         raise argparse.ArgumentTypeError("a port is a number from 1 to 65535")
     return int(word)
+
+
+def page_address(word: str) -> Address:
+    """The address of a page, which may be asked for: arguments can be seen in the list of processes."""
+    it = ASKED_FOR if word == "-" else Address.read(word)
+    if it is None:
+        # (the token in it is not repeated)
+        raise argparse.ArgumentTypeError(NO_ADDRESS)
+    return it
+
+
+def person(word: str) -> str:
+    """A name, as others are shown it."""
+    it = cleaned(word)
+    if not it:
+        raise argparse.ArgumentTypeError("a name has a character that prints")
+    return it
+
+
+def shell_fault(words: Words) -> str:
+    """What is wrong with the words of a shell, which do not all go together; empty if nothing is."""
+    if words.setup and not words.port:
+        return "--setup says what a server read, and needs --port; a pair of your own gets its setup from lines"
+    return "--name is for the others at a pair, and needs --port or --page" if words.person and not words.port and not words.at else ""
 
 
 def page_name(word: str) -> str:

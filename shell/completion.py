@@ -48,7 +48,7 @@ def _ends(lab: Laboratory, words: Sequence[str]) -> List[str]:
     """The ends of packets that were stepped here, the newest first, and then those of states, translated ones too. A packet does not go
     to where it is from."""
     # (a server keeps every command that it was asked, so none is asked for this)
-    nodes = _pair(lab, words).nodes.values() if lab.port is None or lab.is_mirrored else ()
+    nodes = _pair(lab, words).nodes.values() if lab.is_own or lab.is_mirrored else ()
     keys = [key for node in nodes for it in node.states.values() for key in (it.wire, it.stack)]
     seen = dict.fromkeys([*reversed([*lab.ends]), *(end for key in keys for end in (key.near, key.far))])
     return [it for it in seen if it != words[-1]][:MOST_ENDS]

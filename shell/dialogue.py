@@ -23,7 +23,7 @@ class Loop(cmd.Cmd):
         self.lab, self.out, self.paint = lab, out, paint
         self.is_typed = self.use_rawinput = is_typed
         # Only on a server that is followed, at a terminal.
-        self.notes: Optional[Notes] = Notes(lab.shared, self.show, paint) if lab.shared and is_typed else None
+        self.notes: Optional[Notes] = Notes(lab.shared, self.show, paint, lab.people) if lab.shared and is_typed else None
         self._watch: Optional[Watch] = None
         self.set_prompt()
 
@@ -70,7 +70,7 @@ class Loop(cmd.Cmd):
     def _branch(self) -> str:
         """The branch in use, and how many of its events stand."""
         # (a server keeps every command that it gets, so a prompt asks it nothing)
-        if self.lab.port is None or self.lab.is_mirrored:
+        if self.lab.is_own or self.lab.is_mirrored:
             with contextlib.suppress(Unknown):
                 branch = self.lab.branch(self.lab.in_use)
                 return f"{branch.name} {branch.cursor}/{len(branch.events)}"

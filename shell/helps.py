@@ -227,9 +227,9 @@ SHELL: Dict[str, Help] = {
     ),
     NOTES: _word(
         f"{NOTES} on\n{NOTES} off",
-        "show[s] what other sessions of a server do, or stop[s] that",
+        "show[s] what others do at a server or a page, or stop[s] that",
         "Notes are on at first. They appear above the prompt, one for each command except those that only look; many in a row are one line. "
-        "`notes` alone says whether they are on.",
+        "Each has the name of who gave the command, if a page of the pair knows it. `notes` alone says whether they are on.",
     ),
     "mark": _word(
         "mark [NAME]",

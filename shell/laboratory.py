@@ -3,7 +3,7 @@ from __future__ import annotations
 
 import contextlib
 from dataclasses import dataclass, replace
-from typing import ContextManager, Dict, Iterator, List, Optional, Sequence, Tuple, Union
+from typing import ContextManager, Dict, Iterator, List, Optional, Protocol, Sequence, Tuple, Union
 
 from .branches import Branch, Mark, read_log
 from .explanations import Explanation, read_explanation
@@ -18,7 +18,7 @@ from .language.names import NODES
 from .language.readers import LineFault
 from .language.searches import SEARCH
 from .language.setups import Limit
-from .mirror import Shared, joined
+from .mirror import Entry, Shared, joined
 from .pair import Pair, read_shown
 from .programs import FOLLOW, VIEW, Client, Ended, Run, Session, check_setup, run_lines
 from .setups import Setup
@@ -46,11 +46,23 @@ class Asked:
     reply: Tuple[str, ...]
 
 
+class Names(Protocol):
+    """What knows who gives the commands of a server."""
+
+    def knows(self, it: Entry, seconds: float = 0) -> bool: ...
+
+    def name(self, it: Entry) -> str: ...
+
+    def close(self) -> None: ...
+
+
 class Laboratory:
     """A pair with its branches. A question is answered by a run of its own, and changes nothing here."""
 
     def __init__(self, program: str, port: Optional[int] = None, setup: Optional[Setup] = None):
-        self.program, self.port = program, port
+        self.program = program
+        # Whether the pair is one's own, and not that of a server or of a page.
+        self.is_own = port is None
         self.setup = setup or Setup()
         self.knows_setup = port is None or setup is not None
         self.session: Optional[Session] = Client(port) if port else None
@@ -59,6 +71,8 @@ class Laboratory:
         self.in_use = "main"
         # The named places.
         self.marks: Dict[str, Mark] = {}
+        # Who gives the commands of a server, if a page says so.
+        self.people: Optional[Names] = None
         # The ends of the packets that were stepped here, the newest last.
         self.ends: Dict[str, None] = {}
 
@@ -69,6 +83,10 @@ class Laboratory:
         if setup:
             self.setup, self.knows_setup = setup, True
         return said
+
+    def sit(self, session: Shared, setup: Setup) -> None:
+        """Takes the session of a pair that is not one's own, with its setup."""
+        self.session, self.setup, self.knows_setup, self.is_own = session, setup, True, False
 
     @property
     def shared(self) -> Optional[Shared]:
@@ -83,7 +101,7 @@ class Laboratory:
     @property
     def searches(self) -> bool:
         """Whether searches are answered: a server does not answer them, and if it is not followed, nothing else can."""
-        return self.port is None or self.shared is not None
+        return self.is_own or self.shared is not None
 
     def one_moment(self) -> ContextManager[None]:
         """Answers the questions within about one moment of the pair, though other sessions may change it in between."""
@@ -166,9 +184,9 @@ class Laboratory:
 
     def summary(self) -> str:
         """A server's answer to a viewer, who waits for no one: a few numbers of one moment, each with its name."""
-        if self.port is None:
+        words = [] if self.is_own else self._quietly(VIEW)[0].split()
+        if words[:1] in ([], ["bad"]):
             raise Unknown("`summary` asks a server; here `view` shows the pair")
-        words = self._quietly(VIEW)[0].split()
         if words[0] != VIEW:
             return f"overtaken by other sessions in each of three tries, the last one from {words[1]} to {words[2]} commands"
         numbers = zip(SUMMARY, words[2:])
@@ -210,6 +228,8 @@ class Laboratory:
     def close(self) -> None:
         if self.session is not None:
             self.session.close()
+        if self.people is not None:
+            self.people.close()
 
     # ---- questions, each answered by a run of its own
 

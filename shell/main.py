@@ -9,10 +9,10 @@ import sys
 from contextlib import closing
 from functools import partial
 from itertools import takewhile
-from typing import Callable, Dict, Iterator, Sequence
+from typing import Callable, Dict, Iterator, Optional, Sequence
 
 from . import scripts
-from .arguments import Words, page_fault, parser
+from .arguments import Words, page_fault, parser, shell_fault
 from .branches import Branch
 from .captures import runs
 from .captures.command import NotRead, captured
@@ -43,9 +43,11 @@ from .pages.packing import NotPacked, page as page_of
 from .pages.runs import run_of
 from .paging import paged
 from .programs import Client, Ended, SetupFault, check_setup, run_lines, setup_fault
+from .seats import introduced, seated
 from .setups import Setup
 from .shell import STRICT_STATUS, Shell, Stopped
 from .stories import Story, story_of
+from .visits import ASKED_FOR, NO_ADDRESS, Address, Page
 from .whatif.answers import Counter, answer
 from .whatif.asked import asked
 
@@ -59,8 +61,8 @@ def main(arguments: Sequence[str], name: str = "./lab") -> int:
     words = kinds.parse_args(arguments, Words())
     if not words.word and not words.version:
         kinds.error(f"a word is missing: {one_of(WORDS)}")
-    if words.word == "shell" and words.setup and not words.port:
-        kinds.error("--setup says what a server read, and needs --port; a pair of your own gets its setup from lines")
+    if words.word == "shell" and shell_fault(words):
+        kinds.error(shell_fault(words))
     if words.word == "compare" and not words.out and (words.rules or words.of_flow):
         kinds.error("--rules and --flow say what the script of --out has, and need --out")
     if words.word == "capture" and script_fault(words):
@@ -309,14 +311,11 @@ def paint(is_terminal: bool) -> Paint:
 
 def shell(words: Words) -> int:
     is_typed = sys.stdin.isatty()
-    setup = setup_from(words.program, words.setup) if words.setup else None
-    lab = Laboratory(words.program, words.port, setup)
-    if isinstance(lab.session, Client):
-        say(words, "connected; the server answers once all its sessions are")
-        wait(lab.session)
-        said = lab.join()
-        if said:
-            say(words, said)
+    page = page_at(words.at) if words.at else None
+    if words.port:
+        lab = joined_to(words, words.port, page)
+    else:
+        lab = seated(words.program, page, words.person or "", partial(say, words)) if page else Laboratory(words.program)
     it = Shell(lab, sys.stdout, paint(sys.stdout.isatty()), words.strict, is_typed)
     try:
         ended = any(it.take(lines_of(scripts.read(path)), echo=is_typed or words.echo) for path in words.files)
@@ -332,13 +331,54 @@ def shell(words: Words) -> int:
     return int(it.has_faults and not is_typed)
 
 
-def wait(session: Client) -> None:
+def page_at(address: Address) -> Page:
+    """The page at an address, which is asked for where that is wanted: arguments can be seen in the list of processes."""
+    if address == ASKED_FOR:
+        print("address of the page: ", end="", file=sys.stderr, flush=True)
+    it = Address.read(sys.stdin.readline()) if address == ASKED_FOR else address
+    if it is None:
+        raise Unknown(NO_ADDRESS)
+    return Page(it)
+
+
+def joined_to(words: Words, port: int, page: Optional[Page]) -> Laboratory:
+    """A laboratory whose pair is that of a server, with what there is to say about that."""
+    setup = setup_from(words.program, words.setup) if words.setup else None
+    try:
+        lab = Laboratory(words.program, port, setup)
+    except ConnectionRefusedError:
+        raise Ended(nobody_listens(words, port)) from None
+    assert isinstance(lab.session, Client)
+    say(words, "connected; the server answers once all its sessions are")
+    wait(lab.session, nobody_listens(words, port))
+    said = [lab.join(), introduced(lab, page, words.person or "", command_of(words))]
+    for it in filter(None, said):
+        say(words, it)
+    return lab
+
+
+def wait(session: Client, gone: str) -> None:
     """Waits for the other sessions of a server; an interrupt gives up."""
     try:
         session.wait()
     except KeyboardInterrupt:
         session.close()
         raise Ended("given up before all sessions were connected") from None
+    except Ended:
+        session.close()
+        raise Ended(gone) from None
+
+
+def nobody_listens(words: Words, port: int) -> str:
+    """Why nothing can connect to a port, and how to join a pair all the same."""
+    command = command_of(words)
+    there = f"a page of the seminar (`{command} page --serve`) takes late comers: `{command} shell --page URL`"
+    return f"nobody listens at {port}, or all seats of its server are taken: {there}"
+
+
+def command_of(words: Words) -> str:
+    """The command as it is typed."""
+    return "./lab" if words.name == "lab" else words.name
 
 
 def setup_from(program: str, path: str) -> Setup:

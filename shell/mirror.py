@@ -6,7 +6,7 @@ from __future__ import annotations
 import contextlib
 import sys
 from collections import deque
-from typing import Callable, Deque, Iterator, List, NamedTuple, Optional, Sequence, Tuple, Union
+from typing import Callable, Deque, Iterator, List, NamedTuple, Optional, Protocol, Sequence, Tuple, Union
 
 from .language.commands import CHANGING, LOOKING, OPEN
 from .language.searches import SEARCH
@@ -18,11 +18,13 @@ PATIENCE = 30.0
 
 
 class Entry(NamedTuple):
-    """A command of a server's journal: its number, counted from 1, the session that gave it, and its line."""
+    """A command of a server's journal: its number, counted from 1, the session that gave it, its line, and who gave it, if that is known.
+    Of a command of one's own the session can be 0."""
 
     number: int
     session: int
     command: str
+    who: str = ""
 
     @classmethod
     def read(cls, line: str) -> "Entry":
@@ -33,6 +35,13 @@ class Entry(NamedTuple):
     def changes(self) -> bool:
         """Whether it changes the pair, or is refused; all others look."""
         return self.command.split()[0] in CHANGING
+
+
+class Taken(NamedTuple):
+    """An entry that was taken, and the reply to it; empty if it looks, or if the reply is not known."""
+
+    entry: Entry
+    reply: Sequence[str]
 
 
 class Given(NamedTuple):
@@ -49,6 +58,21 @@ class Given(NamedTuple):
         return self.after == self.before + 1
 
 
+
+class Source(Protocol):
+    """A session of a server, or of a page of one, which shows the entries of a journal from the first on once it is asked to follow it."""
+
+    def ask(self, line: str) -> List[str]: ...
+
+    def follow(self) -> None: ...
+
+    def come(self, seconds: float = 0) -> List[str]: ...
+
+    def watch(self, seconds: float) -> None: ...
+
+    def close(self) -> None: ...
+
+
 # Takes an entry of another session that is not a look, with the reply of the mirror, if there is one.
 Heard = Callable[[Entry, Optional[List[str]]], None]
 
@@ -56,7 +80,7 @@ Heard = Callable[[Entry, Optional[List[str]]], None]
 class Shared(Session):
     """A session that follows its server with a mirror."""
 
-    def __init__(self, client: Client, program: str, setup: Sequence[str]):
+    def __init__(self, client: Source, program: str, setup: Sequence[str]):
         self.client = client
         # The number of this session, once an entry of its own is known.
         self.number: Optional[int] = None
@@ -64,8 +88,10 @@ class Shared(Session):
         self.entries = self.behind = 0
         self.heard: Heard = lambda entry, reply: None
         self.say: Callable[[str], None] = lambda text: print(text, file=sys.stderr)
-        # The lines of the setup, then all commands that the mirror carried out, with their replies.
-        self.journal: List[Tuple[str, Sequence[str]]] = [(it, ()) for it in (*setup, OPEN.word)]
+        # The lines of the setup without `open`, comments among them.
+        self.setup = setup
+        # All entries that were taken.
+        self.taken: List[Taken] = []
         self._mirror: Optional[Run] = Run(program, setup)
         self._given: Deque[Given] = deque()
         # Whether the mirror has taken all that the server had at the newest `view`, or command of this session.
@@ -75,6 +101,12 @@ class Shared(Session):
     @property
     def has_mirror(self) -> bool:
         return self._mirror is not None
+
+    @property
+    def journal(self) -> List[Tuple[str, Sequence[str]]]:
+        """The lines of the setup, then all commands that the mirror carried out, with their replies."""
+        opening: List[Tuple[str, Sequence[str]]] = [(it, ()) for it in (*self.setup, OPEN.word)]
+        return [*opening, *((entry.command, reply) for entry, reply in self.taken if entry.changes)]
 
     @property
     def is_behind(self) -> bool:
@@ -99,16 +131,19 @@ class Shared(Session):
 
     def level(self) -> None:
         """Waits until the mirror has taken all the entries that the server has now."""
-        number = self._commands()
+        self._reach(self._commands())
+        self.is_level = True
+
+    def _commands(self) -> int:
+        return commands_of(self.client.ask(VIEW)[0])
+
+    def _reach(self, number: int) -> None:
+        """Waits until the mirror has taken the first entries."""
         self.hear()
         while self.entries < number and self.hear(PATIENCE):
             pass
         if self.entries < number:
             self._give_up(f"the server has {number} entries, but sent none after entry {self.entries} in {PATIENCE:.0f} seconds")
-        self.is_level = True
-
-    def _commands(self) -> int:
-        return commands_of(self.client.ask(VIEW)[0])
 
     def catch_up(self) -> None:
         """Levels the mirror, unless it was levelled already in the moment that questions are about."""
@@ -171,10 +206,13 @@ class Shared(Session):
             came = self.client.come(seconds)
             for line in came:
                 if line.startswith(ENTRY):
-                    self._hear(Entry.read(line))
+                    self._hear(self._read(line))
                 else:
                     self.behind = int(line.split()[-1])
         return bool(came)
+
+    def _read(self, line: str) -> Entry:
+        return Entry.read(line)
 
     def _hear(self, it: Entry) -> None:
         if it.number <= self.entries:
@@ -202,9 +240,10 @@ class Shared(Session):
         """Takes the next entry, with the server's reply if it is one of this session."""
         self.entries = it.number
         if not it.changes:
+            self.taken.append(Taken(it, ()))
             return
         its = self._mirrored(it.command)
-        self.journal.append((it.command, its or ()))
+        self.taken.append(Taken(it, its or reply or ()))
         if reply is None:
             self.heard(it, its)
         elif its not in (None, reply):

@@ -303,7 +303,7 @@ class Shell(Loop):
 
     def lines_of_pair(self) -> Sequence[Tuple[str, Sequence[str]]]:
         """The lines of the pair with their replies: from this dialogue, or from all sessions of a server that is followed."""
-        if self.lab.port is None:
+        if self.lab.is_own:
             return self.lines
         shared = self.lab.shared
         if shared:
@@ -377,7 +377,7 @@ class Shell(Loop):
     def script(self) -> str:
         """The setup and the commands of the pair with their replies, as a script."""
         lines = self.lines_of_pair()
-        if self.lab.port is not None and not lines:
+        if not self.lab.is_own and not lines:
             raise Unknown("a script begins with the setup of its pair, and has the commands of all sessions: this server does not report them")
         # (a faulty line is a slip in the dialogue, and not part of its script; the replies of a script that was read are written anew)
         kept = ((line, reply) for line, reply in lines if not scripts.is_mark(line) and not "".join(reply[:1]).startswith("bad "))

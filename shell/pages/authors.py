@@ -4,6 +4,7 @@ from __future__ import annotations
 from typing import Dict, List, NamedTuple, Sequence
 
 from ..branches import Branch, common
+from ..language.events import plain_event
 
 
 class Stepped(NamedTuple):
@@ -18,6 +19,12 @@ class Authors:
         self._of: Dict[str, List[Stepped]] = {}
         # The names of a branch before its newest excision.
         self._excised: Dict[str, List[Stepped]] = {}
+
+    def step(self, words: Sequence[str], reply: Sequence[str], who: str) -> None:
+        """Takes a step of this person, which drops the events that were undone."""
+        own = self._of.setdefault(words[1], [])
+        del own[len(own) - int(reply[-1]) :]
+        own.append(Stepped(plain_event(words[2:]), who))
 
     def follow(self, words: Sequence[str], reply: Sequence[str]) -> None:
         """Takes a command that gives events another branch or another place."""

@@ -4,12 +4,15 @@ from __future__ import annotations
 
 from concurrent.futures import Future, ThreadPoolExecutor, TimeoutError as TookTooLong
 from dataclasses import replace
-from typing import Callable, Dict, List, Sequence, Tuple, TypeVar
+from itertools import chain
+from typing import Callable, Dict, Iterator, List, Optional, Sequence, Tuple, TypeVar
 
 from ..branches import Branch, common
 from ..colours import PLAIN
 from ..laboratory import Laboratory, Unknown
 from ..language.commands import EXCISE
+from ..language.commands import STEP as STEPS
+from ..mirror import Taken
 from ..pair import Pair
 from ..programs import Ended
 from ..reasons.commands import explain_command, explain_done
@@ -18,18 +21,20 @@ from ..reasons.why import why_ahead
 from .authors import Authors
 from .change import Data, Shown, change
 from .former import FormerRuns, Lost
-from .news import News
+from .journal import Journal, Names, Told, plain
+from .news import News, message
 from .offers import Offer, offers
 from .packing import page
 from .record import Record
 from .runs import Run
 from .session import Branches
-from .typed import Typed, Wanted
+from .typed import Claim, Typed, Wanted
 
 # How often to look whether something happened, and how long a browser waits for an answer, in seconds.
 PERIOD = 0.25
 PATIENCE = 60.0
 OTHERS = "another session"
+NO_JOURNAL = "the server of this page does not report its journal, which a shell needs"
 # What someone with the address for it may do.
 STEP, WATCH = "step", "watch"
 # How often to compare branches at the beginning, while other sessions may be changing them.
@@ -66,13 +71,16 @@ class Bridge:
     """The pair of a server, for pages."""
 
     def __init__(self, program: str, run: Run, branches: Branches, watching: str = ""):
-        self.news = News()
+        self.news, self.journal = News(), Journal()
+        self._names = Names()
         self._program, self._run, self._branches = program, run, branches
         # The token for watching, which a page has for links.
         self._watching = watching
         self._records = {it.name: it for it in run.records if not it.former}
         self._former = FormerRuns(program, run.setup, [it for it in run.records if it.former])
         self._lost: List[Lost] = []
+        # The place in the journal of the newest command of the page's own session, if it is known.
+        self._own: Optional[int] = None
         # For each branch the version with its newest change.
         self._versions: Dict[str, int] = {}
         self._authors = Authors()
@@ -102,6 +110,41 @@ class Bridge:
     def offers(self, wanted: Wanted) -> Data:
         """What is offered at some places of a branch, and the version for which this holds."""
         return self._awaited(self._offers, wanted)
+
+    def level(self, ignored: str = "") -> int:
+        """How many commands the journal has once it has all that the server has."""
+        return self._awaited(self._level, ignored)
+
+    def claim(self, it: Claim) -> Data:
+        """Takes the name of a session, which is known once it has said its sign."""
+        return self._awaited(self._claim, it)
+
+    @property
+    def has_journal(self) -> bool:
+        return self._branches.has_journal
+
+    def told(self, may: str, place: int, seconds: float) -> Iterator[List[bytes]]:
+        """Messages for a shell, up to the end: what it may do, the setup, and the commands after the first ones as they come; none where
+        none come within this many seconds."""
+        number = self.level()
+        first = message({"may": may, "setup": list(self._branches.setup)})
+        return chain([[first]], self._told(min(place, number), seconds))
+
+    def _told(self, place: int, seconds: float) -> Iterator[List[bytes]]:
+        while True:
+            came = self.journal.after(place, seconds)
+            place += len(came)
+            yield [message({"told": came})] if came else self.news.ending
+            if not came and self.news.has_ended:
+                return
+            if not self.has_journal:
+                yield [message({"ended": NO_JOURNAL})]
+                return
+
+    def end(self, why: str) -> None:
+        """Announces to all that nothing more will come."""
+        self.news.end(why)
+        self.journal.end()
 
     def page_for(self, may: str) -> bytes:
         """The page as of now, for someone who may do this."""
@@ -137,6 +180,7 @@ class Bridge:
         """Reads the branches, more than once if other sessions change them meanwhile."""
         for _ in range(TRIES):
             self._branches.look()
+            self._learn("")
             self._changes("")
             differing = [name for name in self._shown if self._differs(name)]
             if not differing:
@@ -151,20 +195,59 @@ class Bridge:
 
     def _hear(self) -> None:
         self._branches.hear()
-        self._publish(OTHERS, "", ())
+        self._publish(self._learn(""), "", ())
+
+    def _look(self) -> None:
+        self._branches.look()
+        self._publish(self._learn(""), "", ())
+
+    def _level(self, ignored: str) -> int:
+        self._look()
+        return len(self.journal)
+
+    def _claim(self, it: Claim) -> Data:
+        self._look()
+        return {"session": self._names.claim(it.sign, it.name)}
 
     def _do(self, typed: Typed) -> Data:
-        self._branches.look()
-        self._publish(OTHERS, "", ())
+        self._look()
         newest, name = self._versions.get(typed.takes_from, 0), typed.takes_from
         if typed.version is not None and typed.version < newest:
             raise Overtaken(f"somebody was faster: {name} has changed since this page last heard of it")
+        self._own = None
         reply = self._branches.ask(typed.line)
         first, words = reply[0].split(), typed.line.split()
+        self._learn(typed.name)
         if first[0] not in ("bad", "refused"):
-            self._authors.follow(words, first)
+            if self._own is None:
+                self._authors.follow(words, first)
             self._publish(typed.name, typed.line, reply)
-        return {"reply": reply, "why": self._why(words, typed.line, reply[0]), "version": self.news.version}
+        return {"reply": reply, "why": self._why(words, typed.line, reply[0]), "version": self.news.version, "entry": self._own}
+
+    def _learn(self, who: str) -> str:
+        """Takes the commands that came since, those of the page's own session as this person's; returns who gave the others."""
+        others = []
+        for it in self._branches.taken():
+            is_own = self._branches.is_own(it.entry)
+            if it.entry.changes:
+                its = who if is_own else self._names.of(it.entry.session)
+                others += [its or OTHERS] * (not is_own)
+                self._take(it, its, is_own)
+            else:
+                self._names.hear(it.entry.session, it.entry.command)
+        return " and ".join(dict.fromkeys(others)) or OTHERS
+
+    def _take(self, it: Taken, who: str, is_own: bool) -> None:
+        """Takes a command that changes the pair, or is refused."""
+        command = plain(it.entry.command)
+        words, first = command.split(), "".join(it.reply[:1]).split()
+        if first[:1] == [STEPS.word]:
+            self._authors.step(words, first, who if is_own else who or OTHERS)
+        elif first:
+            self._authors.follow(words, first)
+        self.journal.add(Told(it.entry.number, 0 if is_own else it.entry.session, who, command))
+        if is_own:
+            self._own = len(self.journal)
 
     def _offers(self, wanted: Wanted) -> Data:
         found: List[Offer] = []

@@ -57,6 +57,7 @@ class Door(socketserver.ThreadingTCPServer):
     def __init__(self, port: int, visit: Callable[..., socketserver.BaseRequestHandler]):
         self.tokens = Tokens.new()
         self._room = threading.Semaphore(MOST_CONNECTIONS)
+        self._has_bridge = threading.Event()
         super().__init__((HERE, port), visit)
 
     @property
@@ -70,6 +71,20 @@ class Door(socketserver.ThreadingTCPServer):
 
     def address(self, token: str) -> str:
         return f"http://{HERE}:{self.port}/{token}/"
+
+    @property
+    def tunnel(self) -> str:
+        """The command that brings this port to another machine, under the same number, so that its addresses are right there too."""
+        return f"ssh -L {self.port}:{HERE}:{self.port} HOST"
+
+    def open(self, bridge: Bridge) -> None:
+        """Lets requests come to the bridge, which is there."""
+        self.bridge = bridge
+        self._has_bridge.set()
+
+    def is_open(self, seconds: float) -> bool:
+        """Waits for the bridge at most this many seconds; returns whether it is there."""
+        return self._has_bridge.wait(seconds)
 
     def process_request(self, request: Request, client_address: object) -> None:
         if not self._room.acquire(blocking=False):

@@ -5,8 +5,8 @@ import contextlib
 import signal
 import socket
 import threading
-from itertools import dropwhile
-from typing import ContextManager, Iterator, Optional, Sequence, TextIO, Tuple, Union
+from itertools import dropwhile, takewhile
+from typing import Callable, ContextManager, Iterator, Optional, Sequence, TextIO, Tuple, Union
 
 from ..laboratory import Unknown
 from ..language.commands import CHANGING, OPEN
@@ -35,9 +35,14 @@ def serve(program: str, port: int, pair: Served, out: TextIO) -> None:
     """Serves the page of a pair at a port until an interrupt, or until the pair's server ends: both are raised."""
     interrupt_at_ends()
     make_room()
-    with live(program, port, pair) as door:
+
+    def announce(door: Door) -> None:
+        """Prints the addresses, which those who join the same server need before it answers."""
         print(f"{door.address(door.tokens.step)} for those who step", file=out)
-        print(f"{door.address(door.tokens.watch)} for those who only watch", file=out, flush=True)
+        print(f"{door.address(door.tokens.watch)} for those who only watch", file=out)
+        print(f"from another machine: `{door.tunnel}` there, and then the same addresses", file=out, flush=True)
+
+    with live(program, port, pair, announce) as door:
         watch(door.bridge)
 
 
@@ -53,23 +58,26 @@ def watch(bridge: Bridge) -> None:
     try:
         bridge.watch()
     except BaseException as why:
-        bridge.news.end(STOPPED if isinstance(why, KeyboardInterrupt) else f"{why}")
+        bridge.end(STOPPED if isinstance(why, KeyboardInterrupt) else f"{why}")
         bridge.news.everybody_left(GRACE)
         raise
 
 
 @contextlib.contextmanager
-def live(program: str, port: int, pair: Served) -> Iterator[Door]:
-    """The page of a pair, at a port."""
+def live(program: str, port: int, pair: Served, announce: Callable[[Door], None] = lambda door: None) -> Iterator[Door]:
+    """The page of a pair, at a port, which is announced before the pair is there."""
     with contextlib.ExitStack() as ends:
         with at_port(port):
             door = ends.enter_context(Door(port, Visit))
-        session, run = ends.enter_context(pair)
-        door.bridge = Bridge(program, run, branches_of(session), door.tokens.watch)
-        ends.callback(door.bridge.close)
-        ends.callback(cut_off, session)
-        door.bridge.begin()
         threading.Thread(target=door.serve_forever, args=(0.1,), daemon=True).start()
+        ends.callback(door.shutdown)
+        announce(door)
+        session, run = ends.enter_context(pair)
+        bridge = Bridge(program, run, branches_of(session), door.tokens.watch)
+        ends.callback(bridge.close)
+        ends.callback(cut_off, session)
+        bridge.begin()
+        door.open(bridge)
         ends.callback(door.shutdown)
         yield door
 
@@ -79,7 +87,8 @@ def begun(program: str, script: Sequence[str], name: str) -> Iterator[Pair]:
     """A server for a script, after its lines, and the script as its page has it."""
     with contextlib.ExitStack() as ends:
         run = ends.enter_context(contextlib.closing(run_of(program, script, name)))
-        server = ends.enter_context(contextlib.closing(started(program, run.setup.lines)))
+        setup = [*takewhile(lambda it: not opens(it), script)]
+        server = ends.enter_context(contextlib.closing(started(program, setup)))
         session = joined_to(ends.enter_context(contextlib.closing(Client(server.port))), program, run.setup).session
         ends.enter_context(contextlib.closing(session))
         for line in dropwhile(lambda it: not opens(it), script):
@@ -88,11 +97,16 @@ def begun(program: str, script: Sequence[str], name: str) -> Iterator[Pair]:
         yield session, run
 
 
-@contextlib.contextmanager
-def joined(program: str, port: int, setup: Optional[Setup], out: TextIO) -> Iterator[Pair]:
-    """A session of a server that is already running."""
+def joined(program: str, port: int, setup: Optional[Setup], out: TextIO) -> Served:
+    """A session of a server that is already running, which is connected at once."""
     with at_port(port):
         client = Client(port)
+    return answered(program, client, setup, f"The server at port {port}", out)
+
+
+@contextlib.contextmanager
+def answered(program: str, client: Client, setup: Optional[Setup], title: str, out: TextIO) -> Iterator[Pair]:
+    """A session that is connected, once its server answers."""
     with contextlib.ExitStack() as ends:
         ends.enter_context(contextlib.closing(client))
         print("connected; the server answers once all its sessions are", file=out, flush=True)
@@ -103,7 +117,7 @@ def joined(program: str, port: int, setup: Optional[Setup], out: TextIO) -> Iter
             print(said, file=out, flush=True)
         if known is None:
             raise Unknown("this server does not report its setup, which a page needs: --setup FILE, the file that it read")
-        yield session, Run(title=f"The server at port {port}", intro=[], setup=known, records=[])
+        yield session, Run(title=title, intro=[], setup=known, records=[])
 
 
 @contextlib.contextmanager
@@ -118,5 +132,6 @@ def at_port(port: int) -> Iterator[None]:
 def cut_off(session: Union[Client, Shared]) -> None:
     """Ends a session that may be waiting for a reply."""
     client = session.client if isinstance(session, Shared) else session
+    assert isinstance(client, Client)
     with contextlib.suppress(OSError):
         client.connection.shutdown(socket.SHUT_RDWR)

@@ -6,7 +6,7 @@ import threading
 from collections import deque
 from dataclasses import dataclass
 from itertools import islice
-from typing import Deque, List, Mapping
+from typing import Deque, Iterator, List, Mapping
 
 MOST_STREAMS = 200
 MOST_UPDATES = 1000
@@ -43,6 +43,11 @@ class News:
     @property
     def has_ended(self) -> bool:
         return bool(self._ended)
+
+    @property
+    def ending(self) -> List[bytes]:
+        """The message that nothing more will come, if that is so."""
+        return [self._ended] if self._ended else []
 
     def publish(self, update: Mapping[str, object]) -> None:
         """Makes an update the next version."""
@@ -81,6 +86,11 @@ class News:
         with self._changed:
             self._changed.wait_for(lambda: self._has_news(stream), seconds)
             return self._taken(stream)
+
+    def all_for(self, stream: Stream, seconds: float) -> Iterator[List[bytes]]:
+        """All messages for a stream as they come, up to the end; none where none come within this many seconds."""
+        while not stream.is_over:
+            yield self.awaited(stream, seconds)
 
     def everybody_left(self, seconds: float) -> bool:
         """Waits until nobody watches any more, at most this many seconds."""

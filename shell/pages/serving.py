@@ -9,13 +9,14 @@ import socket
 import time
 from http import HTTPStatus
 from http.server import BaseHTTPRequestHandler
-from typing import Callable, Dict, List, Optional, Tuple, TypeVar, Union
+from itertools import takewhile
+from typing import Callable, Dict, Iterator, List, Optional, Tuple, TypeVar, Union
 
 from ..programs import Ended
-from .bridge import STEP, Overtaken
+from .bridge import NO_JOURNAL, STEP, Overtaken
 from .door import Door, Within
 from .news import Stream
-from .typed import NotTaken, read_typed, read_wanted
+from .typed import NotTaken, read_claim, read_typed, read_wanted
 
 # The seconds within which a request has to arrive, those within which each piece of what is sent has to be taken, and those between
 # signs of life.
@@ -24,6 +25,7 @@ PIECE = 64 << 10
 # How soon a stream notices that its watcher is gone.
 LOOK = 1.0
 MOST_BODY = 64 << 10
+BEATS = b": beat\n\n"
 HTML, JSON, TEXT, EVENTS = "text/html; charset=utf-8", "application/json", "text/plain; charset=utf-8", "text/event-stream"
 HEADERS = {
     "Cache-Control": "no-store",
@@ -36,7 +38,10 @@ HEADERS = {
 }
 # The page itself says in a <meta> which script and which style it has; only a header can say who may frame it.
 POLICY = "frame-ancestors 'none'; base-uri 'none'; form-action 'none'"
-METHODS = {"": "GET", "events": "GET", "offers": "GET", "do": "POST"}
+METHODS = {"": "GET", "events": "GET", "offers": "GET", "journal": "GET", "level": "GET", "do": "POST", "name": "POST"}
+NOT_BEGUN = "the page has not begun: it begins once its script is played, or all sessions of its server are connected; try again then"
+# After how many seconds a browser asks again.
+AGAIN = "2"
 
 A = TypeVar("A")
 T = TypeVar("T")
@@ -49,6 +54,13 @@ class Refused(Exception):
     def __init__(self, status: HTTPStatus, why: str = ""):
         super().__init__(why or status.phrase)
         self.status = status
+
+
+class NotBegun(Refused):
+    """The bridge is not there yet. A browser asks again by itself."""
+
+    def __init__(self) -> None:
+        super().__init__(HTTPStatus.SERVICE_UNAVAILABLE, NOT_BEGUN)
 
 
 class Visit(BaseHTTPRequestHandler):
@@ -88,6 +100,8 @@ class Visit(BaseHTTPRequestHandler):
     def _carry_out(self, method: Callable[[], None]) -> None:
         try:
             method()
+        except NotBegun as why:
+            self._answer(why.status, TEXT, str(why), {"Refresh": AGAIN})
         except Refused as why:
             self._answer(why.status, TEXT, str(why))
         except Ended as why:
@@ -99,6 +113,13 @@ class Visit(BaseHTTPRequestHandler):
         may, path, query = self._target()
         if path == "events":
             self._events(query)
+        elif path in ("journal", "level"):
+            if not self.server.bridge.has_journal:
+                raise Refused(HTTPStatus.NOT_IMPLEMENTED, NO_JOURNAL)
+            if path == "journal":
+                self._journal(may, query)
+            else:
+                self._answer(HTTPStatus.OK, JSON, json.dumps({"entries": self.server.bridge.level()}))
         elif path:
             self._check_may_step(may)
             wanted = self._read(read_wanted, query)
@@ -109,11 +130,12 @@ class Visit(BaseHTTPRequestHandler):
     def _post(self) -> None:
         # (a small body is read before anything is refused: a connection closed before that loses its answer)
         body = self._body()
-        may, _, _ = self._target()
+        may, path, _ = self._target()
         self._check_sender()
         self._check_may_step(may)
-        typed = self._read(read_typed, body)
-        self._answer(HTTPStatus.OK, JSON, json.dumps(self.server.bridge.do(typed)))
+        bridge = self.server.bridge
+        answer = bridge.do(self._read(read_typed, body)) if path == "do" else bridge.claim(self._read(read_claim, body))
+        self._answer(HTTPStatus.OK, JSON, json.dumps(answer))
 
     # ---- what a request must have
 
@@ -138,6 +160,8 @@ class Visit(BaseHTTPRequestHandler):
             raise Refused(HTTPStatus.NOT_FOUND)
         if METHODS[found[2]] != self.command:
             raise Refused(HTTPStatus.METHOD_NOT_ALLOWED)
+        if not self.server.is_open(READ_SECONDS):
+            raise NotBegun()
         return may, found[2], found[3] or ""
 
     def _body(self) -> bytes:
@@ -164,9 +188,9 @@ class Visit(BaseHTTPRequestHandler):
 
     # ---- answers
 
-    def _answer(self, status: HTTPStatus, kind: str, said: Union[str, bytes]) -> None:
+    def _answer(self, status: HTTPStatus, kind: str, said: Union[str, bytes], more: Optional[Dict[str, str]] = None) -> None:
         body = said if isinstance(said, bytes) else f"{said}\n".encode()
-        self._begin(status, kind, {"Content-Length": str(len(body))})
+        self._begin(status, kind, {"Content-Length": str(len(body)), **(more or {})})
         if self.command != "HEAD":
             self._send(body)
 
@@ -188,25 +212,32 @@ class Visit(BaseHTTPRequestHandler):
     # ---- events
 
     def _events(self, query: str) -> None:
+        self._stream(self.server.bridge.news.all_for(Stream(self._place(query, "events?after=VERSION")), LOOK))
+
+    def _journal(self, may: str, query: str) -> None:
+        self._stream(self.server.bridge.told(may, self._place(query, "journal?after=NUMBER"), LOOK))
+
+    def _place(self, query: str, wanted: str) -> int:
+        """The place after which a watcher wants what comes."""
         after = re.fullmatch("after=([0-9]{1,15})", query)
         if not after:
-            raise Refused(HTTPStatus.BAD_REQUEST, "events?after=VERSION is expected")
+            raise Refused(HTTPStatus.BAD_REQUEST, f"{wanted} is expected")
+        return int(after[1])
+
+    def _stream(self, messages: Iterator[List[bytes]]) -> None:
+        """Sends what a watcher lacks as it comes, and signs of life. A watcher who does not read holds up only this thread."""
         if not self.server.bridge.news.come():
             raise Refused(HTTPStatus.SERVICE_UNAVAILABLE, "too many people are watching")
         try:
-            self._stream(Stream(int(after[1])))
+            self._send_all(messages)
         finally:
             self.server.bridge.news.go()
 
-    def _stream(self, stream: Stream) -> None:
-        """Sends what a watcher lacks as it comes, and signs of life. A watcher who does not read holds up only this thread."""
+    def _send_all(self, messages: Iterator[List[bytes]]) -> None:
         self._begin(HTTPStatus.OK, EVENTS, {})
         sent = time.monotonic()
-        while not stream.is_over and not self._is_left():
-            messages = self.server.bridge.news.awaited(stream, LOOK)
-            if not messages and time.monotonic() >= sent + BEAT:
-                messages = [b": beat\n\n"]
-            for it in messages:
+        for came in takewhile(lambda it: not self._is_left(), messages):
+            for it in came or [BEATS] * (time.monotonic() >= sent + BEAT):
                 self._send(it)
                 sent = time.monotonic()
 

@@ -8,7 +8,7 @@ from typing import Dict, List, Optional, Sequence, Union
 from ..branches import Branch, read_log
 from ..language.commands import LOG, NAMES, SHOW, STEP
 from ..language.events import plain_event
-from ..mirror import Entry, Shared
+from ..mirror import Entry, Shared, Taken
 from ..pair import Pair, read_shown
 from ..programs import FULL, VIEW, Client, Ended, Session, commands_of
 
@@ -23,6 +23,24 @@ class Branches:
         self.session = session
         self.by_name: Dict[str, Branch] = {}
         self._is_stale = True
+
+    @property
+    def has_journal(self) -> bool:
+        """Whether each command of the server is known."""
+        return False
+
+    @property
+    def setup(self) -> Sequence[str]:
+        """The lines of the setup that the server reports, comments among them."""
+        return ()
+
+    def taken(self) -> List[Taken]:
+        """The commands of all sessions that were not returned before, if they are known."""
+        return []
+
+    def is_own(self, it: Entry) -> bool:
+        """Whether this session gave a command."""
+        return False
 
     def look(self) -> None:
         """Updates the branches."""
@@ -83,6 +101,23 @@ class FollowedBranches(Branches):
         super().__init__(session)
         self._shared = session
         session.heard = self._hear
+        self._returned = 0
+
+    @property
+    def has_journal(self) -> bool:
+        return self._shared.has_mirror
+
+    @property
+    def setup(self) -> Sequence[str]:
+        return self._shared.setup
+
+    def taken(self) -> List[Taken]:
+        new = self._shared.taken[self._returned :]
+        self._returned += len(new)
+        return new
+
+    def is_own(self, it: Entry) -> bool:
+        return it.session in (0, self._shared.number)
 
     def look(self) -> None:
         self._shared.level()

@@ -1,21 +1,23 @@
-"""What a browser sends: a line of the language with the name of its sender, taken from the body of a request, or the places of a page whose
-offers it wants, taken from a query; or refused."""
+"""What a browser or a shell sends: a line of the language with the name of its sender, or the name of a session, taken from the body of a
+request; or the places of a page whose offers it wants, taken from a query; or refused."""
 from __future__ import annotations
 
 import json
 import re
-from typing import NamedTuple, Optional, Sequence
+from typing import Any, Dict, NamedTuple, Optional, Sequence
 
 from .offers import PLACE
 from ..language.commands import BACK, CHANGING, DROP, EXCISE, FORK, FORWARD, RESTORE
+from ..visits import cleaned
 
 # The commands that mean something else after another change of their branch.
 COUNTING = tuple(it.word for it in (BACK, FORWARD, FORK, DROP, EXCISE, RESTORE))
 LONGEST_LINE = 4096
-LONGEST_NAME = 40
 NOBODY = "somebody"
 # Of how many places the offers are asked at once.
 MOST_PLACES = 120
+# What a session says to show that a name is its own: a name of a branch that nobody has.
+SIGN = re.compile("[a-z][a-z0-9]{15}")
 _WANTED = re.compile(r"branch=([a-z][a-z0-9-]{0,15})&places=([a-z0-9/.,]{1,8192})")
 
 
@@ -37,6 +39,13 @@ class Typed(NamedTuple):
         return words[1] if words[0] in COUNTING and len(words) > 1 else ""
 
 
+class Claim(NamedTuple):
+    """The name of a session, and the sign by which that session is known; the name can be empty."""
+
+    name: str
+    sign: str
+
+
 class Wanted(NamedTuple):
     """The places of a branch whose offers a page wants."""
 
@@ -55,15 +64,30 @@ def read_wanted(query: str) -> Wanted:
 
 def read_typed(body: bytes) -> Typed:
     """The line in a body, and the name."""
+    it = _read(body)
+    name, line, version = it.get("name", ""), it.get("line"), it.get("version")
+    if not isinstance(name, str) or not isinstance(line, str) or type(version) not in (int, type(None)):
+        raise NotTaken('the body has to be {"name": "..", "line": "..", "version": N}')
+    _check(line)
+    return Typed(cleaned(name) or NOBODY, line.strip(), version)
+
+
+def read_claim(body: bytes) -> Claim:
+    """The name in a body, and the sign."""
+    it = _read(body)
+    name, sign = it.get("name"), it.get("sign")
+    if not isinstance(name, str) or not isinstance(sign, str) or not SIGN.fullmatch(sign):
+        raise NotTaken('the body has to be {"name": "..", "sign": "a letter and 15 letters or digits"}')
+    return Claim(cleaned(name), sign)
+
+
+def _read(body: bytes) -> Dict[str, Any]:
+    """The members of a body; none if it is no object."""
     try:
         it = json.loads(body.decode())
     except (ValueError, RecursionError):
         raise NotTaken("the body is not JSON") from None
-    name, line, version = (it.get("name", ""), it.get("line"), it.get("version")) if isinstance(it, dict) else ("", None, None)
-    if not isinstance(name, str) or not isinstance(line, str) or type(version) not in (int, type(None)):
-        raise NotTaken('the body has to be {"name": "..", "line": "..", "version": N}')
-    _check(line)
-    return Typed(_cleaned(name), line.strip(), version)
+    return it if isinstance(it, dict) else {}
 
 
 def _check(line: str) -> None:
@@ -73,8 +97,3 @@ def _check(line: str) -> None:
         raise NotTaken("the line has a control character; send one line at a time")
     if line.split()[:1] not in [[it] for it in CHANGING]:
         raise NotTaken(f"a page sends only lines that change the pair: {', '.join(CHANGING)}")
-
-
-def _cleaned(name: str) -> str:
-    """A name as it is shown, without what does not print or reverses the direction of writing."""
-    return "".join(it for it in name if it.isprintable())[:LONGEST_NAME].strip() or NOBODY

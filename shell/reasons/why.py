@@ -76,7 +76,7 @@ def why_last(lab: Laboratory, paint: Paint, columns: Optional[int] = None) -> Li
         return lines if same else [paint.note(f"another session has changed {branch.name} since; its newest event is this:"), *lines]
     lines = why_ahead(lab, words[1], " ".join(words[2:]), paint)
     moved = paint.dim("this is from the branch as it is now, which other sessions may have changed since")
-    return lines if lab.port is None else [*lines, *_indented([moved])]
+    return lines if lab.is_own else [*lines, *_indented([moved])]
 
 
 def _explained(lab: Laboratory, branch: Branch, it: Explanation, paint: Paint) -> List[str]:

@@ -19,7 +19,7 @@ class Steps(Bridged):
         door = self.live()
         watcher, begun = self.watcher(door), time.monotonic()
         answer = self.step(door, PACKET, "Ann")
-        self.assertEqual(answer, {"reply": ["step pass 1.1 dropped 0"], "why": [], "version": 1})
+        self.assertEqual(answer, {"reply": ["step pass 1.1 dropped 0"], "why": [], "version": 1, "entry": 1})
         it = watcher.update()
         self.assertLess(time.monotonic() - begun, PROMPT)
         self.assertEqual((it["version"], it["who"], it["line"], it["people"]), (1, "Ann", PACKET, 1))

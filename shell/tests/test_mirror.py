@@ -119,7 +119,9 @@ class Mirrored(Followers):
         port = self.serve(1)
         lab = self.laboratory(port)
         lab.join()
-        shared(lab).client.connection.shutdown(2)
+        client = shared(lab).client
+        assert isinstance(client, Client)
+        client.connection.shutdown(2)
         for line in ("show main", STEP):
             with self.assertRaisesRegex(Ended, "^the server has ended, or has ended this session$"):
                 lab.ask(line)

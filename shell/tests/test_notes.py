@@ -14,7 +14,7 @@ from .terminals import Terminal
 from ..colours import PLAIN
 from ..laboratory import Laboratory
 from ..mirror import Entry
-from ..notes import MOST, PAUSE, Notes, in_short
+from ..notes import MOST, PATIENCE, PAUSE, Notes, all_of, in_short
 from ..shell import Shell
 from ..terminal import above
 
@@ -122,6 +122,74 @@ class Due(Followers):
             self.assertEqual(said[MOST:], ["200 commands of session 2; the newest: [session 2] step main tick a 1 -> clock 1"])
             hear(1)
             self.assertTrue(notes.are_due)
+
+
+class Late:
+    """Names that are known once they are let come."""
+
+    def __init__(self) -> None:
+        self.have_come = False
+        self.waited: List[float] = []
+
+    def knows(self, it: Entry, seconds: float = 0) -> bool:
+        self.waited.append(seconds)
+        return self.have_come
+
+    def name(self, it: Entry) -> str:
+        return "Ann" if self.have_come else ""
+
+    def close(self) -> None:
+        pass
+
+
+class NamesDue(Followers):
+    """How long notes wait for names."""
+
+    def setUp(self) -> None:
+        super().setUp()
+        lab = self.laboratory(self.serve(1))
+        lab.join()
+        self.shown: List[str] = []
+        self.names = Late()
+        self.notes = Notes(shared(lab), self.shown.extend, PLAIN, self.names)
+        self.clock = self.ends.enter_context(mock.patch("time.monotonic", return_value=100.0))
+
+    def hear(self) -> None:
+        self.notes.shared.heard(Entry(1, 2, "back main 1"), ["at 0"])
+
+    def test_a_note_is_due_with_its_name(self) -> None:
+        self.hear()
+        self.assertFalse(self.notes.are_due)
+        self.names.have_come = True
+        self.assertTrue(self.notes.are_due)
+        self.notes.show()
+        self.assertEqual(self.shown, ["[Ann] back main 1 -> at 0"])
+
+    def test_a_name_that_does_not_come_is_not_awaited_for_long(self) -> None:
+        self.hear()
+        self.clock.return_value += PATIENCE / 2
+        self.assertFalse(self.notes.are_due)
+        self.clock.return_value += PATIENCE / 2
+        self.assertTrue(self.notes.are_due)
+        self.notes.show()
+        self.assertEqual(self.shown, ["[session 2] back main 1 -> at 0"])
+        self.assertEqual(self.names.waited[-1], 0)
+
+    def test_a_prompt_waits_for_what_is_left_of_that_time(self) -> None:
+        self.hear()
+        self.clock.return_value += PATIENCE / 4
+        self.notes.show()
+        self.assertEqual(self.names.waited, [PATIENCE * 3 / 4])
+
+    def test_the_name_in_an_entry_is_taken(self) -> None:
+        self.notes.shared.heard(Entry(1, 0, "back main 1", "Bob"), ["at 0"])
+        self.notes.show()
+        self.assertEqual(self.shown, ["[Bob] back main 1 -> at 0"])
+
+    def test_all_who_gave_many(self) -> None:
+        people = {("", 3), ("Bob", 0), ("", 2), ("Ann", 0)}
+        self.assertEqual(all_of(people), "Ann, Bob, sessions 2, 3")
+        self.assertEqual([all_of({it}) for it in [("", 3), ("Ann", 0)]], ["session 3", "Ann"])
 
 
 class Typing(Followers):

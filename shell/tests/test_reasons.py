@@ -629,7 +629,7 @@ class Reasons(unittest.TestCase):
         for name, (script, expected) in cases.items():
             with self.subTest(name):
                 lab = laboratory(script)
-                lab.knows_setup, lab.port = False, 1
+                lab.knows_setup, lab.is_own = False, False
                 lines = [it.strip() for it in why_last(lab, PLAIN)]
                 lab.close()
                 for line in [*expected, "this is from the branch as it is now, which other sessions may have changed since"]:

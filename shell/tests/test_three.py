@@ -4,29 +4,28 @@
 from __future__ import annotations
 
 import contextlib
-import io
 import json
+import os
 import re
+import subprocess
 import sys
-import threading
 import urllib.request
 from typing import Callable, Dict, Iterator, List, NamedTuple, Tuple
 
 from . import TOP, program
-from .bridges import watched
 from .dialogues import PROMPT
 from .followers import Followers, ProvedFollowers
 from .terminals import Terminal
 from ..language.commands import CHANGING
 from ..language.events import EVENTS
-from ..pages.door import Door
-from ..pages.live import joined, live
+from ..pages.server import free_port
 
 PATH = f"{TOP}/docs/SHELL.md"
 # The block of the dialogue, and what is before and after its lines.
 BLOCK = re.compile(r"(.*<!-- dialogue of three -->\n```text\n)(.*?)(```\n.*)", re.DOTALL)
 SETUP = ["rule a block any", "rule a pass out", "rule b block any", "rule b pass out", "open"]
 SHELLS = ("Ann", "Bob")
+MORE = {"PFL_LAB": program(), "PFL_LAB_HISTORY": "", "NO_COLOR": "1", "PYTHONDONTWRITEBYTECODE": "1"}
 AT_PAGE = "Cid"
 LINE = re.compile(rf"({'|'.join((*SHELLS, AT_PAGE))})  (.*)")
 
@@ -58,23 +57,30 @@ class Play:
     def __init__(self, port: int, ends: contextlib.ExitStack):
         self.terminals: Dict[str, Terminal] = {}
         self.rows: List[str] = []
+        self._ends = ends
+        self.address = self._begin_page(port)
         for who in SHELLS:
-            words = [sys.executable, f"{TOP}/lab", "shell", "--port", str(port)]
-            more = {"PFL_LAB": program(), "PFL_LAB_HISTORY": "", "NO_COLOR": "1", "PYTHONDONTWRITEBYTECODE": "1"}
-            it = self.terminals[who] = Terminal(words, more, columns=132, rows=60)
+            words = [sys.executable, f"{TOP}/lab", "shell", "--port", str(port), "--page", self.address, "--name", who]
+            it = self.terminals[who] = Terminal(words, MORE, columns=132, rows=60)
             ends.callback(it.close)
-            it.wait(lambda rows: rows[0].startswith("lab: connected"))
-        self.door: Door = ends.enter_context(live(program(), 0, joined(program(), port, None, io.StringIO())))
-        threading.Thread(target=watched, args=(self.door.bridge,), daemon=True).start()
         for it in self.terminals.values():
             it.wait_for("main 0/0>")
         # How many rows of each were taken.
         self.taken = {who: 1 for who in SHELLS}
 
+    def _begin_page(self, port: int) -> str:
+        """Begins the page, which prints its addresses before the server answers; returns the one for stepping."""
+        words = [sys.executable, f"{TOP}/lab", "page", "--serve", str(free_port()), "--port", str(port)]
+        its = subprocess.Popen(words, stdout=subprocess.PIPE, env={**os.environ, **MORE}, text=True)
+        self._ends.callback(its.communicate)
+        self._ends.callback(its.terminate)
+        assert its.stdout
+        return its.stdout.readline().split()[0]
+
     def play(self, turn: Turn) -> None:
         if turn.who == AT_PAGE:
             body = json.dumps({"name": turn.who, "line": f"step main {turn.line}"}).encode()
-            request = urllib.request.Request(f"{self.door.address(self.door.tokens.step)}do", body, {"Content-Type": "application/json"})
+            request = urllib.request.Request(f"{self.address}do", body, {"Content-Type": "application/json"})
             urllib.request.urlopen(request, timeout=30).close()
             self.rows.append(f"{turn.who}  {turn.line}")
         else:
@@ -113,7 +119,8 @@ class Three(Followers):
     def test_the_dialogue_is_so(self) -> None:
         before, text, after = told()
         self.assertIn("\\n".join(SETUP), before)
-        self.assertIn(f"`closed {sum(it.changes for it in turns(text))}`", after)
+        # (each shell gives its name by one more)
+        self.assertIn(f"`closed {len(SHELLS) + sum(it.changes for it in turns(text))}`", after)
         self.assertGreater(len([*turns(text)]), 5)
         self.assertEqual(text, played(self.serve(3, SETUP), text, self.ends))
 
