@@ -19,8 +19,7 @@ use Rattle.pfl_containers.specs.declared.order.arena.Arena.{Arena}
 use Rattle.pfl_containers.specs.inner.Trees.{Tree, leaf, once, entries, uses, Holds, Makes}
 use Rattle.pfl_containers.specs.inner.Searches.{under, Finds}
 use Rattle.pfl_containers.specs.inner.Changes.{without, HasItem, Inserts, Parts, Removes}
-use Rattle.pfl_containers.specs.inner.Balances.{depth, fewest, IsBalanced}
-use Rattle.pfl_containers.proofs.Balances.{shallow, low}
+use Rattle.pfl_containers.specs.inner.Balances.{IsBalanced}
 use Rattle.pfl_containers.specs.inner.Arenas.{Fills, none_held, Stores, IsArena, HasRoom, TakesPlace, Locates, Changes, Gains, Loses}
 use Rattle.pfl_containers.proofs.Standing.{linked_joins, Holds-kept, uses_within, used_within, one_or_other, once_same, once_other}
 use Rattle.pfl_containers.proofs.Searching.{find-under, stands-under}
@@ -113,18 +112,6 @@ module _ {K V A : Type 0} {R : K → K → Ordering} (o : IsTotalOrder R) where
 
     tree_few : length (entries s.tree) < 2 ^ 32
     tree_few = omega (arith, s.fills.counted, s.fills.few, s.fills.short)
-
-    -- the tree is less deep than one that has more entries must be,
-    pub depth-less : (d : ℕ) → length es < fewest d → depth s.tree < d
-    depth-less d few = shallow s.tree s.balanced d (omega (arith, few, ap length s.lists))
-
-    -- so that of 65,536 entries is at most 22 deep,
-    pub depth-of_65536 : length es ≤ 65536 → depth s.tree ≤ 22
-    depth-of_65536 few = omega (arith, depth-less 23 (omega (arith, few)))
-
-    -- and no tree is more than 45
-    pub depth-at_most : depth s.tree ≤ 45
-    depth-at_most = omega (arith, low s.tree s.balanced tree_few)
 
     found_some : (q : K) (place : ℕ) (node : Node K V) → under R s.tree q ≡ Some (place, node) → find R q (entries s.tree) ≡ Some node.value
     found_some q place node is = find-under o s.tree q tree_sorted ∙ ap (option_map (λ p. p.1.value)) is

@@ -72,13 +72,6 @@ full d le h at =
     let out : pushed_out d ≡ Some h = ap (λ b. cond b (slice_get d.list 0) None) test ∙ at in
     (out, ap (λ (o : Option Held). option_map_or (λ k. let_go d k.name) o d) out)
 
--- a list with room stays as it is
-pub roomy : (d : Deferrals) → length d.list < d.limit → (pushed_out d ≡ None) × (with_room d ≡ d)
-roomy d lt =
-    let test : leb d.limit (length d.list) ≡ false = grind (arith, nat_tests) in
-    let out : pushed_out d ≡ None = ap (λ b. cond b (slice_get d.list 0) None) test in
-    (out, ap (λ (o : Option Held). option_map_or (λ k. let_go d k.name) o d) out)
-
 -- the items are the list with one more packet
 pub record Appends (d : Deferrals) (name : StateName) (packet : Packet) (now : ℕ) (items : List Held) : Type 0 where
   pub list : ◌≡◌ {A = Deferrals} (record { limit = d.limit; list = items }) (with_held d name packet now)

@@ -1,7 +1,7 @@
 -- What proofs of other crates may cite of this crate's proofs; the rest of proofs/ is its own.
 pub use Rattle.pfl_desk.proofs.Deferred.{freed-may, held-may, wanted-may}
 pub use Rattle.pfl_desk.proofs.Deletions.{Rest, deleted-rest}
-pub use Rattle.pfl_desk.proofs.Keeps.{counted_all, keeps_next_id, state_still}
+pub use Rattle.pfl_desk.proofs.Keeps.{keeps_next_id, state_still}
 pub use Rattle.pfl_desk.proofs.Lasting.{left-same}
 pub use Rattle.pfl_desk.proofs.NewNodes.{new_node-counts, new_node-is}
 pub use Rattle.pfl_desk.proofs.Putting.{put-node, told-may}

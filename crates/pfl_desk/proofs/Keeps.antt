@@ -77,17 +77,14 @@ keeps_states n m is are few each rightly = record {
 
 -- ---- what is counted
 
--- the numbers that are counted, one by one
-pub record AreCounted (n : Node) : Type 0 where
-  pub next_id : n.next_id ≤ greatest
-  pub next : n.queue.next ≤ greatest
-  pub passed : n.counters.passed ≤ greatest
-  pub blocked : n.counters.blocked ≤ greatest
-  pub freed : n.counters.freed ≤ greatest
-  pub lost : n.counters.lost ≤ greatest
-  pub bad : n.counters.bad ≤ greatest
-  pub stale : n.counters.stale ≤ greatest
-  pub broken : n.counters.broken ≤ greatest
+-- the numbers that are counted
+abbrev numbers : Node → List ℕ
+numbers n = n.next_id ∷ n.queue.next ∷ n.counters.passed ∷ n.counters.blocked ∷ n.counters.freed ∷ n.counters.lost ∷ n.counters.bad
+    ∷ n.counters.stale ∷ n.counters.broken ∷ []
+
+-- none of them is past the greatest
+abbrev pub AreCounted : Node → Type 0
+AreCounted n = AllByRecursion (λ x. x ≤ greatest) (numbers n)
 
 neither : (a b : Bool) → a ≡ false → b ≡ false → (a || b) ≡ false
 neither true b e h = cc
@@ -111,25 +108,10 @@ all_below (x ∷ xs) e =
     (within x each.0, all_below xs each.1)
 
 pub counted_all : (n : Node) → is_overcounted n ≡ false → AreCounted n
-counted_all n e =
-    let all = all_below (n.next_id ∷ n.queue.next ∷ n.counters.passed ∷ n.counters.blocked ∷ n.counters.freed ∷ n.counters.lost
-    ∷ n.counters.bad ∷ n.counters.stale ∷ n.counters.broken ∷ []) e in
-    record {
-      next_id = all.0;
-      next = all.1.0;
-      passed = all.1.1.0;
-      blocked = all.1.1.1.0;
-      freed = all.1.1.1.1.0;
-      lost = all.1.1.1.1.1.0;
-      bad = all.1.1.1.1.1.1.0;
-      stale = all.1.1.1.1.1.1.1.0;
-      broken = all.1.1.1.1.1.1.1.1.0;
-    }
+counted_all n e = all_below (numbers n) e
 
 pub all_counted : (n : Node) → AreCounted n → is_overcounted n ≡ false
-all_counted n c = none_above (n.next_id ∷ n.queue.next ∷ n.counters.passed ∷ n.counters.blocked ∷ n.counters.freed ∷ n.counters.lost
-    ∷ n.counters.bad ∷ n.counters.stale ∷ n.counters.broken ∷ [])
-    (c.next_id, (c.next, (c.passed, (c.blocked, (c.freed, (c.lost, (c.bad, (c.stale, (c.broken, tt)))))))))
+all_counted n c = none_above (numbers n) c
 
 -- ---- one place each
 

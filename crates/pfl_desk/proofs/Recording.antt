@@ -30,7 +30,7 @@ use Rattle.pfl_desk.specs.Edits.{Finds, FindsFormer, put_back, redone, total, co
 use Rattle.pfl_desk.specs.inner.BothWays.{edit-both_ways}
 use Rattle.pfl_desk.specs.inner.Drafting.{IsDraft, Makes, MakesIf, Wrote}
 use Rattle.pfl_desk.specs.Nodes.{Node, AreParts, is_overcounted, is_overfull}
-use Rattle.pfl_desk.proofs.Keeps.{counted_all, keeps_held}
+use Rattle.pfl_desk.proofs.Keeps.{AreCounted, counted_all, keeps_held}
 
 -- ---- what is recorded one after another
 
@@ -101,14 +101,14 @@ writes-if a b x y None is made wrote =
     (subst (λ (z : Edits NodeEdit). Writes 1 (draft a x) (draft a z)) (sym wrote) (writes-none 1 (draft a x)))
 
 -- what is counted is far from the last number that the code has
-total-small : (n : Node) → is_overcounted n ≡ false → total n ≤ 9 * greatest
+total-small : (n : Node) → AreCounted n → total n ≤ 9 * greatest
 unfolding total
-total-small n c = let k = counted_all n c in omega (arith, k.next_id, k.next, k.passed, k.blocked, k.freed, k.lost, k.bad, k.stale, k.broken)
+total-small n (i, (q, (p, (b, (f, (l, (d, (s, (k, none))))))))) = omega arith
 
 -- so one more can be counted
 pub countable : (d : Draft) → IsDraft d → total d.node < most_numbers
 countable d is =
-    let small = total-small (began d) is.start in
+    let small = total-small (began d) (counted_all (began d) is.start) in
     let more = is.counted in
     let few = is.room in
     omega (arith, small, more, few)

@@ -1,5 +1,5 @@
 -- What was carried out and is not refused leads back through nodes; what is refused is refused for its points.
-use Rattle.std.specs.Prelude.{◌≡◌, ◌≤◌, Bool, true, false, List, [], ◌∷◌, Some, None, Result, Ok, Err, IfOk, OnOk, if◌then◌else◌, refl}
+use Rattle.std.specs.Prelude.{◌≡◌, ◌≤◌, ℕ, Bool, true, false, List, [], ◌∷◌, Some, None, Result, Ok, Err, IfOk, OnOk, if◌then◌else◌, refl}
 use Rattle.std.specs.List.{list_any}
 use Rattle.std.proofs.Common.{◌∙◌, ap, sym, subst}
 use Rattle.pfl_base.specs.declared.refusal.Refusal.{Refusal}
@@ -11,152 +11,42 @@ use Rattle.pfl_desk.specs.declared.edit.Counter.TheVariants.{Passed, Blocked, Fr
 use Rattle.pfl_desk.specs.declared.edit.NodeEdit.{NodeEdit}
 use Rattle.pfl_desk.specs.declared.edit.NodeEdit.TheVariants.{OfState, Moved, OfQueue, OfHeld, Server, Client, Clock, NextId, Push, Count}
 use Rattle.pfl_desk.specs.declared.parts.judge.Overfull.{Overfull}
-use Rattle.pfl_desk.specs.Edits.{Finds, put_back, NodeLeadsBack}
+use Rattle.pfl_desk.specs.Edits.{Finds, Stays, put_back, NodeLeadsBack}
 use Rattle.pfl_desk.specs.inner.Judging.{Went, judgement}
 use Rattle.pfl_desk.specs.Nodes.{Node, AreParts, IsNode, is_overfull, is_overcounted, refused_by, points_refusal}
-use Rattle.pfl_desk.proofs.Keeps.{counted_all, all_counted}
+use Rattle.pfl_desk.proofs.Keeps.{AreCounted, counted_all, all_counted}
 
 -- ---- the way back is through nodes
 
+-- the former number is not past the greatest, where the one that is there is not
+former : (before after x : ℕ) → (x ≡ after) × Stays before after → x ≤ greatest → before ≤ greatest
+former before after x f low = f.1 (subst (λ i. i ≤ greatest) f.0 low)
+
 -- what is put back is not past the greatest, where nothing was
+counted : (e : NodeEdit) (n : Node) → Finds e n → AreCounted n → AreCounted (put_back e n)
+counted (OfState e) n f c = c
+counted (Moved e) n f c = c
+counted (OfQueue (OfMark name before after next_before next_after)) n f (i, (k, more)) = (i, (former next_before next_after n.queue.next (f.0.1, f.1) k, more))
+counted (OfQueue (OfName name before after)) n f c = c
+counted (OfQueue (OfRequest position before after)) n f c = c
+counted (OfQueue (OfStatus position before after)) n f c = c
+counted (OfQueue (OfClear position before after)) n f c = c
+counted (OfHeld e) n f c = c
+counted (Server before after) n f c = c
+counted (Client before after) n f c = c
+counted (Clock before after) n f c = c
+counted (Push before after) n f c = c
+counted (NextId before after) n f (k, more) = (former before after n.next_id f k, more)
+counted (Count Passed before after) n f (i, (q, (k, more))) = (i, (q, (former before after n.counters.passed f k, more)))
+counted (Count Blocked before after) n f (i, (q, (p, (k, more)))) = (i, (q, (p, (former before after n.counters.blocked f k, more))))
+counted (Count Freed before after) n f (i, (q, (p, (b, (k, more))))) = (i, (q, (p, (b, (former before after n.counters.freed f k, more)))))
+counted (Count Lost before after) n f (i, (q, (p, (b, (x, (k, more)))))) = (i, (q, (p, (b, (x, (former before after n.counters.lost f k, more))))))
+counted (Count Bad before after) n f (i, (q, (p, (b, (x, (l, (k, more))))))) = (i, (q, (p, (b, (x, (l, (former before after n.counters.bad f k, more)))))))
+counted (Count Stale before after) n f (i, (q, (p, (b, (x, (l, (d, (k, more)))))))) = (i, (q, (p, (b, (x, (l, (d, (former before after n.counters.stale f k, more))))))))
+counted (Count Broken before after) n f (i, (q, (p, (b, (x, (l, (d, (s, (k, more))))))))) = (i, (q, (p, (b, (x, (l, (d, (s, (former before after n.counters.broken f k, more)))))))))
+
 stays : (e : NodeEdit) (n : Node) → Finds e n → is_overcounted n ≡ false → is_overcounted (put_back e n) ≡ false
-stays (OfState e) n f c = c
-stays (Moved e) n f c = c
-stays (OfQueue (OfMark name before after next_before next_after)) n f c =
-    let k = counted_all n c in
-    all_counted (put_back (OfQueue (OfMark name before after next_before next_after)) n)
-    (record {
-      next_id = k.next_id;
-      next = f.1 (subst (λ i. i ≤ greatest) f.0.1 k.next);
-      passed = k.passed;
-      blocked = k.blocked;
-      freed = k.freed;
-      lost = k.lost;
-      bad = k.bad;
-      stale = k.stale;
-      broken = k.broken;
-    })
-stays (OfQueue (OfName name before after)) n f c = c
-stays (OfQueue (OfRequest position before after)) n f c = c
-stays (OfQueue (OfStatus position before after)) n f c = c
-stays (OfQueue (OfClear position before after)) n f c = c
-stays (OfHeld e) n f c = c
-stays (Server before after) n f c = c
-stays (Client before after) n f c = c
-stays (Clock before after) n f c = c
-stays (Push before after) n f c = c
-stays (NextId before after) n f c =
-    let k = counted_all n c in
-    all_counted (put_back (NextId before after) n)
-    (record {
-      next_id = f.1 (subst (λ i. i ≤ greatest) f.0 k.next_id);
-      next = k.next;
-      passed = k.passed;
-      blocked = k.blocked;
-      freed = k.freed;
-      lost = k.lost;
-      bad = k.bad;
-      stale = k.stale;
-      broken = k.broken;
-    })
-stays (Count Passed before after) n f c =
-    let k = counted_all n c in
-    all_counted (put_back (Count Passed before after) n)
-    (record {
-      next_id = k.next_id;
-      next = k.next;
-      passed = f.1 (subst (λ i. i ≤ greatest) f.0 k.passed);
-      blocked = k.blocked;
-      freed = k.freed;
-      lost = k.lost;
-      bad = k.bad;
-      stale = k.stale;
-      broken = k.broken;
-    })
-stays (Count Blocked before after) n f c =
-    let k = counted_all n c in
-    all_counted (put_back (Count Blocked before after) n)
-    (record {
-      next_id = k.next_id;
-      next = k.next;
-      passed = k.passed;
-      blocked = f.1 (subst (λ i. i ≤ greatest) f.0 k.blocked);
-      freed = k.freed;
-      lost = k.lost;
-      bad = k.bad;
-      stale = k.stale;
-      broken = k.broken;
-    })
-stays (Count Freed before after) n f c =
-    let k = counted_all n c in
-    all_counted (put_back (Count Freed before after) n)
-    (record {
-      next_id = k.next_id;
-      next = k.next;
-      passed = k.passed;
-      blocked = k.blocked;
-      freed = f.1 (subst (λ i. i ≤ greatest) f.0 k.freed);
-      lost = k.lost;
-      bad = k.bad;
-      stale = k.stale;
-      broken = k.broken;
-    })
-stays (Count Lost before after) n f c =
-    let k = counted_all n c in
-    all_counted (put_back (Count Lost before after) n)
-    (record {
-      next_id = k.next_id;
-      next = k.next;
-      passed = k.passed;
-      blocked = k.blocked;
-      freed = k.freed;
-      lost = f.1 (subst (λ i. i ≤ greatest) f.0 k.lost);
-      bad = k.bad;
-      stale = k.stale;
-      broken = k.broken;
-    })
-stays (Count Bad before after) n f c =
-    let k = counted_all n c in
-    all_counted (put_back (Count Bad before after) n)
-    (record {
-      next_id = k.next_id;
-      next = k.next;
-      passed = k.passed;
-      blocked = k.blocked;
-      freed = k.freed;
-      lost = k.lost;
-      bad = f.1 (subst (λ i. i ≤ greatest) f.0 k.bad);
-      stale = k.stale;
-      broken = k.broken;
-    })
-stays (Count Stale before after) n f c =
-    let k = counted_all n c in
-    all_counted (put_back (Count Stale before after) n)
-    (record {
-      next_id = k.next_id;
-      next = k.next;
-      passed = k.passed;
-      blocked = k.blocked;
-      freed = k.freed;
-      lost = k.lost;
-      bad = k.bad;
-      stale = f.1 (subst (λ i. i ≤ greatest) f.0 k.stale);
-      broken = k.broken;
-    })
-stays (Count Broken before after) n f c =
-    let k = counted_all n c in
-    all_counted (put_back (Count Broken before after) n)
-    (record {
-      next_id = k.next_id;
-      next = k.next;
-      passed = k.passed;
-      blocked = k.blocked;
-      freed = k.freed;
-      lost = k.lost;
-      bad = k.bad;
-      stale = k.stale;
-      broken = f.1 (subst (λ i. i ≤ greatest) f.0 k.broken);
-    })
+stays e n f c = all_counted (put_back e n) (counted e n f (counted_all n c))
 
 through_nodes : (es : List NodeEdit) (n : Node) → Fits Finds AreParts put_back es n → is_overcounted n ≡ false
     → Fits Finds IsNode put_back es n × (is_overcounted (back put_back es n) ≡ false)

@@ -1,14 +1,10 @@
 -- What a change of a state leaves alone.
-use Rattle.std.specs.Prelude.{◌≡◌, ◌≤◌, ℕ, Bool, true, false, refl}
+use Rattle.std.specs.Prelude.{◌≡◌, ◌≤◌, ℕ, true, false}
 use Rattle.std.proofs.Common.{cond, ap}
-use Rattle.pfl_base.specs.declared.state_name.StateName.{StateName}
-use Rattle.pfl_base.specs.Packets.{is_tcp}
-use Rattle.pfl_queue.specs.Queues.{kind_of}
 use Rattle.pfl_track.specs.declared.state.State.{State}
-use Rattle.pfl_desk.specs.declared.counters.Counters.{Counters}
 use Rattle.pfl_desk.specs.inner.Kept.{MayReplace}
 use Rattle.pfl_desk.specs.Nodes.{Node}
-use Rattle.pfl_desk.specs.Changes.{put_state, push_if, told, changed, is_unannounced, is_recent, is_held, freed, count_freed, without_held}
+use Rattle.pfl_desk.specs.Changes.{put_state, push_if, told, changed, is_recent}
 
 -- a state that is not announced is put alone
 pub changed-unsynced : (n : Node) (s : State) → s.no_sync ≡ true → changed n s ≡ put_state n s
@@ -19,25 +15,6 @@ changed-unsynced n s e = ap (λ b. cond b (put_state n s) (push_if (is_recent n 
 pub changed-synced : (n : Node) (s : State) → s.no_sync ≡ false → changed n s ≡ push_if (is_recent n s) (told n s)
 unfolding changed
 changed-synced n s e = ap (λ b. cond b (put_state n s) (push_if (is_recent n s) (told n s))) e
-
-same_counters : (b : Bool) (x y : Node) (c : Counters) → x.counters ≡ c → y.counters ≡ c → (cond b x y).counters ≡ c
-same_counters true x y c e f = e
-same_counters false x y c e f = f
-
--- a change of a state counts nothing
-pub changed-counters : (n : Node) (s : State) → (changed n s).counters ≡ n.counters
-unfolding changed
-changed-counters n s =
-    same_counters s.no_sync _ _ n.counters refl
-    (same_counters (is_unannounced (kind_of n.queue s.name)) _ _ n.counters refl (same_counters (is_tcp s.wire.proto) _ _ n.counters refl refl))
-
--- a packet that goes out is not passed once more
-pub freed-passed : (n : Node) (name : StateName) → (freed n name).counters.passed ≡ n.counters.passed
-freed-passed n name = by (is_held n name)
-  where
-    by : (b : Bool) → (cond b (count_freed (without_held n name)) n).counters.passed ≡ n.counters.passed
-    by true = refl
-    by false = refl
 
 -- a state with another number of updates may take its place as well
 pub updates-may : (n : Node) (s : State) (k : ℕ) → k ≤ 255 → MayReplace n s → MayReplace n (record s { updates = k })

@@ -1,6 +1,6 @@
 -- What proofs of other crates may cite of this crate's proofs; the rest of proofs/ is its own.
 pub use Rattle.pfl_edits.proofs.Leading.{Fits-append, Fits-front, Fits-rest, LeadsBack-append, LeadsBack-embedded, LeadsBack-none, LeadsBack-one}
-pub use Rattle.pfl_edits.proofs.Leading.{LeadsBack-push, back-append}
+pub use Rattle.pfl_edits.proofs.Leading.{back-append}
 pub use Rattle.pfl_edits.proofs.Maps.{contains_key-keys, empty_of_len, entries-empty, entries-from_sorted, entries-insert, get-empty, get-entries}
 pub use Rattle.pfl_edits.proofs.Maps.{get-insert, len-empty, len-entries, len-insert, len-remove, same_map}
 unfoldable pub use Rattle.pfl_edits.proofs.Maps.{computing}
@@ -11,4 +11,3 @@ pub use Rattle.pfl_edits.proofs.RowMaps.{Distinct, Distinct-rising, Distinct-wit
 pub use Rattle.pfl_edits.proofs.RowMaps.{map_more, map_of-between, map_of-without, own_key, row_at, row_at-between, same_key, some_is_none}
 pub use Rattle.pfl_edits.proofs.RowMaps.{values-map_of}
 pub use Rattle.pfl_edits.proofs.Scans.{first_value, first_value-stands, no_value_passes}
-pub use Rattle.pfl_edits.proofs.Setting.{room_for}

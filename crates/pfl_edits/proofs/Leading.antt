@@ -1,4 +1,4 @@
--- Edits that lead back: none, one, one more, one way after another, and those of a part as those of the whole.
+-- Edits that lead back: none, one, one way after another, and those of a part as those of the whole.
 use Rattle.std.specs.Prelude.{◌≡◌, List, [], ◌∷◌, ◌++◌, refl, map}
 use Rattle.std.proofs.Common.{ap, sym, subst, ◌∙◌}
 use Rattle.pfl_edits.specs.Changes.{back, Fits, LeadsBack}
@@ -44,11 +44,6 @@ module _ {S E : Type 0} (finds : E → S → Type 0) (allows : S → Type 0) (pu
   -- one edit leads back to b, if it finds its new value, and its former value in its place gives b
   pub LeadsBack-one : (e : E) (b c : S) → finds e c → allows b → put_back e c ≡ b → LeadsBack finds allows put_back (e ∷ []) b c
   LeadsBack-one e b c found allowed is = record { fits = (tt, found, subst allows (sym is) allowed); back = is }
-
-  -- one edit more
-  pub LeadsBack-push : (xs : List E) (e : E) (a b c : S) → LeadsBack finds allows put_back xs a b → finds e c → allows b → put_back e c ≡ b
-      → LeadsBack finds allows put_back (xs ++ e ∷ []) a c
-  LeadsBack-push xs e a b c f found allowed is = LeadsBack-append xs (e ∷ []) a b c f (LeadsBack-one e b c found allowed is)
 
 -- Edits of a part are edits of the whole: `at s` is the whole with the part s, and `inj e` the edit e as one of the whole.
 module _ {S E W F : Type 0}

@@ -7,7 +7,6 @@ pub mod Turns
 pub mod Levels
 pub mod Fronts
 pub mod Leading
-pub mod Linking
 pub mod Maps
 pub mod Places
 pub mod RowMaps

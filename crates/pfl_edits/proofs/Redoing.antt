@@ -12,11 +12,6 @@ set_aside-newest {E = E} {U = U} undone xs ys e is = ap (set_aside undone) is �
     newest [] = refl
     newest (z ∷ zs) = ap (λ (us : List U). us ++ undone z ∷ []) (newest zs)
 
--- some is kept of each edit
-pub length-set_aside : {E U : Type 0} (undone : E → U) (es : List E) → length (set_aside undone es) ≡ length es
-length-set_aside undone [] = refl
-length-set_aside undone (e ∷ es) = omega (arith, length_push (set_aside undone es) (undone e), length-set_aside undone es)
-
 module _ {S E U : Type 0} (finds_former finds : E → S → Type 0) (allows : S → Type 0) (put_back redone : E → S → S) (undone : E → U)
     (both : (e : E) → LeadsBothWays (finds_former e) (finds e) (put_back e) (redone e)) where
   -- each value on the way back is allowed

@@ -1,5 +1,5 @@
 -- What setting a place among rows does to the map that they stand for.
-use Rattle.std.proofs.Common.{◌≡◌, ◌+◌, ◌-◌, ◌≤◌, ◌<◌, ℕ, suc, Bool, true, false, cond, List, ◌++◌, length, take, drop, set, get_or, Option, Some}
+use Rattle.std.proofs.Common.{◌≡◌, ◌+◌, ◌-◌, ◌≤◌, ◌<◌, ℕ, suc, cond, List, ◌++◌, length, take, drop, set, get_or, Option, Some}
 use Rattle.std.proofs.Common.{None, IfSome, is_some, sym, ◌∙◌, ap, subst, arith}
 use Rattle.std.specs.List.{insert, remove}
 use Rattle.std.proofs.lemmas.List.{set_split, take-append-drop}
@@ -8,7 +8,7 @@ use Rattle.std.specs.Cmp.{IsTotalOrder}
 use Rattle.std.specs.FinMap.{IsAntisymmetric}
 use Rattle.pfl_edits.specs.Maps as maps
 use Rattle.pfl_edits.specs.Maps.{Map, set_at}
-use Rattle.pfl_edits.proofs.Maps.{len-insert, len-remove}
+use Rattle.pfl_edits.proofs.Maps.{len-insert}
 use Rattle.pfl_edits.proofs.RowMaps.{row_at, get-map_of, len-map_of, map_with, map_without, map_of-between, map_as_it_is, Distinct-rising}
 use Rattle.pfl_edits.specs.Rows.{map_of}
 use Rattle.pfl_edits.specs.Ordered.{IsRising, IsBelow, AreRows, RowList}
@@ -113,21 +113,3 @@ module _ {K X : Type 0} {R : K → K → Ordering} (o : IsTotalOrder R) (exact :
         -- nothing stood there, and nothing does
         pub row_absent : at ≡ None → map_of R key rows ≡ set_at (map_of R key rows) q at
         row_absent at_is = map_as_it_is o exact key rows q none ∙ ap (set_at (map_of R key rows) q) (sym at_is)
-
--- where not all room is taken, there is room for what may stand under a key
-pub room_for : {K X : Type 0} {R : K → K → Ordering} → IsTotalOrder R → IsAntisymmetric R → (key : X → K) (rows : RowList X) → AreRows R key rows
-    → length rows.list < rows.limit → (q : K) (at : Option X) → maps.len (set_at (map_of R key rows.list) q at) ≤ rows.limit
-room_for {R = R} o exact key rows are less q None =
-    let len = len-map_of o exact key rows.list (Distinct-rising R key rows.list are.rising) in
-    rw (len-remove o (map_of R key rows.list) q) (at_most (is_some (maps.get (map_of R key rows.list) q)) (omega (arith, len, less)))
-  where
-    at_most : (b : Bool) {n m : ℕ} → n ≤ m → cond b (n - 1) n ≤ m
-    at_most true h = omega arith
-    at_most false h = h
-room_for {R = R} o exact key rows are less q (Some y) =
-    let len = len-map_of o exact key rows.list (Distinct-rising R key rows.list are.rising) in
-    rw (len-insert o (map_of R key rows.list) q y) (at_most (is_some (maps.get (map_of R key rows.list) q)) (omega (arith, len, less)))
-  where
-    at_most : (b : Bool) {n m : ℕ} → n < m → cond b n (n + 1) ≤ m
-    at_most true h = omega arith
-    at_most false h = omega arith

@@ -31,11 +31,6 @@ module _ {K X : Type 0} {R : K → K → Ordering} (o : IsTotalOrder R) (exact :
   below_at q (x ∷ xs) zero d b h = b.0
   below_at q (x ∷ xs) (suc i) d b h = below_at q xs i d b.1 (omega arith)
 
-  below_drop : (q : K) (xs : List X) (i : ℕ) → IsBelow R key q xs → IsBelow R key q (drop i xs)
-  below_drop q xs zero b = b
-  below_drop q [] (suc i) b = tt
-  below_drop q (x ∷ xs) (suc i) b = below_drop q xs i b.1
-
   -- where a row is below a key, so are those before it
   pub above_through : (q : K) (xs : List X) (i : ℕ) (d : X) → IsRising R key xs → i < length xs → R (key (get_or xs i d)) q ≡ Less
       → IsAbove R key q (take (suc i) xs)

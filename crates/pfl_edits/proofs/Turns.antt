@@ -1,5 +1,5 @@
 -- A tape whose newest edit is put onto its stack, or taken off.
-use Rattle.std.proofs.Common.{◌≡◌, suc, ◌+◌, ◌<◌, List, [], ◌∷◌, ◌++◌, Bool, true, false, not, cond, Option, Some, option_to_list, length, refl, ap}
+use Rattle.std.proofs.Common.{◌≡◌, suc, ◌+◌, List, [], ◌∷◌, ◌++◌, Bool, true, false, not, cond, Option, Some, option_to_list, length, refl, ap}
 use Rattle.std.proofs.Common.{sym, subst, ◌∙◌, arith, length-append, append-nil}
 use Rattle.std.specs.List.{count_by}
 use Rattle.std.proofs.lemmas.List.Sums.{sum_by-cons, sum_by_push}
@@ -85,12 +85,7 @@ module _ {S E : Type 0} where
     all_edits-large e = ap (λ (ss : List S). all_edits whole (turns ++ false ∷ []) ss (large ++ e ∷ [])) (sym (append-nil small))
         ∙ all_edits-append whole turns small large (false ∷ []) [] (e ∷ []) h
 
-  -- the newest edit is small: there is one, and without it each of the others has its turn
-  pub some_small : (turns : List Bool) (small : List S) (large : List E) → HaveTurns (turns ++ true ∷ []) small large → 0 < length small
-  some_small turns small large h =
-      let one = last_counted (λ b. b) true turns in
-      omega (arith, h.of_small)
-
+  -- the newest edit is small: without it each of the others has its turn
   pub HaveTurns-less_small : (turns : List Bool) (small : List S) (s : S) (large : List E)
       → HaveTurns (turns ++ true ∷ []) (small ++ s ∷ []) large → HaveTurns turns small large
   HaveTurns-less_small turns small s large h =
@@ -99,11 +94,6 @@ module _ {S E : Type 0} where
       record { of_small = omega (arith, h.of_small, length-append small (s ∷ [])); of_large = omega (arith, h.of_large) }
 
   -- it is large
-  pub some_large : (turns : List Bool) (small : List S) (large : List E) → HaveTurns (turns ++ false ∷ []) small large → 0 < length large
-  some_large turns small large h =
-      let one = last_counted not false turns in
-      omega (arith, h.of_large)
-
   pub HaveTurns-less_large : (turns : List Bool) (small : List S) (large : List E) (e : E)
       → HaveTurns (turns ++ false ∷ []) small (large ++ e ∷ []) → HaveTurns turns small large
   HaveTurns-less_large turns small large e h =

@@ -1,5 +1,5 @@
 -- The first fault of sessions that have ended.
-use Rattle.std.proofs.Common.{◌≡◌, List, [], ◌∷◌, ◌++◌, length, map, refl, inl, inr, arith, Option, Some, None}
+use Rattle.std.proofs.Common.{◌≡◌, List, [], ◌∷◌, length, map, refl, inl, inr, arith, Option, Some, None}
 use Rattle.std.specs.Prelude.{◌⊎◌, Result}
 use Rattle.std.specs.List.{AllByRecursion}
 use Rattle.pfl_run.specs.script.declared.engine.Ended.{Ended}
@@ -28,11 +28,6 @@ first-all f first (x ∷ left) all none is = absurd (omega (arith, none))
 pub all-mapped : {X Y : Type 0} (P : Y → Type 0) (f : X → Y) (xs : List X) → AllByRecursion P (map f xs) → AllByRecursion (λ x. P (f x)) xs
 all-mapped P f [] all = tt
 all-mapped P f (x ∷ xs) all = (all.0, all-mapped P f xs all.1)
-
--- what is so of each of two lists is so of each of both
-pub all_more : {X : Type 0} (P : X → Type 0) (xs ys : List X) → AllByRecursion P xs → AllByRecursion P ys → AllByRecursion P (xs ++ ys)
-all_more P [] ys all more = more
-all_more P (x ∷ xs) ys all more = (all.0, all_more P xs ys all.1 more)
 
 -- why sessions were not served
 pub serve_faults : (why : ServeFault) → (of_serve why ≡ fault.NoThread) ⊎ (of_serve why ≡ fault.NoMemory)

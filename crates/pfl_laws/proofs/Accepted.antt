@@ -1,5 +1,5 @@
 -- What the events of a run that were accepted say of it, and what one that is refused does.
-use Rattle.std.specs.Prelude.{◌≡◌, ◌≤◌, ◌<◌, ◌+◌, ◌++◌, ℕ, List, [], ◌∷◌, length, drop, Option, Some, Result, Ok, IsOkAnd, IsSome, IsSomeAnd, is_some}
+use Rattle.std.specs.Prelude.{◌≡◌, ◌≤◌, ◌<◌, ◌+◌, ◌++◌, ℕ, List, [], ◌∷◌, length, drop, Option, Some, IsSome, IsSomeAnd, is_some}
 use Rattle.std.specs.Prelude.{fold, option_and_then, refl}
 use Rattle.std.proofs.Common.{◌∙◌, ap, sym, subst, inr, get_or}
 use Rattle.std.proofs.lemmas.List.{drop_all, drop_more}
@@ -7,19 +7,13 @@ use Rattle.pfl_base.specs.declared.refusal.Refusal.{Refusal}
 use Rattle.pfl_edits.specs.Changes.{Fits, back}
 use Rattle.pfl_edits.proofs.ForCallers.{LeadsBack-append}
 use Rattle.pfl_language.specs.declared.event.Event.{Event}
-use Rattle.pfl_language.specs.declared.outcome.Outcome.{Outcome}
 use Rattle.pfl_world.specs.declared.edit.WorldEdit.{WorldEdit}
 use Rattle.pfl_world.specs.Events.{step}
-use Rattle.pfl_world.specs.Meanings.{Stepped}
 use Rattle.pfl_world.specs.Runs.{run, world_after}
 use Rattle.pfl_world.specs.WorldEdits.{Finds, put_back, WorldLeadsBack}
 use Rattle.pfl_world.specs.Worlds.{World, IsWorld}
 use Rattle.pfl_laws.specs.Reverting.{IsRefusalAlong}
 use Rattle.pfl_laws.specs.inner.Reverting.{LeadsOn}
-
--- the answer is the outcome of the step
-pub accepted-outcome : (w v : World) (e : Event) (a : Outcome) → step w e ≡ Ok (record { world = v; outcome = a }) → IsOkAnd (step w e) (λ s. s.outcome ≡ a)
-accepted-outcome w v e a is = subst (λ (at : Result Stepped Refusal). IsOkAnd at (λ s. s.outcome ≡ a)) (sym is) refl
 
 -- no event is accepted
 run-none : (w : World) → IsSome (run w [])
@@ -33,14 +27,6 @@ pub record Along {M : Type 0} (w : World) (events : List Event) (i : ℕ) (v : W
   pub ran : run w events ≡ run v (drop i events)
   pub refused : (r : Refusal) → IsRefusalAlong v (drop i events) r → IsRefusalAlong w events r
   pub back : WorldLeadsBack edits w v
-
--- before the first
-pub along-none : {M : Type 0} (w : World) (events : List Event) (edits : List (WorldEdit M)) → edits ≡ [] → Along w events 0 w edits
-along-none {M = M} w events edits none = record {
-  ran = refl;
-  refused = λ r is. is;
-  back = subst (λ (es : List (WorldEdit M)). WorldLeadsBack es w w) (sym none) (record { fits = tt; back = refl });
-}
 
 -- after an event that is accepted a run goes on
 run-on : (v u : World) (e : Event) (es : List Event) → world_after (step v e) ≡ Some u → run v (e ∷ es) ≡ run u es

@@ -62,9 +62,6 @@ module _ (P : State → Type 0) (still : (s : State) (ack : Bool) (updates : ℕ
     | inr other ↦ each q s other.1
   ]
 
-  each-same : (n m : Node) → m.states ≡ n.states → Each n.states → Each m.states
-  each-same n m e each = subst Each (sym e) each
-
   -- what is alike
   each-kept : (n m : Node) → ((q : StateName) → Keeps Alike q n m) → Each n.states → Each m.states
   each-kept n m keeps each q t at =

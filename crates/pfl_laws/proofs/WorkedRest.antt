@@ -1,4 +1,4 @@
--- Two copies of a connection of TCP, worked: one has heard the other end answer, and the other a later number of it.
+-- Worked cases of two copies of a connection of TCP: one has heard the other end answer, and the other a later number of it.
 use Rattle.std.specs.Prelude.{◌≡◌, ℕ, true, None, refl}
 use Rattle.std.proofs.Common.{arith}
 use Rattle.pfl_base.specs.Kernels.{profile, every_rule}

@@ -45,15 +45,6 @@ pub parts-whole : (text : List ℕ) (fault : LineFault) → cut_at 59 text ≡ E
 parts-whole [] fault e = refl
 parts-whole (b ∷ bytes) fault e = whole_more b bytes fault (b == 59) (cut_at 59 bytes) (parts-whole bytes) e
 
--- each text has a part
-pub some_part : (text : List ℕ) → 0 < length (parts_of text)
-some_part [] = omega arith
-some_part (b ∷ bytes) = on (b == 59) (parts_of bytes) where
-  on : (t : Bool) (parts : List (List ℕ)) → 0 < length (if t then [] ∷ parts else with_first b parts)
-  on true parts = omega arith
-  on false [] = omega arith
-  on false (part ∷ parts) = omega arith
-
 shorter_more : (b n : ℕ) (bytes part rest : List ℕ) (t : Bool) (r : Result (List ℕ × List ℕ) LineFault) → length bytes ≤ n →
     ((p q : List ℕ) → r ≡ Ok (p, q) → length q < n) →
     (if t then Ok ([], bytes) else grown (b ∷ []) r) ≡ Ok (part, rest) → length rest < suc n

@@ -36,9 +36,6 @@ whole n =
 small_byte : (n : ℕ) → n % 2 ^ 8 ≤ 255
 small_byte n = omega arith
 
-fits_byte : (n : ℕ) → n ≤ 255 → n < 2 ^ 64
-fits_byte n h = omega arith
-
 high_byte : (n : ℕ) → n < 2 ^ 32 → n / 2 ^ 24 ≤ 255
 high_byte n h = omega arith
 

@@ -13,7 +13,7 @@ use Rattle.std.proofs.lemmas.Bool.Decides.{nat_tests}
 use Rattle.pfl_base.specs.Lists.{in_order, put_before}
 use Rattle.pfl_base.specs.declared.state_name.StateName.{StateName}
 use Rattle.pfl_base.specs.Names.{name_cmp, is_name}
-use Rattle.pfl_base.proofs.ForCallers.{names_total, is_name-itself, is_name-same, apart}
+use Rattle.pfl_base.proofs.ForCallers.{names_total, is_name-itself, is_name-same, apart, each-filter, each-in_order, each-put_before}
 use Rattle.pfl_edits.specs.Maps as maps
 use Rattle.pfl_edits.specs.Maps.{entries_sorted}
 use Rattle.pfl_edits.proofs.ForCallers.{get-entries, len-entries, equal_is}
@@ -29,24 +29,6 @@ use Rattle.pfl_receive.specs.desk.Nodes.{Node, AreParts}
 use Rattle.pfl_node.specs.Purging.{expiry_among, expires_before, expired_among}
 
 -- ---- lists
-
-all-filter : {X : Type 0} (P : X → Type 0) (p : X → Bool) (xs : List X) → AllByRecursion P xs → AllByRecursion P (filter p xs)
-all-filter P p [] a = tt
-all-filter P p (x ∷ xs) a = elim (p x) as (λ b. AllByRecursion P (cond b (x ∷ filter p xs) (filter p xs))) [
-  | true ↦ (a.0, all-filter P p xs a.1)
-  | false ↦ all-filter P p xs a.1
-]
-
-all-put : {X : Type 0} (P : X → Type 0) (before : X → X → Bool) (x : X) (xs : List X) → P x → AllByRecursion P xs → AllByRecursion P (put_before before x xs)
-all-put P before x [] h a = (h, tt)
-all-put P before x (y ∷ ys) h a = elim (before x y) as (λ b. AllByRecursion P (cond b (x ∷ y ∷ ys) (y ∷ put_before before x ys))) [
-  | true ↦ (h, a)
-  | false ↦ (a.0, all-put P before x ys h a.1)
-]
-
-all-in_order : {X : Type 0} (P : X → Type 0) (before : X → X → Bool) (xs : List X) → AllByRecursion P xs → AllByRecursion P (in_order before xs)
-all-in_order P before [] a = tt
-all-in_order P before (x ∷ xs) a = all-put P before x (in_order before xs) a.0 (all-in_order P before xs a.1)
 
 first-all : {X : Type 0} (P : X → Type 0) (xs : List X) (x : X) → AllByRecursion P xs → slice_get xs 0 ≡ Some x → P x
 first-all P [] x a e = absurd (cc)
@@ -94,7 +76,7 @@ AreApart (s ∷ ss) = IsApart s ss × AreApart ss
 pub apart-filter : (p : State → Bool) (ss : List State) → AreApart ss → AreApart (filter p ss)
 apart-filter p [] a = tt
 apart-filter p (s ∷ ss) a = elim (p s) as (λ b. AreApart (cond b (s ∷ filter p ss) (filter p ss))) [
-  | true ↦ (all-filter (λ t. is_name s.name t.name ≡ false) p ss a.0, apart-filter p ss a.1)
+  | true ↦ (each-filter (λ t. is_name s.name t.name ≡ false) p ss a.0, apart-filter p ss a.1)
   | false ↦ apart-filter p ss a.1
 ]
 
@@ -109,13 +91,13 @@ apart-put : (before : State → State → Bool) (s : State) (ts : List State) �
 apart-put before s [] a b = (tt, tt)
 apart-put before s (t ∷ ts) a b = elim (before s t) as (λ c. AreApart (cond c (s ∷ t ∷ ts) (t ∷ put_before before s ts))) [
   | true ↦ (a, b)
-  | false ↦ (all-put (λ u. is_name t.name u.name ≡ false) before s ts (name_turned s.name t.name a.0) b.0, apart-put before s ts a.1 b.1)
+  | false ↦ (each-put_before (λ u. is_name t.name u.name ≡ false) before s ts (name_turned s.name t.name a.0) b.0, apart-put before s ts a.1 b.1)
 ]
 
 apart-in_order : (before : State → State → Bool) (ss : List State) → AreApart ss → AreApart (in_order before ss)
 apart-in_order before [] a = tt
 apart-in_order before (s ∷ ss) a =
-    apart-put before s (in_order before ss) (all-in_order (λ t. is_name s.name t.name ≡ false) before ss a.0) (apart-in_order before ss a.1)
+    apart-put before s (in_order before ss) (each-in_order (λ t. is_name s.name t.name ≡ false) before ss a.0) (apart-in_order before ss a.1)
 
 -- ---- the states of a table
 
@@ -349,8 +331,8 @@ module _ (k : ℕ) where
   -- each state that has expired stands under its name
   pub expired-stand : (n : Node) → AreParts n → AllByRecursion (λ s. maps.get n.states s.name ≡ Some s) (expired_among k n)
   expired-stand n is =
-      all-in_order (λ (s : State). maps.get n.states s.name ≡ Some s) (expires_before k n) _
-      (all-filter (λ (s : State). maps.get n.states s.name ≡ Some s) _ (maps.values n.states) (values-stand n.states is.states))
+      each-in_order (λ (s : State). maps.get n.states s.name ≡ Some s) (expires_before k n) _
+      (each-filter (λ (s : State). maps.get n.states s.name ≡ Some s) _ (maps.values n.states) (values-stand n.states is.states))
 
   -- so does the first
   pub first-stands : (n : Node) (s : State) → AreParts n → slice_get (expired_among k n) 0 ≡ Some s → maps.get n.states s.name ≡ Some s

@@ -1,6 +1,6 @@
 -- What a packet does, by cases.
-use Rattle.std.specs.Prelude.{◌≡◌, ◌⊎◌, ℕ, Bool, true, false, nat_le, List, [], ◌∷◌, length, IfSome, ◌<◌, slice_get, Option, Some, None, zero, suc}
-use Rattle.std.specs.Prelude.{if◌then◌else◌, refl}
+use Rattle.std.specs.Prelude.{◌≡◌, ◌⊎◌, ℕ, Bool, false, nat_le, List, [], ◌∷◌, length, IfSome, ◌<◌, slice_get, Option, Some, None, zero, suc}
+use Rattle.std.specs.Prelude.{refl}
 use Rattle.std.proofs.Common.{◌∙◌, ap, sym, subst, arith, inl, inr}
 use Rattle.pfl_base.specs.declared.direction.Dir.{Dir}
 use Rattle.pfl_base.specs.declared.kernel.Kernel.{Kernel}
@@ -19,7 +19,6 @@ use Rattle.pfl_track.specs.States.{IsState}
 use Rattle.pfl_track.specs.Rules.{started_by, tracked_by}
 use Rattle.pfl_track.specs.Tracking.{start_state, used}
 use Rattle.std.proofs.lemmas.Bool.Decides.{nat_tests}
-use Rattle.pfl_track.specs.declared.key_pair.KeyFields.{KeyFields}
 use Rattle.pfl_track.proofs.ForCallers.{ends-move, stays-state, start-is}
 use Rattle.pfl_receive.specs.table.Tables.{found, key_in_use}
 use Rattle.pfl_receive.proofs.ForCallers.table.{found-stands}
@@ -132,10 +131,6 @@ points-none n dir p at =
     ∙ ap (λ (ns : List Node). (judged n dir p).node ∷ ns) (ap (before_rules n dir p) at)
 
 -- ---- a new state
-
-pub pair-is : (k f : KeyFields) (b : Bool) → Some k ≡ (if b then Some f else None) → b ≡ true → k ≡ f
-pair-is k f true e t = cc
-pair-is k f false e t = absurd (cc)
 
 within_list : (rules : List Rule) (i : ℕ) (r : Rule) → slice_get rules i ≡ Some r → i < length rules
 within_list [] i r e = absurd (cc)

@@ -1,5 +1,5 @@
 -- The groups of a frame: how they are made one after another, and that the frame has a spelling.
-use Rattle.std.proofs.Common.{◌≡◌, ℕ, zero, suc, ◌+◌, ◌-◌, ◌^◌, ◌<◌, ◌≤◌, Bool, true, false, cond, List, [], ◌∷◌, ◌++◌, map, take, drop, length}
+use Rattle.std.proofs.Common.{◌≡◌, ℕ, suc, ◌+◌, ◌-◌, ◌^◌, ◌<◌, ◌≤◌, Bool, true, false, cond, List, [], ◌∷◌, ◌++◌, map, take, drop, length}
 use Rattle.std.proofs.Common.{get_or, append_assoc, add-one, Option, Some, None, refl, sym, ◌∙◌, ap, subst, arith}
 use Rattle.std.specs.Prelude.{◌==◌, Vec, IfSome, IfOk, IsSome, Result, Ok, Err, if◌then◌else◌}
 use Rattle.std.specs.List.{AllByRecursion, flat_map, slice_get, sum_by}
@@ -10,6 +10,7 @@ use Rattle.std.proofs.lemmas.Grind.{flat_map-append}
 use Rattle.std.proofs.lemmas.List.{map-append}
 use Rattle.std.proofs.lemmas.List.Sums.{sum_by-cons}
 use Rattle.pfl_base.specs.Lists.{neighbours, joined}
+use Rattle.pfl_base.proofs.ForCallers.{each-drop, each-weaker}
 use Rattle.pfl_edits.specs.Maps as maps
 use Rattle.pfl_edits.proofs.ForCallers.{some_is_none}
 use Rattle.pfl_rules.proofs.ForCallers.{few}
@@ -184,14 +185,13 @@ run-first n is e es told =
 
 -- ---- the groups have a spelling
 
+abbrev IsOf : Action → Message → Type 0
+IsOf a m = action_of m ≡ a
+
 -- records of one action, at least one, and each as wanted
 abbrev Alike : (Message → Type 0) → List Message → Type 0
 Alike P [] = ⊥
-Alike P (m ∷ ms) = AllByRecursion (λ k. action_of k ≡ action_of m) ms × AllByRecursion P (m ∷ ms)
-
-all-same : (a b : Action) (ms : List Message) → b ≡ a → AllByRecursion (λ k. action_of k ≡ b) ms → AllByRecursion (λ k. action_of k ≡ a) ms
-all-same a b [] e all = tt
-all-same a b (m ∷ ms) e all = (all.0 ∙ e, all-same a b ms e all.1)
+Alike P (m ∷ ms) = AllByRecursion (IsOf (action_of m)) ms × AllByRecursion P (m ∷ ms)
 
 joined-alike : (P : Message → Type 0) (x : Message) (groups : List (List Message)) → P x → AllByRecursion (Alike P) groups
     → AllByRecursion (Alike P) (joined like x groups)
@@ -200,7 +200,7 @@ joined-alike P x ([] ∷ groups) p all = absurd all.0
 joined-alike P x ((y ∷ ys) ∷ groups) p all =
     elim (like x y) as (λ b. like x y ≡ b → AllByRecursion (Alike P) (if b then (x ∷ y ∷ ys) ∷ groups else (x ∷ []) ∷ (y ∷ ys) ∷ groups)) [
       | true ↦ λ h. let same = sym (same-action (action_of x) (action_of y) h)
-          in (((same, all-same (action_of x) (action_of y) ys same all.0.0), (p, all.0.1)), all.1)
+          in (((same, each-weaker (IsOf (action_of y)) (IsOf (action_of x)) (λ k is. is ∙ same) ys all.0.0), (p, all.0.1)), all.1)
       | false ↦ λ h. ((tt, (p, tt)), all)
     ] refl
 
@@ -307,17 +307,6 @@ spelled-len n is es told f groups (Err e) spells = tt
 
 -- ---- message by message, and group by group
 
-pub told-at : {X : Type 0} (P : X → Type 0) (xs : List X) (i : ℕ) (d : X) → AllByRecursion P xs → i < length xs → P (get_or xs i d)
-told-at P [] i d all below = absurd (omega arith)
-told-at P (x ∷ xs) zero d all below = all.0
-told-at P (x ∷ xs) (suc i) d all below = told-at P xs i d all.1 (omega arith)
-
-pub all-left : {X : Type 0} (P : X → Type 0) (xs : List X) (k : ℕ) → AllByRecursion P xs → AllByRecursion P (drop k xs)
-all-left P [] zero all = tt
-all-left P [] (suc k) all = tt
-all-left P (x ∷ xs) zero all = all
-all-left P (x ∷ xs) (suc k) all = all-left P xs k all.1
-
 pub messages-more : (n : Node) (es : List Entry) (i : ℕ) (d : Entry) (now next : List Message) (m : Message) → i < length es
     → now ≡ flat_map (messages_of n) (take i es) → messages_of n (get_or es i d) ≡ m ∷ [] → next ≡ now ++ m ∷ []
     → next ≡ flat_map (messages_of n) (take (i + 1) es)
@@ -343,7 +332,7 @@ grouped-more n is all (d ∷ es) now next group e k so first run made more =
     let at : k ≡ run_of (entry_action d) (d ∷ es) = run ∙ ap (λ x. run_of (entry_action x) (d ∷ es)) (sym here) in
     let split = run-first n is d es so.told in
     record {
-      told = all-left (IsTold n) (d ∷ es) k so.told;
+      told = each-drop (IsTold n) k (d ∷ es) so.told;
       rest =
           ap (λ (gs : List (List Message)). gs ++ groups_of n (drop k (d ∷ es))) (more ∙ ap (λ (g : List Message). now ++ g ∷ []) made)
           ∙ (append_assoc now (flat_map (messages_of n) (take k (d ∷ es)) ∷ []) (groups_of n (drop k (d ∷ es)))

@@ -115,9 +115,6 @@ inner x y e = cc
 not_waiting-has : (n : Node) (name : StateName) (s : State) → Apart n → maps.get n.states s.name ≡ Some s → Has (not_waiting n name) s
 not_waiting-has n name s k at = by (maps.get n.states name) refl
   where
-    calm : State → State
-    calm t = record t { ack_wanted = false }
-
     by : (o : Option State) → maps.get n.states name ≡ o → Has (option_map_or (λ t. put_state n (record t { ack_wanted = false })) o n) s
     by None e = record { state = s; at = at; same = SameKeys-itself s }
     by (Some t) e = elim (key_cases names_total names_exact s.name t.name) [

@@ -9,6 +9,7 @@ use Rattle.std.proofs.lemmas.List.{take_all}
 use Rattle.std.proofs.lemmas.List.Sums.{fold_more}
 use Rattle.pfl_base.specs.declared.refusal.Refusal.TheVariants.{NothingPending, NoMemory}
 use Rattle.pfl_base.specs.declared.refusal.Refusal.{Refusal}
+use Rattle.pfl_base.proofs.ForCallers.{each-weaker}
 use Rattle.pfl_edits.specs.Maps as maps
 use Rattle.pfl_track.specs.declared.state.State.{State}
 use Rattle.pfl_receive.specs.queue.declared.Entry.{Entry}
@@ -44,12 +45,8 @@ marked-told n is (Request name) at = tt
 marked-told n is (Status status) at = tt
 marked-told n is (Clear creator bound) at = tt
 
-all-told : (n : Node) → AreParts n → (es : List Entry) → AllByRecursion (Stands n.queue) es → AllByRecursion (IsTold n) es
-all-told n is [] all = tt
-all-told n is (e ∷ es) all = (marked-told n is e all.0, all-told n is es all.1)
-
 pub frame-told : (n : Node) (mtu : ℕ) → AreParts n → AllByRecursion (IsTold n) (next_frame n.queue mtu)
-frame-told n mtu is = all-told n is (next_frame n.queue mtu) (frame_stands n.queue mtu is.queue)
+frame-told n mtu is = each-weaker (Stands n.queue) (IsTold n) (marked-told n is) (next_frame n.queue mtu) (frame_stands n.queue mtu is.queue)
 
 -- ---- and there is a frame for them
 

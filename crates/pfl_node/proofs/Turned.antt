@@ -9,7 +9,7 @@ use Rattle.std.proofs.lemmas.List.{length-append, length-map, take-append-drop, 
 use Rattle.std.proofs.lemmas.List.Sums.{fold_more, fold-append}
 use Rattle.pfl_base.specs.declared.state_name.StateName.{StateName}
 use Rattle.pfl_base.specs.Names.{name_cmp}
-use Rattle.pfl_base.proofs.ForCallers.{names_total}
+use Rattle.pfl_base.proofs.ForCallers.{names_total, each-filter, each-get_or, each-take}
 use Rattle.pfl_bulk.specs.Bulk.{names_after, first_names, turn_names, is_last_turn, after_turn}
 use Rattle.pfl_bulk.proofs.ForCallers.{turn_names-first, is_last_turn-first, after_turn-first}
 use Rattle.pfl_bulk.specs.declared.BulkServer.{BulkServer}
@@ -66,23 +66,6 @@ queued-may : (ns : List StateName) (n : Node) (name : StateName) → MayMark n n
 queued-may [] n name may = may
 queued-may (other ∷ ns) n name may = queued-may ns (mark n other Update) name (record { given = may.given; rightly = may.rightly })
 
-all_at : {X : Type 0} (P : X → Type 0) (xs : List X) (i : ℕ) (d : X) → AllByRecursion P xs → i < length xs → P (get_or xs i d)
-all_at P [] i d a h = absurd (omega arith)
-all_at P (x ∷ xs) zero d a h = a.0
-all_at P (x ∷ xs) (suc i) d a h = all_at P xs i d a.1 (omega arith)
-
-all_kept : {X : Type 0} (P : X → Type 0) (p : X → Bool) (xs : List X) → AllByRecursion P xs → AllByRecursion P (filter p xs)
-all_kept P p [] a = tt
-all_kept P p (x ∷ xs) a = elim (p x) as (λ b. AllByRecursion P (cond b (x ∷ filter p xs) (filter p xs))) [
-  | true ↦ (a.0, all_kept P p xs a.1)
-  | false ↦ all_kept P p xs a.1
-]
-
-all_taken : {X : Type 0} (P : X → Type 0) (k : ℕ) (xs : List X) → AllByRecursion P xs → AllByRecursion P (take k xs)
-all_taken P zero xs a = tt
-all_taken P (suc k) [] a = tt
-all_taken P (suc k) (x ∷ xs) a = (a.0, all_taken P k xs a.1)
-
 synced : (a b c : Bool) → (a && not b && c) ≡ true → b ≡ false
 synced true true c e = absurd (cc)
 synced true false c e = refl
@@ -106,8 +89,8 @@ turn-may n is = by n.server
     by : (s : BulkServer) → AllByRecursion (λ name. MayMark n name Update) (turn_names s (eligible_names n s) n.limits.batch)
     by server.Idle = tt
     by (server.Serving cursor since) =
-        all_taken _ n.limits.batch _
-        (all_kept _ (λ name. is_lt (name_cmp cursor name)) _ (eligible-may n since is (maps.values n.states) (values-stand n.states is.states)))
+        each-take _ n.limits.batch _
+        (each-filter _ (λ name. is_lt (name_cmp cursor name)) _ (eligible-may n since is (maps.values n.states) (values-stand n.states is.states)))
 
 -- ---- how many they are
 
@@ -159,7 +142,7 @@ module _ (d e : Draft) (ns : List StateName) (i : ℕ) (so : IsQueued d e ns i) 
 
   pub queued-next : (x : StateName) → AllByRecursion (λ name. MayMark d.node name Update) ns → i < length ns → MayMark e.node (get_or ns i x) Update
   queued-next x may below = subst (λ (k : Node). MayMark k (get_or ns i x) Update) (sym so.node)
-      (queued-may (take i ns) d.node (get_or ns i x) (all_at (λ name. MayMark d.node name Update) ns i x may below))
+      (queued-may (take i ns) d.node (get_or ns i x) (each-get_or (λ name. MayMark d.node name Update) ns i x may below))
 
   one-more : (x : StateName) → i < length ns → mark e.node (get_or ns i x) Update ≡ queued d.node (take (i + 1) ns)
   one-more x below = ap (λ (k : Node). mark k (get_or ns i x) Update) so.node

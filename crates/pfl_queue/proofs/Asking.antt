@@ -1,11 +1,11 @@
 -- Names that are asked for: what their index finds, and what it has when a name comes or goes.
-use Rattle.std.specs.Prelude.{◌≡◌, ◌<◌, ◌≤◌, ℕ, zero, suc, Bool, true, false, ◌||◌, List, [], ◌∷◌, length, take, drop, Some, None, is_some, slice_get}
+use Rattle.std.specs.Prelude.{◌≡◌, ◌<◌, ℕ, zero, suc, Bool, true, false, ◌||◌, List, [], ◌∷◌, length, take, drop, Some, None, is_some, slice_get}
 use Rattle.std.specs.Prelude.{slice_set, get_or, refl, Option}
 use Rattle.std.specs.List.{AllByRecursion, IsDistinct, insert, list_any, remove}
 use Rattle.std.specs.Option.{option_map}
 use Rattle.std.specs.Cmp.{eq_by_cmp_equiv}
 use Rattle.std.specs.Ordering.{eq_by_cmp}
-use Rattle.std.proofs.Common.{cond, ◌∙◌, ap, sym, subst, arith}
+use Rattle.std.proofs.Common.{cond, ◌∙◌, ap, sym, subst}
 use Rattle.std.proofs.Math.Seq.{split_at}
 use Rattle.std.proofs.lemmas.List.{take-append-drop}
 use Rattle.pfl_base.specs.declared.state_name.StateName.{StateName}
@@ -91,22 +91,8 @@ asked-less listed i d m within is =
     made-without by_name_total by_name_exact as_key (λ _. tt) (take i listed) (get_or listed i d) (drop (suc i) listed) m
     (subst (λ (xs : List StateName). HasKeys xs m) (split_at listed i d within) is)
 
--- past the end there is nothing to take out
-pub remove-past : {X : Type 0} (xs : List X) (i : ℕ) → length xs ≤ i → remove xs i ≡ xs
-remove-past [] zero past = refl
-remove-past [] (suc i) past = refl
-remove-past (x ∷ xs) zero past = absurd (omega arith)
-remove-past (x ∷ xs) (suc i) past = ap (λ (ys : List _). x ∷ ys) (remove-past xs i (omega arith))
-
 -- what stands at a position is taken out, and another name put there
 pub insert-removed : {X : Type 0} (xs : List X) (i : ℕ) (x y : X) → slice_get xs i ≡ Some x → insert (remove xs i) i y ≡ slice_set xs i y
 insert-removed [] i x y at = absurd (cc)
 insert-removed (z ∷ xs) zero x y at = refl
 insert-removed (z ∷ xs) (suc i) x y at = ap (λ (ys : List _). z ∷ ys) (insert-removed xs i x y at)
-
--- so it stands within the list, which is one shorter without it
-pub within-list : {X : Type 0} (xs : List X) (i : ℕ) (x : X) → slice_get xs i ≡ Some x → (i < length xs) × (i ≤ length (remove xs i))
-    × (length (remove xs i) < length xs)
-within-list [] i x at = absurd (cc)
-within-list (z ∷ xs) zero x at = (omega arith, omega arith, omega arith)
-within-list (z ∷ xs) (suc i) x at = let later = within-list xs i x at in (omega (arith, later.0), omega (arith, later.1), omega (arith, later.2))

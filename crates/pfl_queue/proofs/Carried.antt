@@ -6,6 +6,7 @@ use Rattle.std.proofs.lemmas.Bool.Decides.{nat_tests}
 use Rattle.std.proofs.lemmas.List.{length-append, length-map}
 use Rattle.std.proofs.lemmas.List.Sums.{sum_by-cons}
 use Rattle.pfl_base.specs.Lists.{in_order, last_of, prefixes}
+use Rattle.pfl_base.proofs.ForCallers.{each-filter}
 use Rattle.pfl_edits.specs.Maps as maps
 use Rattle.pfl_edits.proofs.ForCallers.{len-entries}
 use Rattle.pfl_edits.specs.Maps.{entries}
@@ -18,7 +19,6 @@ use Rattle.pfl_queue.specs.inner.Fitting.{entry_bytes, longest}
 use Rattle.pfl_queue.specs.Queues.{Queue, pending}
 use Rattle.pfl_queue.specs.Taking.{mark_before, entry_of, clear_of, in_turn, next_frame, entry_action}
 use Rattle.pfl_queue.proofs.Fitting.{next_frame-longest}
-use Rattle.pfl_queue.proofs.Fronts.{all_filter}
 use Rattle.pfl_queue.proofs.Sorting.{order-sum}
 
 -- ---- what is pending stands in turn
@@ -73,7 +73,7 @@ first-passes p x xs passes =
     let longer = filter p (map (λ front. x ∷ front) (prefixes xs)) in
     let first : longer ≡ (x ∷ []) ∷ others = ap (λ fronts. filter p (map (λ front. x ∷ front) fronts)) from.is
     ∙ ap (λ b. cond b ((x ∷ []) ∷ others) others) passes in
-    let so = last-filled (x ∷ []) others (omega arith) (all_filter (λ f. 0 < length f) p (map (λ front. x ∷ front) from.more) (all-filled x from.more)) in
+    let so = last-filled (x ∷ []) others (omega arith) (each-filter (λ f. 0 < length f) p (map (λ front. x ∷ front) from.more) (all-filled x from.more)) in
     elim (p []) as (λ b. 0 < length (unwrap_or (last_of (cond b ([] ∷ longer) longer)) [])) [
       | true ↦ subst (λ fronts. 0 < length (unwrap_or (last_of ([] ∷ fronts)) [])) (sym first) so
       | false ↦ subst (λ fronts. 0 < length (unwrap_or (last_of fronts) [])) (sym first) so

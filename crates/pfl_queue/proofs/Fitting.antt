@@ -175,9 +175,6 @@ last_passes p (x ∷ xs) (suc i) within passes fail =
 
 -- Longer prefixes are no fewer bytes.
 module _ (es : List Entry) (mtu : ℕ) where
-  fits : ℕ → Bool
-  fits i = nat_le (entry_bytes (take i es)) mtu
-
   longer : (i j : ℕ) → i ≤ j → entry_bytes (take i es) ≤ entry_bytes (take j es)
   longer i j h =
       let front = take-take i j es h in
@@ -269,7 +266,3 @@ longest_bounded n es mtu few =
           (take j es) entry_action,
       length-take-le j es within,
     ))))
-
--- each entry of a frame has at least as many
-pub entries_bytes : (es : List Entry) → 8 * length es + 20 ≤ entry_bytes es
-entries_bytes es = omega (arith, bytes_weight (map entry_action es), many_bytes (map entry_action es), length-map es entry_action)

@@ -5,6 +5,7 @@ use Rattle.std.specs.List.{AllByRecursion}
 use Rattle.std.proofs.lemmas.Bool.Decides.{nat_tests}
 use Rattle.pfl_base.specs.Lists.{prefixes}
 use Rattle.pfl_base.specs.declared.state_name.StateName.{StateName}
+use Rattle.pfl_base.proofs.ForCallers.{each-weaker}
 use Rattle.pfl_edits.specs.Maps as maps
 use Rattle.pfl_queue.specs.declared.Entry.{Entry}
 use Rattle.pfl_queue.specs.declared.Entry.TheVariants.{Marked, Request, Status, Clear}
@@ -50,15 +51,11 @@ stood q is e (Request name) at = tt
 stood q is e (Status status) at = tt
 stood q is e (Clear creator bound) at = tt
 
-all_stood : (q : Queue) → IsQueue q → (e : Entry) (es : List Entry) → AllByRecursion (Stands (gone q e)) es → AllByRecursion (Stands q) es
-all_stood q is e [] all = tt
-all_stood q is e (f ∷ fs) all = (stood q is e f all.0, all_stood q is e fs all.1)
-
 first_stand : (es : List Entry) (q : Queue) → IsQueue q → (rest : List Entry) → es ++ rest ≡ in_turn q → AllByRecursion (Stands q) es
 first_stand [] q is rest turn = tt
 first_stand (e ∷ es) q is rest turn = (
   found_stands q e (first_found q is e (es ++ rest) (sym turn)),
-  all_stood q is e es (first_stand es (gone q e) (gone_kept q is e) rest (sym (front_gone q is e (es ++ rest) (sym turn)))),
+  each-weaker (Stands (gone q e)) (Stands q) (stood q is e) es (first_stand es (gone q e) (gone_kept q is e) rest (sym (front_gone q is e (es ++ rest) (sym turn)))),
 )
 
 pub frame_stands : (q : Queue) (mtu : ℕ) → IsQueue q → AllByRecursion (Stands q) (next_frame q mtu)

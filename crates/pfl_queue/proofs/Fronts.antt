@@ -1,10 +1,11 @@
 -- A frame takes from the front of what is pending.
-use Rattle.std.proofs.Common.{◌≡◌, ℕ, Bool, true, false, cond, List, [], ◌∷◌, ◌++◌, map, drop, Some, refl, sym, ◌∙◌, ap, subst, arith}
-use Rattle.std.specs.Prelude.{filter, unwrap_or, slice_get}
+use Rattle.std.proofs.Common.{◌≡◌, ℕ, List, [], ◌∷◌, ◌++◌, map, drop, Some, refl, sym, ◌∙◌, ap, subst, arith}
+use Rattle.std.specs.Prelude.{unwrap_or, slice_get}
 use Rattle.std.specs.List.{AllByRecursion, remove, sum_by}
 use Rattle.std.proofs.lemmas.List.Sums.{sum_by-cons}
 use Rattle.pfl_base.specs.declared.state_name.StateName.{StateName}
 use Rattle.pfl_base.specs.Lists.{last_of, prefixes, in_order}
+use Rattle.pfl_base.proofs.ForCallers.{each-filter, each-in_order, each-map}
 use Rattle.pfl_edits.proofs.ForCallers.{LeadsBack-none, LeadsBack-append}
 use Rattle.pfl_edits.specs.Maps as maps
 use Rattle.pfl_wire.specs.declared.message.BulkStatus.{BulkStatus}
@@ -21,17 +22,13 @@ use Rattle.pfl_queue.specs.Laws.{FramesTakeFromTheFront}
 use Rattle.pfl_queue.proofs.Fitting.{next_frame-longest}
 use Rattle.pfl_queue.proofs.InTurn.{before_order, exact}
 use Rattle.pfl_queue.proofs.Keeping.{kept, gone_kept, unmarked_kept}
-use Rattle.pfl_queue.proofs.Sorting.{Rises, order-sum, order-all, order-rises, same_rising}
+use Rattle.pfl_queue.proofs.Sorting.{Rises, order-sum, order-rises, same_rising}
 use Rattle.pfl_queue.proofs.Values.{values_stand, sum_without}
 
 -- the list begins with these
 pub record BeginsWith {X : Type 0} (xs front : List X) : Type 0 where
   pub rest : List X
   pub is : front ++ rest ≡ xs
-
-all_map : {X Y : Type 0} (P : Y → Type 0) (f : X → Y) (xs : List X) → AllByRecursion (λ x. P (f x)) xs → AllByRecursion P (map f xs)
-all_map P f [] all = tt
-all_map P f (x ∷ xs) all = (all.0, all_map P f xs all.1)
 
 all_longer : {X : Type 0} (x : X) (xs : List X) (fronts : List (List X)) → AllByRecursion (BeginsWith xs) fronts
     → AllByRecursion (λ front. BeginsWith (x ∷ xs) (x ∷ front)) fronts
@@ -42,16 +39,9 @@ prefixes_begin : {X : Type 0} (xs : List X) → AllByRecursion (BeginsWith xs) (
 prefixes_begin [] = (record { rest = []; is = refl }, tt)
 prefixes_begin (x ∷ xs) = (
   record { rest = x ∷ xs; is = refl },
-  all_map (BeginsWith (x ∷ xs)) (λ front. x ∷ front) (prefixes xs)
+  each-map (BeginsWith (x ∷ xs)) (λ front. x ∷ front) (prefixes xs)
       (all_longer x xs (prefixes xs) (prefixes_begin xs)),
 )
-
-pub all_filter : {X : Type 0} (P : X → Type 0) (test : X → Bool) (xs : List X) → AllByRecursion P xs → AllByRecursion P (filter test xs)
-all_filter P test [] all = tt
-all_filter P test (x ∷ xs) all = elim (test x) as (λ b. AllByRecursion P (cond b (x ∷ filter test xs) (filter test xs))) [
-  | true ↦ (all.0, all_filter P test xs all.1)
-  | false ↦ all_filter P test xs all.1
-]
 
 pub last_or : {X : Type 0} (P : X → Type 0) (d : X) (xs : List X) → P d → AllByRecursion P xs → P (unwrap_or (last_of xs) d)
 last_or P d [] h all = h
@@ -59,7 +49,7 @@ last_or P d (x ∷ []) h all = all.0
 last_or P d (x ∷ y ∷ ys) h all = last_or P d (y ∷ ys) h all.1
 
 pub longest_begins : (es : List Entry) (mtu : ℕ) → BeginsWith es (longest es mtu)
-longest_begins es mtu = last_or (BeginsWith es) [] _ (record { rest = es; is = refl }) (all_filter (BeginsWith es) _ (prefixes es) (prefixes_begin es))
+longest_begins es mtu = last_or (BeginsWith es) [] _ (record { rest = es; is = refl }) (each-filter (BeginsWith es) _ (prefixes es) (prefixes_begin es))
 
 stood : (q : Queue) (is : IsQueue q) (name : StateName) (ms : List Mark)
     → AllByRecursion (λ m. maps.get (maps.remove q.marks name) m.name ≡ Some m) ms → AllByRecursion (λ m. maps.get q.marks m.name ≡ Some m) ms
@@ -73,8 +63,8 @@ first_mark_gone q is m ms first =
     let values = maps.values q.marks in
     let fewer = maps.values (maps.remove q.marks m.name) in
     let stands = subst (AllByRecursion (λ m. maps.get q.marks m.name ≡ Some m)) first
-    (order-all mark_before (λ m. maps.get q.marks m.name ≡ Some m) values (values_stand q is)) in
-    let stand_too = order-all mark_before (λ m. maps.get q.marks m.name ≡ Some m) fewer
+    (each-in_order (λ (m : Mark). maps.get q.marks m.name ≡ Some m) mark_before values (values_stand q is)) in
+    let stand_too = each-in_order (λ (m : Mark). maps.get q.marks m.name ≡ Some m) mark_before fewer
     (stood q is m.name fewer (values_stand (unmarked q m.name) (unmarked_kept q is m.name))) in
     let rises = subst (Rises mark_before) first (order-rises mark_before before_order values) in
     same_rising mark_before before_order (λ m. maps.get q.marks m.name ≡ Some m) (exact q is) (in_order mark_before fewer) ms
@@ -161,7 +151,7 @@ module _ (q : Queue) (is : IsQueue q) (e : Entry) (rest : List Entry) where
   found_mark (m ∷ ms) marks turn =
       let same : e ≡ entry_of m = cc in
       let stands = subst (AllByRecursion (λ m. maps.get q.marks m.name ≡ Some m)) marks
-      (order-all mark_before (λ m. maps.get q.marks m.name ≡ Some m) (maps.values q.marks) (values_stand q is)) in
+      (each-in_order (λ (m : Mark). maps.get q.marks m.name ≡ Some m) mark_before (maps.values q.marks) (values_stand q is)) in
       subst Found (sym same) stands.0
 
 pub first_found : (q : Queue) → IsQueue q → (e : Entry) (rest : List Entry) → in_turn q ≡ e ∷ rest → FindsFormer (taking e) q

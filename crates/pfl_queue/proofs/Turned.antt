@@ -3,13 +3,12 @@ use Rattle.std.specs.Prelude.{◌≡◌, ℕ, zero, suc, ◌+◌, ◌<◌, ◌�
 use Rattle.std.specs.Prelude.{Option, Some, None, refl}
 use Rattle.std.specs.List.{AllByRecursion, sum_by}
 use Rattle.std.proofs.Common.{◌∙◌, ap, sym, subst, arith, append_assoc}
-use Rattle.std.proofs.Math.Seq.{take-append_seam}
 use Rattle.std.proofs.lemmas.Bool.Decides.{nat_tests}
 use Rattle.std.proofs.lemmas.List.{append-nil, map-append, length-append}
 use Rattle.std.proofs.lemmas.List.Sums.{sum_by-cons}
 use Rattle.pfl_base.specs.Lists.{in_order}
 use Rattle.pfl_base.specs.Names.{name_cmp}
-use Rattle.pfl_base.proofs.ForCallers.{names_total, names_exact}
+use Rattle.pfl_base.proofs.ForCallers.{names_total, names_exact, each-in_order, each-weaker}
 use Rattle.pfl_edits.specs.Maps as maps
 use Rattle.pfl_edits.specs.Maps.{Map}
 use Rattle.pfl_edits.proofs.ForCallers.{entries-empty, get-set_at_same, set_at-back, Distinct, get-map_of, some_is_none}
@@ -22,7 +21,7 @@ use Rattle.pfl_queue.specs.Queues.{Queue, IsQueue}
 use Rattle.pfl_queue.specs.Taking.{kind_place, mark_before}
 use Rattle.pfl_queue.proofs.Gaps.{above_lower}
 use Rattle.pfl_queue.proofs.InTurn.{Stands, before_order, exact, all_stand}
-use Rattle.pfl_queue.proofs.Sorting.{Rises, order-sum, order-all, order-rises, same_rising}
+use Rattle.pfl_queue.proofs.Sorting.{Rises, order-sum, order-rises, same_rising}
 use Rattle.pfl_queue.proofs.Values.{values_stand, sum_without}
 
 -- ---- none stands before one that comes earlier
@@ -57,14 +56,11 @@ rises_front k [] rest kinds rising r late = r
 rises_front k (x ∷ links) rest kinds rising r late =
     (none_first k x.value links rest kinds.0 kinds.1 rising.0 late, rises_front k links rest kinds.1 rising.1 r late)
 
-at_least : (k : ℕ) (ms : List Mark) → AllByRecursion (λ m. suc k ≤ kind_place m.kind) ms → AllByRecursion (λ m. k ≤ kind_place m.kind) ms
-at_least k [] late = tt
-at_least k (m ∷ ms) late = (omega (arith, late.0), at_least k ms late.1)
-
 of_kind : (k : ℕ) (links rest : List (Link Mark)) → AreOfKind k links
     → AllByRecursion (λ m. suc k ≤ kind_place m.kind) (map mark_of_link rest)
     → AllByRecursion (λ m. k ≤ kind_place m.kind) (map mark_of_link (links ++ rest))
-of_kind k [] rest kinds late = at_least k (map mark_of_link rest) late
+of_kind k [] rest kinds late =
+    each-weaker (λ (m : Mark). suc k ≤ kind_place m.kind) (λ (m : Mark). k ≤ kind_place m.kind) (λ m later. omega arith) (map mark_of_link rest) late
 of_kind k (x ∷ links) rest kinds late = (omega (arith, kinds.0), of_kind k links rest kinds.1 late)
 
 record AreFrom (k : ℕ) (lists : List (List (Link Mark))) : Type 0 where
@@ -112,7 +108,7 @@ in-turn q is c are same =
     let values = maps.values q.marks in
     same_rising mark_before before_order (Stands q) (exact q is) (listed c.lists) (in_order mark_before values)
     from.rises (order-rises mark_before before_order values)
-    (all_stand q (listed c.lists) are.apart same) (order-all mark_before (Stands q) values (values_stand q is))
+    (all_stand q (listed c.lists) are.apart same) (each-in_order (Stands q) mark_before values (values_stand q is))
     (λ f. sum_map_of f (listed c.lists) are.apart ∙ (ap (λ (m : Map name_cmp Mark). sum_by f (maps.values m)) same ∙ sym (order-sum mark_before f values)))
 
 -- ---- the first marks
@@ -152,10 +148,6 @@ pub record Walked (c : Lists Mark) (kind most : ℕ) (old now : List Mark) (next
   pub is : now ≡ old ++ map mark_of_link front
   pub few : length now ≤ most
 
-pub walk-start : (c : Lists Mark) (kind most : ℕ) (old : List Mark) (next : Option ℕ) → length old ≤ most
-    → next ≡ first_slot (links_of c kind) → Walked c kind most old old next
-walk-start c kind most old next few at = record { front = []; back = links_of c kind; split = refl; at = at; is = sym (append-nil old); few = few }
-
 -- the link that is next
 pub record Next (c : Lists Mark) (kind most : ℕ) (old now : List Mark) (slot : ℕ) : Type 0 where
   pub at : Place c slot
@@ -194,31 +186,6 @@ walk-on c kind most old now slot n few v value more is next at =
           ∙ ap (λ (ms : List Mark). old ++ ms) (sym (map-append mark_of_link n.front (x ∷ []))))));
       few = omega (arith, few, ap length is, length-append now (v ∷ []));
     }
-
--- the list is at its end
-pub walk-end : (c : Lists Mark) (kind most : ℕ) (old now : List Mark) → Walked c kind most old now None
-    → now ≡ take most (old ++ map mark_of_link (links_of c kind))
-walk-end c kind most old now w = through w.back w.split w.at
-  where
-    through : (back : List (Link Mark)) → links_of c kind ≡ w.front ++ back → None ≡ first_slot back
-        → now ≡ take most (old ++ map mark_of_link (links_of c kind))
-    through [] split at =
-        let all : old ++ map mark_of_link (links_of c kind) ≡ now =
-        ap (λ (ls : List (Link Mark)). old ++ map mark_of_link ls) (split ∙ append-nil w.front) ∙ sym w.is in
-        sym (ap (take most) all ∙ all_taken most now w.few)
-    through (x ∷ back) split at = absurd (some_is_none x.slot (sym at))
-
--- there are enough
-pub walk-full : (c : Lists Mark) (kind most : ℕ) (old now : List Mark) (next : Option ℕ) → Walked c kind most old now next
-    → most ≤ length now → now ≡ take most (old ++ map mark_of_link (links_of c kind))
-walk-full c kind most old now next w full =
-    let rest = map mark_of_link w.back in
-    let all : old ++ map mark_of_link (links_of c kind) ≡ now ++ rest =
-    ap (λ (ls : List (Link Mark)). old ++ map mark_of_link ls) w.split
-    ∙ (ap (λ (ms : List Mark). old ++ ms) (map-append mark_of_link w.front w.back)
-    ∙ (sym (append_assoc old (map mark_of_link w.front) rest) ∙ ap (λ (ms : List Mark). ms ++ rest) (sym w.is))) in
-    let enough : length now ≡ most = omega (arith, full, w.few) in
-    sym (ap (take most) all ∙ (ap (λ n. take n (now ++ rest)) (sym enough) ∙ take-append_seam now rest))
 
 -- ---- a number that is below those of a list
 

@@ -43,10 +43,6 @@ CountsTurns-then s t u h i = record {
   reads = Counts-then s.reads t.reads u.reads (t.turns - s.turns) (u.turns - t.turns) (u.turns - s.turns) (omega (arith, h.more, i.more)) h.reads i.reads;
 }
 
--- turns, and then none
-pub CountsTurns-kept : (s t u : Source) → CountsTurns s t → u.turns ≡ t.turns → u.reads ≡ t.reads → CountsTurns s u
-CountsTurns-kept s t u h e r = CountsTurns-then s t u h (CountsTurns-none t u e r)
-
 -- no turn of a run yet
 pub Counts-begun : (old begun : Source) → begun.turns ≡ 0 → begun.reads ≡ old.reads → Counts old.reads begun.reads begun.turns
 Counts-begun old begun e r = subst (λ (o : Calls). Counts old.reads o begun.turns) (sym r) (Counts-none old.reads begun.turns e)

@@ -11,10 +11,6 @@ use Rattle.pfl_reasons.specs.Against.{StandsAgainst, against}
 use Rattle.pfl_reasons.specs.Explaining.{Stopped, came_of, explained, explained_by, explained_outcome}
 use Rattle.pfl_reasons.proofs.Refusing.{numbers-stand}
 
--- of an event that is accepted
-pub came-ok : (w : World) (e : Event) (s : Stepped) → step w e ≡ Ok s → Ok s.outcome ≡ came_of (step w e)
-came-ok w e s is = sym (ap came_of is)
-
 pub explained-ok : (w : World) (e : Event) (s : Stepped) → step w e ≡ Ok s → explained_outcome w e ≡ explained w e
 unfolding explained
 explained-ok w e s is = sym (ap (explained_by w e) is)

@@ -1,5 +1,5 @@
 -- A clear leaves as many states fewer as it names.
-use Rattle.std.specs.Prelude.{◌≡◌, ◌≢◌, ◌&&◌, ◌||◌, ◌+◌, ℕ, Bool, true, false, List, [], ◌∷◌, filter, length, map, Option, Some, None, is_some, refl}
+use Rattle.std.specs.Prelude.{◌≡◌, ◌≢◌, ◌&&◌, ◌||◌, ◌+◌, Bool, true, false, List, [], ◌∷◌, filter, length, map, Option, Some, None, is_some, refl}
 use Rattle.std.specs.Cmp.{eq_by_cmp_equiv}
 use Rattle.std.specs.FinMap.Entries.{below_all, is_sorted}
 use Rattle.std.specs.List.{AllByRecursion, fold, list_any}
@@ -83,9 +83,6 @@ among m (e ∷ es) has =
 one-less : (m : States) (k : StateName) → maps.contains_key m k ≡ true → maps.len m ≡ maps.len (maps.remove m k) + 1
 one-less m k is = by (maps.get m k) refl is
   where
-    n : ℕ
-    n = maps.len (maps.remove m k)
-
     by : (o : Option State) → maps.get m k ≡ o → is_some o ≡ true → maps.len m ≡ maps.len (maps.remove m k) + 1
     by None at is = absurd (cc)
     by (Some v) at is =

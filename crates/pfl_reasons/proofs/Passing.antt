@@ -1,9 +1,8 @@
 -- A frame on its way, event after event.
-use Rattle.std.specs.Prelude.{◌≡◌, ◌≤◌, ◌+◌, ◌++◌, ℕ, List, [], ◌∷◌, length, drop, slice_get, Option, Some, None, refl}
+use Rattle.std.specs.Prelude.{◌≡◌, ◌≤◌, ◌+◌, ◌++◌, ℕ, List, ◌∷◌, length, drop, slice_get, Option, Some, None, refl}
 use Rattle.std.specs.List.{cons_option}
 use Rattle.std.specs.Option.{option_to_list}
 use Rattle.std.proofs.Common.{append_assoc, append-nil, ◌∙◌, ap, sym, arith}
-use Rattle.std.proofs.Math.Seq.{take-length}
 use Rattle.std.proofs.lemmas.List.{drop_all}
 use Rattle.pfl_base.specs.Numbers.{greatest}
 use Rattle.pfl_language.specs.declared.event.Event.{Event}
@@ -20,21 +19,6 @@ pub record IsPassing (ticket place : ℕ) (f : InFlight) (events : List Event) (
   pub same : t ≡ ticket
   pub within : len ≤ length f.bytes
   pub countable : next + senders (drop i events) ≤ greatest
-
-all-bytes : (f : InFlight) → cut_to f (length f.bytes) ≡ f
-all-bytes f = ap (λ (bytes : List ℕ). record f { bytes = bytes }) (take-length f.bytes)
-
-pub passing-first : (ticket place : ℕ) (f : InFlight) (events : List Event) (steps : List FrameStep) (len : ℕ) → steps ≡ []
-    → len ≡ length f.bytes → ticket + 1 + senders (drop place events) ≤ greatest
-    → IsPassing ticket place f events place steps ticket len (ticket + 1)
-passing-first ticket place f events steps len none all few =
-    let whole = ap (cut_to f) all ∙ all-bytes f in
-    record {
-      listed = λ j. none j ++ steps_of ticket (ticket + 1) (place + 1) (whole j) (drop place events);
-      same = refl;
-      within = omega arith;
-      countable = few;
-    }
 
 listed-first : (o : Option FrameStep) (rest : List FrameStep) → cons_option o rest ≡ option_to_list o ++ rest
 listed-first None rest = refl

@@ -1,4 +1,4 @@
--- What the laws of reasons refuse, computed: a fate or a number that is not so of one node or one pair.
+-- Worked cases of what the laws of reasons refuse, computed: a fate or a number that is not so of one node or one pair.
 use Rattle.std.specs.Prelude.{◌≡◌, ℕ, true, false, List, [], ◌∷◌, replicate, Option, Some, None, unwrap_or, refl}
 use Rattle.std.specs.Option.{option_map_or}
 use Rattle.std.proofs.Common.{ap, arith, inl, inr}
@@ -20,6 +20,7 @@ use Rattle.pfl_language.specs.declared.fate.Reason.TheVariants as reason
 use Rattle.pfl_rules.specs.declared.action.Action.TheVariants.{Block, Pass}
 use Rattle.pfl_rules.specs.declared.rule.Rule.{Rule}
 use Rattle.pfl_rules.specs.declared.rule_dir.RuleDir.TheVariants.{Any}
+use Rattle.pfl_rules.proofs.ForCallers.{plain_rule}
 use Rattle.pfl_track.specs.Tracking.{silent}
 use Rattle.pfl_wire.specs.declared.message.Message.{Message}
 use Rattle.pfl_wire.specs.declared.message.Message.TheVariants.{Clear, DeleteShort, Insert, InsertAck, UpdateShort}
@@ -45,25 +46,10 @@ unfolding of_worlds
 computing = 0
 
 abbrev pass : Rule
-pass = record {
-  action = Pass;
-  direction = Any;
-  quick = false;
-  proto = None;
-  from = None;
-  from_port = None;
-  to = None;
-  to_port = None;
-  any_flags = false;
-  no_sync = false;
-  max = None;
-  nat = None;
-  rdr = None;
-  timeouts = replicate 14 None;
-}
+pass = plain_rule Pass Any
 
 abbrev block : Rule
-block = record pass { action = Block }
+block = plain_rule Block Any
 
 abbrev pair : Limits → List Rule → World
 pair l rules = new_world l (record { list = rules; timeouts = replicate 14 None; print = replicate 16 7 })

@@ -18,6 +18,7 @@ use Rattle.pfl_language.specs.declared.node_event.NodeEvent.TheVariants as own
 use Rattle.pfl_rules.specs.declared.action.Action.TheVariants.{Block, Pass}
 use Rattle.pfl_rules.specs.declared.rule.Rule.{Rule}
 use Rattle.pfl_rules.specs.declared.rule_dir.RuleDir.TheVariants.{Any, Out}
+use Rattle.pfl_rules.proofs.ForCallers.{plain_rule}
 use Rattle.pfl_track.specs.declared.edges.AckTest.{AckTest}
 use Rattle.pfl_track.specs.declared.edges.EdgeTest.{EdgeTest}
 use Rattle.pfl_track.specs.declared.judgement.Judgement.{Judgement}
@@ -41,25 +42,10 @@ unfolding of_worlds against explained expiries judged_reason packet_reason judgi
 computing = 0
 
 abbrev pass : Rule
-pass = record {
-  action = Pass;
-  direction = Any;
-  quick = false;
-  proto = None;
-  from = None;
-  from_port = None;
-  to = None;
-  to_port = None;
-  any_flags = false;
-  no_sync = false;
-  max = None;
-  nat = None;
-  rdr = None;
-  timeouts = replicate 14 None;
-}
+pass = plain_rule Pass Any
 
 abbrev block : Rule
-block = record pass { action = Block }
+block = plain_rule Block Any
 
 abbrev pair : Limits → List Rule → World
 pair l rules = new_world l (record { list = rules; timeouts = replicate 14 None; print = replicate 16 7 })

@@ -1,16 +1,14 @@
 -- A state that may be taken over may be put.
-use Rattle.std.specs.Prelude.{◌≡◌, ◌≤◌, ◌<◌, ℕ, ◌+◌, ◌*◌, ◌==◌, ◌&&◌, ◌||◌, Bool, true, false, not, nat_le, nat_lt, length, Option, Some, None}
+use Rattle.std.specs.Prelude.{◌≡◌, ◌≤◌, ◌<◌, ℕ, ◌+◌, ◌==◌, ◌&&◌, ◌||◌, Bool, true, false, not, nat_le, nat_lt, length, Option, Some, None}
 use Rattle.std.specs.Prelude.{is_some, IfSome, refl}
 use Rattle.std.specs.Option.{option_map}
 use Rattle.std.proofs.Common.{cond, T, ◌∙◌, ap, sym, subst, arith}
 use Rattle.std.proofs.lemmas.Bool.Decides.{nat_tests}
-use Rattle.pfl_base.specs.declared.class.Class.{Class}
 use Rattle.pfl_base.specs.declared.state_name.StateName.{StateName}
 use Rattle.pfl_base.proofs.ForCallers.{names_total, names_exact}
 use Rattle.pfl_edits.specs.Maps as maps
 use Rattle.pfl_edits.proofs.ForCallers.{len-insert, get-set_at_same}
 use Rattle.pfl_track.specs.States.{IsState}
-use Rattle.pfl_desk.specs.rules.Rules.{timeout}
 use Rattle.pfl_desk.specs.table.Tables.{key_in_use}
 use Rattle.pfl_desk.proofs.ForCallers.table.{OwnsKeys-unused}
 use Rattle.pfl_wire.specs.declared.message.StateRecord.{StateRecord}
@@ -20,9 +18,9 @@ use Rattle.pfl_desk.specs.queue.declared.Mark.{Mark}
 use Rattle.pfl_desk.specs.queue.Queues.{kind_of}
 use Rattle.pfl_desk.specs.Changes.{put_state}
 use Rattle.pfl_desk.specs.inner.Kept.{MayAdd, MayMark}
-use Rattle.pfl_desk.specs.Nodes.{Node, AreParts, IsNodeState, IsGiven, IsPast, LeftFits, most_left, timeout_at}
+use Rattle.pfl_desk.specs.Nodes.{Node, AreParts, IsNodeState, IsGiven, IsPast, LeftFits}
 use Rattle.pfl_desk.proofs.ForCallers.{put-node, told-may}
-use Rattle.pfl_receive.specs.Receiving.{is_not_given, is_delete, can_import, import_timeout, imported, kept_rule}
+use Rattle.pfl_receive.specs.Receiving.{is_not_given, is_delete, can_import, imported, kept_rule}
 
 -- ---- why it may be
 
@@ -84,17 +82,6 @@ rule-is n true (Some r) = by (nat_lt r (length n.rules.list)) refl
     by : (b : Bool) → nat_lt r (length n.rules.list) ≡ b → IfSome (cond b (Some r) None) (λ q. q < length n.rules.list)
     by true is = grind (arith, nat_tests)
     by false is = tt
-
--- with `expiry` the timeout is not scaled, so that what is left of it fits; by the profile nothing lies ahead
-pub imported-left : (n : Node) (rule : Option ℕ) (class : Class) (used seconds now : ℕ) → now ≡ n.clock → seconds ≡ import_timeout n rule class
-    → (n.limits.kernel.expiry ≡ false → used ≤ now) → used + seconds * 1000 ≤ now + most_left → n.clock < used
-    → used + timeout n.rules rule class * 1000 ≤ n.clock + most_left
-imported-left n rule class used seconds now clock told past fits ahead = by n.limits.kernel.expiry told past
-  where
-    by : (b : Bool) → seconds ≡ cond b (timeout n.rules rule class) (timeout_at n rule class) → (b ≡ false → used ≤ now)
-        → used + timeout n.rules rule class * 1000 ≤ n.clock + most_left
-    by true told past = subst (λ (t : ℕ). used + t * 1000 ≤ n.clock + most_left) told (subst (λ (t : ℕ). used + seconds * 1000 ≤ t + most_left) clock fits)
-    by false told past = let before = past refl in absurd (omega arith)
 
 imported-state : (n : Node) (b : Bool) (r : StateRecord) → IsGiven n r.name → IsState (imported n b r)
     → (n.limits.kernel.expiry ≡ false → IsPast n (imported n b r).last)

@@ -1,5 +1,6 @@
 -- What a merge gives may take the state's place.
 use Rattle.std.specs.Prelude.{◌≡◌, ◌≤◌, ◌<◌, ◌⊎◌, ℕ, ◌-◌, ◌&&◌, Bool, true, false, not, length, Option, Some, IfSome, refl}
+use Rattle.std.specs.Option.{option_map_or}
 use Rattle.std.proofs.Common.{cond, ◌∙◌, ap, sym, subst, arith, inl, inr}
 use Rattle.pfl_base.specs.declared.kernel.Kernel.{Kernel}
 use Rattle.pfl_base.specs.declared.state_name.StateName.{StateName}
@@ -16,12 +17,23 @@ use Rattle.pfl_desk.specs.inner.Kept.{MayReplace}
 use Rattle.pfl_desk.specs.Nodes.{Node, AreParts, IsPast}
 use Rattle.pfl_desk.proofs.ForCallers.{left-same, state_still}
 
+-- what was found by a name is what stands under it
+pub found-so : (n : Node) (m : States) (name : StateName) (o p q : Option State) → m ≡ n.states → o ≡ maps.get m name → p ≡ o → p ≡ q
+    → maps.get n.states name ≡ q
+found-so n m name o p q states found copied at = ap (λ (k : States). maps.get k name) (sym states) ∙ (sym found ∙ (sym copied ∙ at))
+
 -- a state that was found by a name stands under its own
 pub stands-found : (n : Node) (m : States) (name : StateName) (o p : Option State) (s : State) → AreParts n → m ≡ n.states
     → o ≡ maps.get m name → p ≡ o → p ≡ Some s → maps.get n.states s.name ≡ Some s
 stands-found n m name o p s is states found copied at =
-    let there : maps.get n.states name ≡ Some s = ap (λ (k : States). maps.get k name) (sym states) ∙ (sym found ∙ (sym copied ∙ at)) in
+    let there = found-so n m name o p (Some s) states found copied at in
     ap (maps.get n.states) (is.states.filed name s there) ∙ there
+
+-- what holds of what a state makes of what was received holds of what comes of a record, where that state was found
+pub known-so : (P : Node → Type 0) (f : State → Received → Node) (q r : Received) (d : Node) (o : Option State) (s : State) → o ≡ Some s
+    → q ≡ r → P (f s q) → P (option_map_or (λ t. f t r) o d)
+known-so P f q r d o s found same holds =
+    subst (λ (k : Option State). P (option_map_or (λ t. f t r) k d)) (sym found) (subst (λ (k : Received). P (f s k)) same holds)
 
 -- a state that may take the place of one may do so too where only counts and held packets are others
 lost-may : (n : Node) (name : StateName) (s : State) → MayReplace n s → MayReplace (lost n name) s

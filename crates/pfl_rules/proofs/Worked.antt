@@ -13,27 +13,13 @@ use Rattle.pfl_rules.specs.Rules.{Rules, rule_fault, rule_set, timed, timeout}
 use Rattle.pfl_rules.specs.Scaling.{scaled}
 use Rattle.pfl_rules.specs.Texts.{canonical_text, ports_text}
 use Rattle.md5.specs.Md5.{md5, digest_bytes, hash_after, compress, rounds, block_words}
+use Rattle.pfl_rules.proofs.Cases.{plain_rule}
 
-pass_out : Rule
-pass_out = record {
-  action = Pass;
-  direction = Out;
-  quick = false;
-  proto = None;
-  from = None;
-  from_port = None;
-  to = None;
-  to_port = None;
-  any_flags = false;
-  no_sync = false;
-  max = None;
-  nat = None;
-  rdr = None;
-  timeouts = replicate 14 None;
-}
+abbrev pass_out : Rule
+pass_out = plain_rule Pass Out
 
 text : canonical_text (pass_out ∷ []) ≡ codes "pass out\n"
-unfolding canonical_text pass_out
+unfolding canonical_text
 text = refl
 
 no_rules : md5 [] ≡ 0xd4 ∷ 0x1d ∷ 0x8c ∷ 0xd9 ∷ 0x8f ∷ 0x00 ∷ 0xb2 ∷ 0x04 ∷ 0xe9 ∷ 0x80 ∷ 0x09 ∷ 0x98 ∷ 0xec ∷ 0xf8 ∷ 0x42 ∷ 0x7e ∷ []
@@ -79,23 +65,23 @@ hour = timed
     ∷ record pass_out { action = Block; timeouts = replicate 14 (Some 1) } ∷ []))
 
 set_timeout : timeout hour (Some 0) TcpEstablished ≡ 3600
-unfolding rule_set pass_out
+unfolding rule_set
 set_timeout = refl
 
 rule_timeout : timeout hour (Some 1) TcpEstablished ≡ 60
-unfolding rule_set pass_out
+unfolding rule_set
 rule_timeout = refl
 
 block_timeout : timeout hour (Some 2) TcpEstablished ≡ 3600
-unfolding rule_set pass_out
+unfolding rule_set
 block_timeout = refl
 
 no_rule_timeout : timeout hour None TcpEstablished ≡ 3600
-unfolding rule_set pass_out
+unfolding rule_set
 no_rule_timeout = refl
 
 other_class : timeout hour (Some 0) TcpClosing ≡ 900
-unfolding rule_set pass_out
+unfolding rule_set
 other_class = refl
 
 -- ---- faults: the first that holds of the whole set
@@ -107,27 +93,21 @@ abbrev no_states : Rule
 no_states = record pass_out { max = Some 0 }
 
 fine : rule_fault (pass_out ∷ []) ≡ None
-unfolding pass_out
 fine = refl
 
 nat_on_any : rule_fault (any_nat ∷ []) ≡ Some NatNotOut
-unfolding pass_out
 nat_on_any = refl
 
 rdr_on_out : rule_fault (record pass_out { rdr = Some (record { addr = V4 0xc6336401; ports = record { first = 80; last = 80 } }) } ∷ []) ≡ Some RdrNotIn
-unfolding pass_out
 rdr_on_out = refl
 
 zero_max : rule_fault (no_states ∷ []) ≡ Some ZeroMax
-unfolding pass_out
 zero_max = refl
 
 lower_first : rule_fault (no_states ∷ any_nat ∷ []) ≡ Some NatNotOut
-unfolding pass_out
 lower_first = refl
 
 too_many : rule_fault (replicate 257 no_states) ≡ Some TooMany
-unfolding pass_out
 too_many = refl
 
 -- ---- timeouts that shorten

@@ -1,11 +1,11 @@
--- The mode of the subcommand that the parse met is the one that the words ask for.
+-- What the parse met of a subcommand: its name, its numbers, and the mode that they give.
 use Rattle.std.proofs.Common.{◌≡◌, ℕ, List, [], Option, Some, None, refl, sym, ◌∙◌, subst, codes}
 use Rattle.std.specs.Prelude.{option_map, Box}
 use Rattle.std.specs.Box.{box_value}
 use Rattle.clap.proofs.WalkLemmas.{first_value-rows}
 use Rattle.clap.specs.Faults.{fault_of}
 use Rattle.clap.specs.Walk.{Row, Text, first_of, rows_of}
-use Rattle.clap.specs.Simple.{HasMatchesOf, subcommand_of, subcommand_rows, subcommand_rows_of}
+use Rattle.clap.specs.Simple.{HasMatchesOf, subcommand_rows, subcommand_rows_of}
 use Rattle.clap.specs.Matches.{first_value, found_of, subcommand_name_of}
 use Rattle.clap.specs.declared.parser.matches.ArgMatches.{ArgMatches}
 use Rattle.clap.specs.declared.parser.matches.ArgMatches.TheViews.{out-ArgMatches, out-SubCommand}
@@ -67,8 +67,3 @@ serve_had m h name = both_had (subcommand_rows_of m) h (name_met m ∙ name)
 -- what was met is what the words name
 pub words_met : (words : List Text) (m : ArgMatches) → fault_of lab_app words ≡ [] → HasMatchesOf lab_app words m → IsMet (subcommand_rows_of m)
 words_met words m none h = subst (λ (met : Option (Text × List Row)). IsMet met) (sym (h refl).1) (words_meet words none)
-
--- and its mode is the one that they ask for
-pub mode_taken : (words : List Text) (m : ArgMatches) (mode : Mode) → HasMatchesOf lab_app words m → IsModeOf (subcommand_rows_of m) mode →
-    IsModeOf (subcommand_of lab_app words) mode
-mode_taken words m mode h is = subst (λ (met : Option (Text × List Row)). IsModeOf met mode) (h refl).1 is

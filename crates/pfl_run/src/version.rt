@@ -2,4 +2,4 @@
 
 /// The release, the sum of its sources, and the logic that proves them.
 pub(crate) const VERSION: &str =
-    "release 21, sources 686feba39ca860a37ba62e76aebbad9c88a8fe6ebd6aebebfefaa07c3495521a, logic dac8208d650f15bf";
+    "release 22, sources 858c2471fbb93d09c205881e4850965ae169818857a8c001bccfee221c965874, logic dac8208d650f15bf";

@@ -7,7 +7,7 @@ use Rattle.std.proofs.lemmas.List.{append-nil}
 use Rattle.pfl_reader.specs.Scans.{Kept, Keeps, ReadsLine, TakesLines, IsOver, has_word}
 use Rattle.pfl_reader.specs.Saids.{kept_said}
 use Rattle.pfl_script.specs.Answers.{is_command, kept_bad, kept_command, bad_lines, one_if}
-use Rattle.pfl_script.specs.Checks.{line_report, kept_report, lines_report, good_lines, good_text, ChecksWhole, ChecksPart, ChecksUncounted}
+use Rattle.pfl_script.specs.Checks.{line_report, kept_report, lines_report, good_lines, good_text, ChecksPart, ChecksUncounted}
 use Rattle.pfl_script.proofs.Pieces.{appends_none, appends_then}
 use Rattle.pfl_script.proofs.Running.{said-kept, bad-kept, command-kept, bad_lines-push, taken-none, taken-line, taken-first, taken-all, taken-drained}
 
@@ -70,18 +70,6 @@ Went-more old mid new m n w v x good bad k went reads appends =
       commands = rw (went.commands, command-kept k line reads.keeps, good_lines-push lines line) refl;
       faulty = rw (went.faulty, bad-kept k line reads.keeps, bad_lines-push lines line) refl;
     }
-
--- the end was reached, and the last line was written
-pub Went-whole : (old mid new : Option (List ℕ)) (m n : ℕ) (w v x : Option (List ℕ)) (good bad : ℕ) →
-    Went old mid m n w v good bad → IsOver mid new → Appends v x (good_text good) → ChecksWhole old new m w x good bad
-Went-whole old mid new m n w v x good bad went over appends = record {
-  lines = went.lines;
-  all = taken-all old mid new went.lines went.left over;
-  end = taken-drained old mid new went.lines went.left over;
-  written = appends_then w v x (lines_report m went.lines) _ went.written (subst (λ (i : ℕ). Appends v x (good_text i)) went.commands appends);
-  commands = went.commands;
-  faulty = went.faulty;
-}
 
 -- the end was reached, and the last line was written in part
 pub Went-uncounted : (old mid new : Option (List ℕ)) (m n : ℕ) (w v x : Option (List ℕ)) (good bad part : ℕ) →

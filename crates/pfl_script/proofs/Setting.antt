@@ -1,7 +1,7 @@
 -- A setup is read line by line.
 use Rattle.std.proofs.Common.{◌≡◌, ℕ, ◌+◌, ◌<◌, ◌≤◌, Bool, true, false, List, [], ◌∷◌, ◌++◌, length, refl, sym, ◌∙◌, ap, subst, arith, length-append, inl, inr}
-use Rattle.std.proofs.Common.{cond, Option, Some, None, Ok, Err}
-use Rattle.std.specs.Prelude.{◌&&◌, Result, IfOk, IfErr, OnErr, unwrap_or}
+use Rattle.std.proofs.Common.{Option, Some, None, Ok, Err}
+use Rattle.std.specs.Prelude.{◌&&◌, Result, IfOk, IfErr}
 use Rattle.std.specs.List.{flat_map}
 use Rattle.pfl_rules.specs.declared.fault.RuleFault.{RuleFault}
 use Rattle.pfl_rules.specs.declared.fault.RuleFault.TheVariants as rule
@@ -14,9 +14,8 @@ use Rattle.std.proofs.lemmas.List.Folds.{list_all-append}
 use Rattle.std.proofs.lemmas.List.Sums.{fold-append}
 use Rattle.pfl_lines.specs.declared.fault.LineFault.{LineFault}
 use Rattle.pfl_lines.specs.Setup.{parsed_setup}
-use Rattle.pfl_lines.specs.declared.setup.SetupLine.{SetupLine}
 use Rattle.pfl_lines.specs.declared.setup.SetupLine.TheVariants as setup
-use Rattle.pfl_reader.specs.Scans.{Kept, Keeps, ReadsLine, TakesLines, IsOver, has_word}
+use Rattle.pfl_reader.specs.Scans.{Kept, Keeps, ReadsLine, TakesLines}
 use Rattle.pfl_reader.specs.Saids.{kept_setup}
 use Rattle.pfl_script.specs.declared.setup_fault.SetupFault.{SetupFault}
 use Rattle.pfl_script.specs.declared.setup_fault.SetupFault.TheVariants as fault
@@ -26,11 +25,11 @@ use Rattle.pfl_reader.specs.Readers.{Source, IsReadFault}
 use Rattle.pfl_reader.specs.declared.fault.ReadFault.{ReadFault}
 use Rattle.pfl_reader.specs.declared.fault.ReadFault.TheVariants as read
 use Rattle.pfl_script.specs.Readers.{setup_of_read}
-use Rattle.pfl_script.specs.Setups.{is_rule, says_rule, kept_line, longest_text, IsKeptText, IsSetupFault, IsTooLong, KeepsText}
+use Rattle.pfl_script.specs.Setups.{says_rule, kept_line, longest_text, IsKeptText, IsSetupFault, IsTooLong, KeepsText}
 use Rattle.pfl_script.specs.Setups.{Draft, nothing_set, said, kept_words, set_by_said}
-use Rattle.pfl_script.specs.Setups.{goes_on, drafted, all_go_on, Opens, IsFaultyAt, IsUnopened, WantsRule, GoOn, StopsAt}
+use Rattle.pfl_script.specs.Setups.{goes_on, drafted, all_go_on, Opens, IsFaultyAt, WantsRule, GoOn, StopsAt}
 use Rattle.pfl_script.specs.inner.Setups.{Grows, IsTakeFault, IsRuleStop, IsFinishStop, Takes}
-use Rattle.pfl_script.proofs.Running.{taken-none, taken-line, taken-first, taken-all}
+use Rattle.pfl_script.proofs.Running.{taken-none, taken-line, taken-first}
 
 -- lines were taken so far that set this
 pub record Going (old new : Option (List ℕ)) (n : ℕ) (d : Draft) : Type 0 where
@@ -112,15 +111,6 @@ Going-faulty old mid new n d k why h reads faulty = record {
   number = omega (arith, h.number);
 }
 
--- no line is left
-pub Going-end : (old mid new : Option (List ℕ)) (n : ℕ) (d : Draft) → Going old mid n d → IsOver mid new → IsUnopened old n
-Going-end old mid new n d h over = record {
-  lines = h.lines;
-  all = taken-all old mid new h.lines h.taken over;
-  going = h.going;
-  number = h.number;
-}
-
 -- there is no memory for a rule
 Going-short : (old mid new : Option (List ℕ)) (n : ℕ) (d : Draft) (k : Kept) →
     Going old mid n d → ReadsLine k mid new → says_rule (kept_words k) ≡ true → WantsRule old new (n + 1)
@@ -192,21 +182,6 @@ counts-finished (fault.NoOpen m) old new n d h stop = absurd stop
 counts-finished fault.Read old new n d h stop = absurd stop
 counts-finished fault.TooManyTurns old new n d h stop = absurd stop
 
--- the first of four faults is none where memory is wanting in its place
-four_faults : (a b c d : Bool) →
-    rule.NoMemory ≡ unwrap_or
-    (cond a (Some rule.TooMany) (cond b (Some rule.NatNotOut) (cond c (Some rule.ZeroMax) (cond d (Some rule.RdrNotIn) None)))) rule.NoMemory →
-    cond a (Some rule.TooMany) (cond b (Some rule.NatNotOut) (cond c (Some rule.ZeroMax) (cond d (Some rule.RdrNotIn) None))) ≡ None
-four_faults true b c d h = cc
-four_faults false true c d h = cc
-four_faults false false true d h = cc
-four_faults false false false true h = cc
-four_faults false false false false h = refl
-
--- rules have no fault where memory is wanting for their set
-pub faultless-rules : (rules : List Rule) → rule.NoMemory ≡ unwrap_or (rule_fault rules) rule.NoMemory → rule_fault rules ≡ None
-faultless-rules rules h = four_faults _ _ _ _ h
-
 -- node a's rules are no rule set
 pub finish-a : (e : SetupFault) (n : ℕ) (d : Draft) → IsRuleStop e n (rule_fault d.a) → IsFinishStop e n d
 finish-a (fault.Rule m why) n d stop = (stop.0, ap (λ (o : Option RuleFault). option_or o (rule_fault d.b)) stop.1)
@@ -224,19 +199,6 @@ finish-b (fault.Line m why) n d none stop = absurd stop
 finish-b (fault.NoOpen m) n d none stop = absurd stop
 finish-b fault.Read n d none stop = absurd stop
 finish-b fault.TooManyTurns n d none stop = absurd stop
-
--- what a line says that has a word
-words-said : (k : Kept) (r : Result SetupLine LineFault) → has_word k.head ≡ true → kept_setup k ≡ r → kept_words k ≡ Some r
-unfolding kept_words
-words-said k r h e = rw (h, e) refl
-
--- there is no memory for what the line says
-pub take-short : (r : Result Bool SetupFault) (n : ℕ) (k : Kept) (s : SetupLine) → has_word k.head ≡ true → kept_setup k ≡ Ok s →
-    IfErr r (λ e. e ≡ fault.NoMemory) → OnErr r (is_rule s ≡ true) → IfErr r (λ e. IsTakeFault e n (kept_words k))
-take-short (Ok b) n k s h e none rule = tt
-take-short (Err f) n k s h e none rule =
-    let said : says_rule (kept_words k) ≡ true = ap says_rule (words-said k (Ok s) h e) ∙ rule in
-    rw none said
 
 -- ---- the text of the lines
 

@@ -104,10 +104,6 @@ pub either : (a b : Bool) → a || b ≡ false → (a ≡ false) × (b ≡ false
 either true b h = absurd cc
 either false b h = (refl, h)
 
-or_left : (a b : Bool) → a ≡ true → a || b ≡ true
-or_left true b h = refl
-or_left false b h = absurd cc
-
 or_right : (a b : Bool) → b ≡ true → a || b ≡ true
 or_right true b h = refl
 or_right false b h = h

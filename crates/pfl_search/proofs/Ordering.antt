@@ -21,10 +21,6 @@ use Rattle.pfl_search.specs.declared.order.Last.{Last}
 
 -- ---- runs
 
-run-none : (w : World) → run w [] ≡ Some w
-unfolding run
-run-none w = refl
-
 run-next : (w : World) (e : Event) (es : List Event) (s : Stepped) → step w e ≡ Ok s → run w (e ∷ es) ≡ run s.world es
 unfolding run
 run-next w e es s h = rw h refl

@@ -177,19 +177,6 @@ frame_turns place phase w e what rows is all =
     ∙ ap (λ (m : Move). map (turn place phase) (instances w m)) (sym is)
 
 module _ (last : Option Last) (begun : ℕ) (w : World) where
-  -- a frame more
-  pub frames_more : (place phase : ℕ) (e : FrameEvent) (row : Ticketed) (rows : List Ticketed) (ts us : List Candidate)
-      → us ≡ ts ++ in_turn last begun w (turn_on place phase e row.ticket ∷ [])
-      → us ++ in_turn last begun w (map (λ t. turn_on place phase e t.ticket) rows)
-      ≡ ts ++ in_turn last begun w (map (λ t. turn_on place phase e t.ticket) (row ∷ rows))
-  frames_more place phase e row rows ts us added =
-      let p : Candidate → Bool = λ t. is_in_turn (in_phase last begun t.phase) w t.event in
-      let one = turn_on place phase e row.ticket in
-      let others : List Candidate = map (λ t. turn_on place phase e t.ticket) rows in
-      ap (λ (xs : List Candidate). xs ++ in_turn last begun w others) added
-      ∙ append_assoc ts (in_turn last begun w (one ∷ [])) (in_turn last begun w others)
-      ∙ ap (λ (xs : List Candidate). ts ++ xs) (sym (filter-append p (one ∷ []) others))
-
   -- a choice more
   pub turns_more : (cs : List Choice) (place : ℕ) (c : Choice) (ts us : List Candidate) → place < length cs
       → c ≡ slice_index_or cs place c → us ≡ ts ++ in_turn last begun w (turns_of begun w place c)

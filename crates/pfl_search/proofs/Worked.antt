@@ -12,13 +12,11 @@ use Rattle.pfl_language.specs.declared.event.Event.TheVariants as event
 use Rattle.pfl_language.specs.declared.event.FrameEvent.{FrameEvent}
 use Rattle.pfl_language.specs.declared.event.FrameEvent.TheVariants as frame
 use Rattle.pfl_language.specs.declared.node_event.NodeEvent.TheVariants as own
-use Rattle.pfl_world.specs.rules.declared.action.Action.{Action}
 use Rattle.pfl_world.specs.rules.declared.action.Action.TheVariants.{Block, Pass}
-use Rattle.pfl_world.specs.rules.declared.rule.Rule.{Rule}
-use Rattle.pfl_world.specs.rules.declared.rule_dir.RuleDir.{RuleDir}
 use Rattle.pfl_world.specs.rules.declared.rule_dir.RuleDir.TheVariants.{Any, Out}
 use Rattle.pfl_world.specs.rules.Rules.{Rules}
 use Rattle.pfl_world.proofs.ForCallers.{limits, computing as of_worlds}
+use Rattle.pfl_world.proofs.ForCallers.rules.{plain_rule}
 use Rattle.pfl_world.specs.Runs.{run}
 use Rattle.pfl_world.specs.Worlds.{World, new_world}
 use Rattle.pfl_search.specs.Choices.{start, turns, used}
@@ -33,27 +31,9 @@ use Rattle.pfl_language.specs.declared.goal.Question.TheVariants.{Admitted, Apar
 use Rattle.pfl_language.specs.declared.goal.Scope.{Scope}
 use Rattle.pfl_language.specs.declared.goal.Scope.TheVariants.{Everywhere, Landed, Quiet, Settled}
 
-abbrev rule : Action → RuleDir → Rule
-rule action direction = record {
-  action = action;
-  direction = direction;
-  quick = false;
-  proto = None;
-  from = None;
-  from_port = None;
-  to = None;
-  to_port = None;
-  any_flags = false;
-  no_sync = false;
-  max = None;
-  nat = None;
-  rdr = None;
-  timeouts = replicate 14 None;
-}
-
 -- `block any` and `pass out`, under a checksum of 16 equal bytes, which stands for their MD5
 abbrev rules : Rules
-rules = record { list = rule Block Any ∷ rule Pass Out ∷ []; timeouts = replicate 14 None; print = replicate 16 7 }
+rules = record { list = plain_rule Block Any ∷ plain_rule Pass Out ∷ []; timeouts = replicate 14 None; print = replicate 16 7 }
 
 abbrev inside : End
 inside = record { addr = V4 0x0a000001; port = 1000 }

@@ -1,9 +1,9 @@
 -- A command makes each branch longer by one event at most, or as long as it was before an excision.
-use Rattle.std.specs.Prelude.{◌≡◌, ◌≤◌, ℕ, ◌+◌, List, [], ◌∷◌}
+use Rattle.std.specs.Prelude.{◌≡◌, ◌≤◌, ℕ, ◌+◌, List}
 use Rattle.std.specs.Prelude.{Option, Some, None, IfSome}
-use Rattle.std.specs.List.{AllByRecursion}
 use Rattle.std.specs.Option.{option_map_or}
 use Rattle.std.proofs.Common.{ap, subst, arith}
+use Rattle.pfl_base.proofs.ForCallers.{each-weaker}
 use Rattle.pfl_language.specs.declared.command.Command.{Command}
 use Rattle.pfl_language.specs.BranchWords.{same_name}
 use Rattle.pfl_timeline.specs.Answers.{answer}
@@ -14,19 +14,12 @@ use Rattle.pfl_timeline.proofs.ForCallers.{all_behind, all_others, all_put, each
 use Rattle.pfl_session.specs.Totals.{HasFew, HasFewEvents}
 use Rattle.pfl_session.proofs.Answered.{answer-few, length-front, more_here}
 
-pub all_weaker : {X : Type 0} (P Q : X → Type 0) → ((x : X) → P x → Q x) → (xs : List X) → AllByRecursion P xs → AllByRecursion Q xs
-all_weaker P Q weaker [] all = tt
-all_weaker P Q weaker (x ∷ xs) all = (weaker x all.0, all_weaker P Q weaker xs all.1)
-
 pub more_room : (n m : ℕ) (t : Timeline) → n ≤ m → HasFewEvents n t → HasFewEvents m t
-more_room n m t le few = all_weaker (HasFew n) (HasFew m) (λ b h. more_here n m b le h) t.branches few
+more_room n m t le few = each-weaker (HasFew n) (HasFew m) (λ b h. more_here n m b le h) t.branches few
 
 module _ (t : Timeline) (n : ℕ) (few : HasFewEvents n t) where
   roomy : HasFewEvents (n + 1) t
   roomy = more_room n (n + 1) t (omega arith) few
-
-  abbrev Grown : Replied → Type 0
-  Grown done = HasFewEvents (n + 1) done.timeline
 
   changed : (b : Branch) → HasFew (n + 1) b → HasFewEvents (n + 1) (with_changed t b)
   changed b is = all_put (HasFew (n + 1)) b t.branches is roomy

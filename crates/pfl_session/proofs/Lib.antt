@@ -10,5 +10,5 @@ pub mod Seatings
 pub mod Shown
 pub mod Sums
 pub mod Telling
-pub mod Worked
+mod Worked
 pub mod ForCallers

@@ -1,7 +1,7 @@
 -- A journal that is one entry longer, and what a pass has seen of it.
 use Rattle.std.proofs.Common.{◌≡◌, ℕ, zero, suc, ◌+◌, ◌-◌, ◌<◌, ◌≤◌, List, [], ◌∷◌, ◌++◌, length, take, drop, set, Some, Bool, true, false, cond}
 use Rattle.std.proofs.Common.{refl, sym, ap, subst, ◌∙◌, eq-eqb, ne_eqb, arith}
-use Rattle.std.specs.Prelude.{nat_eq, slice_get, slice_index}
+use Rattle.std.specs.Prelude.{nat_eq, slice_get}
 use Rattle.std.proofs.lemmas.List.{append_assoc, take-append-drop}
 use Rattle.atomic_table.specs.Seated.{TableId}
 use Rattle.pfl_language.specs.declared.command.Command.{Command}
@@ -16,7 +16,7 @@ use Rattle.pfl_session.specs.declared.entry.Entry.{Entry}
 use Rattle.pfl_session.specs.declared.mark.Mark.{Mark}
 use Rattle.pfl_session.specs.declared.mark.Mark.TheVariants.{Start, Call}
 use Rattle.pfl_session.specs.Ledgers.{IsEntered}
-use Rattle.pfl_session.specs.Passes.{Seen, seen_in, IsPassOf, GoesOn, HasSeenJournal, AddsOthers, AddsCall}
+use Rattle.pfl_session.specs.Passes.{Seen, seen_in, GoesOn, HasSeenJournal, AddsOthers, AddsCall}
 use Rattle.pfl_session.specs.Journals.{after_entry, replay, IsRight, IsLegal, IsJournal, following, revisions_of, call_of, calls_in, count_of, counts_of}
 
 pub some_same : {A : Type 0} (a b : A) → Some a ≡ Some b → a ≡ b
@@ -27,11 +27,6 @@ pub set-same : {X : Type 0} (xs : List X) (i : ℕ) (x : X) → slice_get xs i �
 set-same [] i x h = refl
 set-same (y ∷ xs) zero x h = let e : y ≡ x = cc in λ z. sym e z ∷ xs
 set-same (y ∷ xs) (suc i) x h = ap (λ l. y ∷ l) (set-same xs i x h)
-
--- the first word of a summary is its number
-pub summary-number : (t : Timeline) (n : ℕ) → slice_index (summary t n) 0 ≡ n
-unfolding summary
-summary-number t n = refl
 
 module _ {M : Type 0} where
   pub replay-snoc : (t : Timeline) (js : List (Entry M)) (e : Entry M) → replay t (js ++ e ∷ []) ≡ after_entry (replay t js) e
@@ -206,10 +201,4 @@ module _ {M : Type 0} where
     publisher = bc.publisher ∙ ab.publisher;
     seen = begun_since c.viewer.seen b.viewer.seen a.viewer.seen bc.seen ab.seen;
     loads = loads-since a.viewer b.viewer c.viewer ab.loads bc.loads;
-  }
-
-  pub same-lab : (publisher : TableId) (tallies : List TableId) (a b : Seen M) → GoesOn a b → IsPassOf publisher tallies a → IsPassOf publisher tallies b
-  same-lab publisher tallies a b on is = record {
-    publisher_is = on.publisher ∙ is.publisher_is;
-    tally_is = (λ z. slice_get tallies (on.session z - 1)) ∙ (is.tally_is ∙ (λ z. Some (sym on.tally z)));
   }

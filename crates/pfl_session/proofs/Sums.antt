@@ -1,5 +1,5 @@
 -- Counts that are added up branch by branch are the sums of a summary.
-use Rattle.std.specs.Prelude.{◌≡◌, ◌<◌, ℕ, zero, suc, ◌+◌, List, [], ◌∷◌, map, take, length, get_or, refl}
+use Rattle.std.specs.Prelude.{◌≡◌, ◌<◌, ℕ, ◌+◌, List, [], ◌∷◌, map, take, length, get_or, refl}
 use Rattle.std.specs.List.{fold, sum_by, AllByRecursion}
 use Rattle.std.specs.Option.{option_map_or}
 use Rattle.std.proofs.Common.{sym, ◌∙◌, ap, subst, arith}
@@ -14,12 +14,6 @@ use Rattle.pfl_timeline.specs.Summaries.{summary, over_worlds}
 use Rattle.pfl_timeline.specs.Timelines.{Branch, Timeline, standing, world_of}
 use Rattle.pfl_session.specs.declared.counts.Counts.{Counts}
 use Rattle.pfl_session.specs.Totals.{no_counts, in_world, counts_of_branch, added, counts_of_branches, AreAtMost, HasAtMost, HasFew}
-
--- what holds of all holds of the one at a place
-pub each_at : {X : Type 0} (P : X → Type 0) (xs : List X) (i : ℕ) (d : X) → AllByRecursion P xs → i < length xs → P (get_or xs i d)
-each_at P [] i d all lt = absurd (omega arith)
-each_at P (x ∷ xs) zero d all lt = all.0
-each_at P (x ∷ xs) (suc i) d all lt = each_at P xs i d all.1 (omega arith)
 
 few-each : (n : ℕ) (rs : List Rooted) → AllByRecursion (HasFew n) (map (λ r. r.branch) rs) → AllByRecursion (HasAtMost n) rs
 few-each n [] all = tt

@@ -123,26 +123,11 @@ module _ {X : Type 0} (before : X → X → Bool)
           | false ↦ λ e. in_order-filter xs ∙ sym (put_failing before p x (in_order before xs) e)
         ] refl
 
-    none_passes : (x : X) (ys : List X) → NoneBefore before x ys → ((y : X) → p y ≡ true → before y x ≡ true) → filter p ys ≡ []
-    none_passes x [] none early = refl
-    none_passes x (y ∷ ys) none early = elim (p y) as (λ b. p y ≡ b → cond b (y ∷ filter p ys) (filter p ys) ≡ []) [
-      | true ↦ λ e. both_answers (before y x) (early y e) none.0
-      | false ↦ λ e. none_passes x ys none.1 early
-    ] refl
-
   -- what is left without the first, in order; `other` is the test that it alone does not pass
   pub rest_in_order : (other : X → Bool) (xs : List X) (x : X) (rest : List X) → in_order before xs ≡ x ∷ rest → other x ≡ false → filter other rest ≡ rest
       → in_order before (filter other xs) ≡ rest
   rest_in_order other xs x rest is out left =
       in_order-filter other xs ∙ (ap (filter other) is ∙ (ap (λ b. cond b (x ∷ filter other rest) (filter other rest)) out ∙ left))
-
-  -- where the first passes, it is the first of those that pass, and after it stand those that pass of what is left without it
-  pub first_due : (p other : X → Bool) (xs : List X) (x : X) (rest : List X) → in_order before xs ≡ x ∷ rest → p x ≡ true → other x ≡ false
-      → filter other rest ≡ rest
-      → in_order before (filter p xs) ≡ x ∷ in_order before (filter p (filter other xs))
-  first_due p other xs x rest is passes out left =
-      in_order-filter p xs ∙ (ap (filter p) is ∙ (ap (λ b. cond b (x ∷ filter p rest) (filter p rest)) passes
-      ∙ ap (λ (ys : List X). x ∷ ys) (sym (in_order-filter p (filter other xs) ∙ ap (filter p) (rest_in_order other xs x rest is out left)))))
 
 -- an order's answers
 less_is : (r : Ordering) → is_lt r ≡ true → r ≡ Less

@@ -3,21 +3,17 @@ use Rattle.std.specs.Prelude.{◌≡◌, ℕ, ◌<◌, ◌≤◌, List, [], ◌�
 use Rattle.std.specs.Option.{option_map}
 use Rattle.std.specs.declared.cmp.Ordering.{Ordering}
 use Rattle.std.specs.Ordering.{eq_by_cmp}
-use Rattle.std.specs.Cmp.{IsTotalOrder}
-use Rattle.std.specs.FinMap.{IsAntisymmetric}
 use Rattle.std.proofs.Common.{cond, ◌∙◌, ap, sym, subst, arith}
 use Rattle.pfl_base.specs.declared.direction.Dir.{Dir}
 use Rattle.pfl_base.specs.declared.direction.Dir.TheVariants.{Inbound, Outbound}
 use Rattle.pfl_base.specs.declared.state_name.StateName.{StateName}
 use Rattle.pfl_base.specs.Names.{name_cmp}
 use Rattle.pfl_base.proofs.ForCallers.{names_total, names_exact}
-use Rattle.pfl_edits.specs.Maps as maps
-use Rattle.pfl_edits.specs.Maps.{Map}
 use Rattle.pfl_edits.specs.Ordered.{IsRising}
 use Rattle.pfl_containers.specs.Lists.{Link, link, Lists, AreLists, Lacks, Place, Distinct as Apart, links_of, with_links, count_of}
 use Rattle.pfl_containers.specs.NameKeys.{by_name_cmp}
-use Rattle.pfl_containers.specs.SlotIndexes.{HasNone, IsIndex, key_of}
-use Rattle.pfl_containers.proofs.ForCallers.{key_of_row, Stands, length-with_links, links_of-same, found-stands, index-get, stands-found}
+use Rattle.pfl_containers.specs.SlotIndexes.{HasNone, key_of}
+use Rattle.pfl_containers.proofs.ForCallers.{key_of_row, Stands, length-with_links, links_of-same, found-stands, stands-found}
 use Rattle.pfl_edits.proofs.ForCallers.{row_at, Distinct, Distinct-rising, some_is_none}
 use Rattle.pfl_track.specs.States.{IsState}
 use Rattle.pfl_table.specs.declared.row.Row.{Row}
@@ -53,12 +49,6 @@ slot-found R key links q found is = record {
   is = is;
   stands = found-all R key links q (row_at R (key_of key) links q) refl;
 }
-
--- what an index has is the slot of a row that stands there
-abbrev pub index-found : {K : Type 0} {R : K → K → Ordering} → IsTotalOrder R → IsAntisymmetric R
-    → (key : Row → K) (links : List (Link Row)) (m : Map R ℕ) (q : K) (found : Option ℕ) → found ≡ maps.get m q → IsIndex R key links m
-    → FoundAt links found
-index-found {R = R} o exact key links m q found is i = slot-found R key links q found (is ∙ index-get o exact key links m q i)
 
 -- a slot that an index found is a place of the list
 pub record FoundPlace (rows : Lists Row) (slot : ℕ) (which : Option (Link Row)) : Type 0 where

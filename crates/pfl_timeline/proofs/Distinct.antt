@@ -5,6 +5,7 @@ use Rattle.std.proofs.Common.{cond, sym, ◌∙◌, ap, subst, arith, length-app
 use Rattle.std.proofs.lemmas.Bool.{both_ways}
 use Rattle.std.proofs.lemmas.List.{map-append}
 use Rattle.std.proofs.lemmas.Slice.Eq.{bytes_eq-Decides}
+use Rattle.pfl_base.proofs.ForCallers.{each-filter, each-weaker}
 use Rattle.pfl_edits.proofs.ForCallers.{some_is_none}
 use Rattle.pfl_language.specs.BranchWords.{same_name}
 use Rattle.pfl_timeline.specs.Timelines.{Branch}
@@ -75,12 +76,7 @@ others name bs = filter (λ c. not (same_name c.name name)) bs
 module _ (name : List ℕ) where
   -- what holds of all holds of those that stay
   pub all_others : (P : Branch → Type 0) (bs : List Branch) → AllByRecursion P bs → AllByRecursion P (others name bs)
-  all_others P [] all = tt
-  all_others P (b ∷ bs) all =
-      elim (same_name b.name name) as (λ t. AllByRecursion P (cond (not t) (b ∷ others name bs) (others name bs))) [
-        | true ↦ all_others P bs all.1
-        | false ↦ (all.0, all_others P bs all.1)
-      ]
+  all_others P bs all = each-filter P (λ c. not (same_name c.name name)) bs all
 
   apart_others : (m : List ℕ) (bs : List Branch) → AllByRecursion (λ n. same_name m n ≡ false) (names bs)
       → AllByRecursion (λ n. same_name m n ≡ false) (names (others name bs))
@@ -108,8 +104,7 @@ module _ (name : List ℕ) where
 
 -- names that differ from one, which differs from them
 all_differ : (m : List ℕ) (ns : List (List ℕ)) → AllByRecursion (λ n. same_name m n ≡ false) ns → AllByRecursion (λ n. same_name n m ≡ false) ns
-all_differ m [] all = tt
-all_differ m (n ∷ ns) all = (differ m n all.0, all_differ m ns all.1)
+all_differ m ns all = each-weaker (λ n. same_name m n ≡ false) (λ n. same_name n m ≡ false) (λ n. differ m n) ns all
 
 name_there : (P : List ℕ → Type 0) (front : List Branch) (b : Branch) (rest : List Branch) → AllByRecursion P (names (front ++ b ∷ rest)) → P b.name
 name_there P [] b rest all = all.0

@@ -7,6 +7,7 @@ use Rattle.std.proofs.Common.{cond, sym, ◌∙◌, ap, subst, arith, length-app
 use Rattle.std.proofs.lemmas.Bool.{ltb-false, leb-false}
 use Rattle.std.proofs.lemmas.List.{length-map, take-append-drop}
 use Rattle.std.proofs.lemmas.Slice.Eq.{bytes_eq-Decides}
+use Rattle.pfl_base.proofs.ForCallers.{each-weaker}
 use Rattle.pfl_edits.proofs.ForCallers.{some_is_none}
 use Rattle.pfl_language.specs.declared.event.Event.{Event}
 use Rattle.pfl_language.specs.declared.ask.Ask.{Ask}
@@ -261,10 +262,6 @@ commands-keep t (c ∷ cs) is = commands-keep (command_step t c).timeline cs (co
 
 -- ---- worlds
 
-all_weaker : {X : Type 0} (P Q : X → Type 0) → ((x : X) → P x → Q x) → (xs : List X) → AllByRecursion P xs → AllByRecursion Q xs
-all_weaker P Q weaker [] all = tt
-all_weaker P Q weaker (x ∷ xs) all = (weaker x all.0, all_weaker P Q weaker xs all.1)
-
 shows_world : (t : Timeline) (b : Branch) → IsBranch t.opening b → IsTrue (is_some (world_of t b))
 unfolding world_of
 shows_world t b branch =
@@ -272,4 +269,4 @@ shows_world t b branch =
     (subst (λ (es : List Event). IsTrue (is_some (run t.opening es))) (sym (take-append-drop b.cursor b.events)) branch.runs)
 
 pub branches-show : BranchesShowWorlds
-branches-show t is = all_weaker (IsBranch t.opening) (λ b. IsTrue (is_some (world_of t b))) (shows_world t) t.branches is.branches
+branches-show t is = each-weaker (IsBranch t.opening) (λ b. IsTrue (is_some (world_of t b))) (shows_world t) t.branches is.branches

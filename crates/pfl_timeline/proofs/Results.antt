@@ -14,12 +14,6 @@ if_ok r x P is p = subst (λ (q : Result _ _). IfOk q P) (sym is) p
 pub as_ok : {X Y : Type 0} (r q : Result X Y) (P : X → Type 0) → r ≡ q → IfOk q P → IfOk r P
 as_ok r q P is p = subst (λ (x : Result _ _). IfOk x P) (sym is) p
 
-pub as_err : {X Y : Type 0} (r q : Result X Y) (P : Type 0) → r ≡ q → OnErr q P → OnErr r P
-as_err r q P is p = subst (λ (x : Result _ _). OnErr x P) (sym is) p
-
-pub no_err : {X Y : Type 0} (r : Result X Y) (x : X) (P : Type 0) → r ≡ Ok x → OnErr r P
-no_err r x P is = subst (λ (q : Result _ _). OnErr q P) (sym is) tt
-
 -- what holds anyway holds of each value, and where there is none
 pub ok_anyway : {X Y P : Type 0} (r : Result X Y) → P → OnOk r P
 ok_anyway (Ok x) p = p

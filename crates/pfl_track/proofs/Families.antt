@@ -12,39 +12,13 @@ use Rattle.pfl_base.specs.declared.direction.Dir.{Dir}
 use Rattle.pfl_base.specs.declared.direction.Dir.TheVariants.{Inbound, Outbound}
 use Rattle.pfl_base.specs.declared.fields.PacketFields.{PacketFields}
 use Rattle.pfl_base.specs.Keys.{key}
-use Rattle.pfl_base.specs.Ends.{same_family, proto_number, proto_of, IsProto}
+use Rattle.pfl_base.specs.Ends.{same_family, proto_number}
 use Rattle.pfl_track.specs.declared.key_pair.KeyFields.{KeyFields}
-use Rattle.pfl_track.specs.Keys.{AreKeys, are_keys, fits_family, wire_key, translated_to}
+use Rattle.pfl_track.specs.Keys.{are_keys, fits_family, wire_key, translated_to}
 
 -- the keys, if the test holds
 abbrev pub pair_if : Bool → Key → Key → Option KeyFields
 pair_if b wire stack = if b then Some (record { wire = wire; stack = stack }) else None
-
--- protocols of one number are one
-pub one_proto : (p q : Proto) → IsProto p → IsProto q → (proto_number q == proto_number p) ≡ true → q ≡ p
-one_proto p q hp hq e =
-    let same : proto_number q ≡ proto_number p = grind (arith, nat_tests) in
-    sym hq ∙ (ap proto_of same ∙ hp)
-
-both : (a b : Bool) → (a && b) ≡ true → (a ≡ true) × (b ≡ true)
-both true b e = (refl, e)
-both false b e = absurd (subst T (sym e) tt)
-
--- keys that pass the test are those of a state
-pub keys-known : (wire stack : Key) → IsProto wire.proto → IsProto stack.proto → are_keys wire stack ≡ true → AreKeys wire stack
-keys-known wire stack hw hs e =
-    let last = both (((proto_number stack.proto == proto_number wire.proto) && same_family wire.far.addr wire.near.addr)
-    && same_family stack.far.addr stack.near.addr) (same_family wire.far.addr stack.far.addr) e in
-    let third = both ((proto_number stack.proto == proto_number wire.proto) && same_family wire.far.addr wire.near.addr)
-    (same_family stack.far.addr stack.near.addr) last.0 in
-    let second = both (proto_number stack.proto == proto_number wire.proto) (same_family wire.far.addr wire.near.addr) third.0 in
-    record {
-      proto = hw;
-      one_proto = one_proto wire.proto stack.proto hw hs second.0;
-      wire_family = second.1;
-      stack_family = third.1;
-      one_family = last.1;
-    }
 
 joined : (a b c d : Bool) → a ≡ true → b ≡ true → c ≡ true → d ≡ true → (a && b && c && d) ≡ true
 joined true b c d p q r s = elim b as (λ b. b ≡ true → (true && b && c && d) ≡ true) [
@@ -52,11 +26,6 @@ joined true b c d p q r s = elim b as (λ b. b ≡ true → (true && b && c && d
   | false ↦ λ q. q
 ] q
 joined false b c d p q r s = p
-
--- the keys of a state pass the test
-pub known-keys : (wire stack : Key) → AreKeys wire stack → are_keys wire stack ≡ true
-known-keys wire stack are =
-    joined _ _ _ _ (grind (arith, nat_tests, ap proto_number are.one_proto)) are.wire_family are.stack_family are.one_family
 
 itself : (a : Addr) → same_family a a ≡ true
 itself (V4 a) = refl

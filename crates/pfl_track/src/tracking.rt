@@ -1,6 +1,7 @@
 //! How packets move states.
 
-ghost use Rattle.std.specs.Prelude.{◌≡◌, ◌≤◌};
+ghost use Rattle.std.specs.Prelude.{◌≡◌, ◌≤◌, ◌&&◌};
+ghost use Rattle.pfl_base.specs.Packets as packets;
 ghost use Rattle.pfl_track.specs.Rules as ruled;
 ghost use Rattle.pfl_track.specs.Tracking as meant;
 
@@ -27,7 +28,7 @@ pub fn track(state: &State, packet: &Packet, dir: Dir, now: Millis) -> Tracked
 fn track_tcp(state: &State, packet: &Packet, dir: Dir, now: Millis) -> Tracked
     ensures { result ≡ meant.tracked_tcp state.now packet.now dir now }
 {
-    if packet.is_request() && is_closed(state) {
+    if is_reused(state, packet) {
         return Tracked::Reused;
     }
     let receiver = receiver(state, dir);
@@ -63,19 +64,33 @@ fn tracks_by_profile(kernel: Kernel) -> bool
 fn track_tcp_by(kernel: Kernel, state: &State, packet: &Packet, dir: Dir, now: Millis) -> Tracked
     ensures { result ≡ ruled.tracked_tcp_by kernel state.now packet.now dir now }
 {
-    let again = packet.is_request() && is_closed(state);
-    if again {
+    if is_reused(state, packet) {
         return Tracked::Reused;
     }
     let segment = segment_of(kernel, &sender(state, dir), &receiver(state, dir), packet);
-    match branch(kernel, &segment, packet) {
-        Some(branch) => Tracked::Moved(passed(state, &segment, packet, dir, now, branch)),
+    let way = branch(kernel, &segment, packet);
+    passed(state, &segment, packet, dir, now, way)
+}
+
+/// What comes of the state where the packet passes so, if it does.
+fn passed(
+    state: &State,
+    segment: &Segment,
+    packet: &Packet,
+    dir: Dir,
+    now: Millis,
+    way: Option<Branch>,
+) -> Tracked
+    ensures { result ≡ ruled.passed state.now segment.now packet.now dir now way }
+{
+    match way {
+        Some(branch) => Tracked::Moved(after(state, segment, packet, dir, now, branch)),
         None => Tracked::OutOfWindow,
     }
 }
 
 /// The state after a packet that passes so: one that passes loosely does not renew it.
-fn passed(
+fn after(
     state: &State,
     segment: &Segment,
     packet: &Packet,
@@ -104,6 +119,13 @@ fn track_other(state: &State, dir: Dir, now: Millis) -> State
         at_level(&to, answered(to.level())),
         now,
     )
+}
+
+/// Whether the packet begins a connection anew whose ends have both closed.
+fn is_reused(state: &State, packet: &Packet) -> bool
+    ensures { result ≡ (packets.is_request packet.now && meant.is_closed state.now) }
+{
+    packet.is_request() && is_closed(state)
 }
 
 /// Whether both ends have closed.

@@ -12,7 +12,6 @@ use Rattle.std.proofs.lemmas.List.Sums.{sum_by-cons}
 use Rattle.std.proofs.lemmas.List.Elements.{All-from_recursion, recursion_from_All, All-same, All-push}
 use Rattle.pfl_wire.specs.declared.action.Action.{Action}
 use Rattle.pfl_wire.specs.declared.message.Message.{Message}
-use Rattle.pfl_wire.specs.declared.message.Message.TheVariants.{Clear, Insert, InsertAck, Update, UpdateShort, UpdateRequest, Delete, DeleteShort, Bulk}
 use Rattle.pfl_wire.specs.declared.fault.FrameFault.{FrameFault}
 use Rattle.pfl_wire.specs.declared.fault.BadFrame.{BadFrame}
 use Rattle.pfl_wire.specs.declared.fault.BadFrame.TheVariants as bad
@@ -225,10 +224,6 @@ pub each_group : {A : Type 0} (P : Message → Type 0) (gs : List (Vec Message A
     → All (λ (g : Vec Message A). IsGroupOf P g.items) gs
 each_group {A = A} P gs are = All-from_recursion (λ (g : Vec Message A). IsGroupOf P g.items) gs (groups_are P gs are)
 
-pub each_record : (P : Message → Type 0) (ms : List Message) → IsGroupOf P ms → All P ms
-each_record P [] is = absurd is
-each_record P (m ∷ ms) is = All-from_recursion P (m ∷ ms) is.2
-
 -- a group whose records have a spelling
 pub group_is : (ms : List Message) → IsGroupOf RuleFits ms → All FitsMessage ms → IsGroup ms
 group_is [] is fit = absurd is
@@ -237,34 +232,6 @@ group_is (m ∷ ms) is fit = (is.0, is.1, recursion_from_All FitsMessage (m ∷ 
 pub group_ok : {E : Type 0} (r : Result (Unit {0}) E) (ms : List Message) → IsGroupOf RuleFits ms → OnOk r (All FitsMessage ms) → OnOk r (IsGroup ms)
 group_ok (Ok x) ms is fit = group_is ms is fit
 group_ok (Err e) ms is fit = tt
-
--- ---- what has a spelling can be sent
-
-rule_fits : (m : Message) → FitsMessage m → RuleFits m
-rule_fits (Clear creator bound) fits = tt
-rule_fits (Insert s) fits = fits.rule
-rule_fits (InsertAck name) fits = tt
-rule_fits (Update s) fits = fits.rule
-rule_fits (UpdateShort u) fits = tt
-rule_fits (UpdateRequest name) fits = tt
-rule_fits (Delete s) fits = fits.rule
-rule_fits (DeleteShort name) fits = tt
-rule_fits (Bulk creator status) fits = tt
-
-rules_fit : (ms : List Message) → AllByRecursion FitsMessage ms → AllByRecursion RuleFits ms
-rules_fit [] fit = tt
-rules_fit (m ∷ ms) fit = (rule_fits m fit.0, rules_fit ms fit.1)
-
-group_sent : (ms : List Message) → IsGroup ms → IsGroupOf RuleFits ms
-group_sent [] is = absurd is
-group_sent (m ∷ ms) is = (is.0, is.1, rules_fit (m ∷ ms) is.2)
-
-groups_sent : (gs : List (List Message)) → AllByRecursion IsGroup gs → AllByRecursion (IsGroupOf RuleFits) gs
-groups_sent [] are = tt
-groups_sent (g ∷ gs) are = (group_sent g are.0, groups_sent gs are.1)
-
-pub frame_sent : (f : Frame) → IsFrame f → IsSendable f
-frame_sent f is = record { groups = groups_sent f.groups is.groups; short = is.short }
 
 -- ---- one item more was written
 

@@ -1,4 +1,4 @@
--- The worked frame, computed.
+-- Worked cases of a frame, computed.
 use Rattle.std.specs.Prelude.{◌≡◌, ℕ, List, [], ◌∷◌, ◌++◌, take, slice_set, refl, Ok, Err}
 use Rattle.pfl_wire.specs.declared.fault.BadFrame.TheVariants as bad
 use Rattle.pfl_wire.specs.declared.message.Message.TheVariants.{InsertAck}

@@ -5,6 +5,7 @@ pub use Rattle.pfl_world.proofs.Leads.{where_err}
 pub use Rattle.pfl_world.proofs.LimitFaults.{no_fault, too_large, too_small}
 pub use Rattle.pfl_world.proofs.OnTapes.{no_shorter, split}
 pub use Rattle.pfl_world.proofs.Stepping.{event_wants}
+pub use Rattle.pfl_rules.proofs.ForCallers as rules
 pub use Rattle.pfl_node.proofs.ForCallers.track as track
 pub use Rattle.pfl_node.proofs.ForCallers.table as table
 pub use Rattle.pfl_wire.proofs.ForCallers as wire

@@ -1,5 +1,5 @@
 -- A laboratory for worked cases: packets and rules as values, and what is seen after a list of events.
-use Rattle.std.specs.Prelude.{ℕ, Bool, false, List, [], ◌∷◌, map, replicate, Option, Some, None, Result, Ok, Err}
+use Rattle.std.specs.Prelude.{ℕ, Bool, List, [], ◌∷◌, map, replicate, Option, Some, None, Result, Ok, Err}
 use Rattle.pfl_base.specs.declared.addr.Addr.TheVariants.{V4}
 use Rattle.pfl_base.specs.declared.addr.End.{End}
 use Rattle.pfl_base.specs.declared.proto.Proto.{Proto}
@@ -18,6 +18,7 @@ use Rattle.pfl_rules.specs.declared.rule.Rule.{Rule}
 use Rattle.pfl_rules.specs.declared.action.Action.TheVariants.{Pass}
 use Rattle.pfl_rules.specs.declared.rule_dir.RuleDir.TheVariants.{Out}
 use Rattle.pfl_rules.specs.Rules.{no_timeouts, Rules}
+use Rattle.pfl_rules.proofs.ForCallers.{plain_rule}
 use Rattle.pfl_node.specs.track.declared.peer.Peer.{Peer}
 use Rattle.pfl_node.specs.track.declared.state.State.{State}
 use Rattle.pfl_node.specs.queue.declared.Kind.{Kind}
@@ -76,22 +77,7 @@ abbrev pub limits : Limits
 limits = default_limits
 
 abbrev pub pass_out : Rule
-pass_out = record {
-  action = Pass;
-  direction = Out;
-  quick = false;
-  proto = None;
-  from = None;
-  from_port = None;
-  to = None;
-  to_port = None;
-  any_flags = false;
-  no_sync = false;
-  max = None;
-  nat = None;
-  rdr = None;
-  timeouts = replicate 14 None;
-}
+pass_out = plain_rule Pass Out
 
 -- rules under a checksum of 16 equal bytes, which stands for their MD5
 abbrev pub rules_under : ℕ → List Rule → Rules

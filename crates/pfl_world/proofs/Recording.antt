@@ -5,6 +5,7 @@ use Rattle.std.proofs.Common.{◌∙◌, ap, sym, subst, arith, append_assoc, le
 use Rattle.std.proofs.Math.Seq.{take-append_seam, drop-append_seam}
 use Rattle.std.proofs.lemmas.List.{append-nil, length-drop, length-map}
 use Rattle.pfl_base.specs.declared.node_id.NodeId.{NodeId}
+use Rattle.pfl_base.proofs.ForCallers.{each-append, each-weaker}
 use Rattle.pfl_edits.specs.Changes.{back, Fits}
 use Rattle.pfl_edits.specs.Tapes.{above, below}
 use Rattle.pfl_edits.proofs.ForCallers.{LeadsBack-append, LeadsBack-one}
@@ -92,18 +93,13 @@ agrees_either w id n at k before after (Err e) same so is = agrees_with w is id 
 
 -- ---- one thing after another
 
--- what is so of each of some edits, and of each of those after them, is so of all
-all-append : {E : Type 0} (Kind : E → Type 0) (xs ys : List E) → AllByRecursion Kind xs → AllByRecursion Kind ys → AllByRecursion Kind (xs ++ ys)
-all-append Kind [] ys are more = more
-all-append Kind (x ∷ xs) ys are more = (are.0, all-append Kind xs ys are.1 more)
-
 pub recorded-then : {M : Type 0} {Kind : WorldEdit M → Type 0} {a b c : World} {before mid after : List (WorldEdit M)}
     → Recorded Kind a b before mid → Recorded Kind b c mid after → Recorded Kind a c before after
 recorded-then {M = M} {Kind = Kind} {a = a} {b = b} {c = c} {before = before} r s = record {
   edits = r.edits ++ s.edits;
   appended = s.appended ∙ ap (λ (es : List (WorldEdit M)). es ++ s.edits) r.appended ∙ append_assoc before r.edits s.edits;
   leads_back = LeadsBack-append Finds IsWorld put_back r.edits s.edits a b c r.leads_back s.leads_back;
-  kind = all-append Kind r.edits s.edits r.kind s.kind;
+  kind = each-append Kind r.edits s.edits r.kind s.kind;
 }
 
 -- ---- in other words
@@ -114,14 +110,15 @@ pub recorded-as : {M : Type 0} {Kind : WorldEdit M → Type 0} {a b old new : Wo
 recorded-as {Kind = Kind} {a = a} {new = new} {before = before} {after = after} r first last =
     subst (λ (v : World). Recorded Kind v new before after) first (subst (λ (v : World). Recorded Kind a v before after) last r)
 
-all-as : {E : Type 0} {Kind Other : E → Type 0} → ((x : E) → Kind x → Other x) → (xs : List E) → AllByRecursion Kind xs → AllByRecursion Other xs
-all-as means [] are = tt
-all-as means (x ∷ xs) are = (means x are.0, all-as means xs are.1)
-
 -- edits of another kind
 pub recorded-kind : {M : Type 0} {Kind Other : WorldEdit M → Type 0} {old new : World} {before after : List (WorldEdit M)}
     → ((x : WorldEdit M) → Kind x → Other x) → Recorded Kind old new before after → Recorded Other old new before after
-recorded-kind means r = record { edits = r.edits; appended = r.appended; leads_back = r.leads_back; kind = all-as means r.edits r.kind }
+recorded-kind {Kind = Kind} {Other = Other} means r = record {
+  edits = r.edits;
+  appended = r.appended;
+  leads_back = r.leads_back;
+  kind = each-weaker Kind Other means r.edits r.kind;
+}
 
 -- what follows where there is a value
 pub on_ok : {T E P Q : Type 0} (r : Result T E) → (P → Q) → OnOk r P → OnOk r Q

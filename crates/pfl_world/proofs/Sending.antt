@@ -1,6 +1,6 @@
 -- A flush in words of what the node and the link answer.
 use Rattle.std.specs.Prelude.{◌≡◌, ◌≤◌, ◌+◌, ◌*◌, length, ℕ, Bool, true, false, List, [], ◌∷◌, Option, Some, None, Result, Ok, Err, IfOk, IfErr, OnOk}
-use Rattle.std.specs.Prelude.{refl, cond, if◌then◌else◌}
+use Rattle.std.specs.Prelude.{refl, cond}
 use Rattle.std.proofs.Common.{◌∙◌, ap, sym, subst, arith}
 use Rattle.pfl_base.specs.declared.refusal.Refusal.{Refusal}
 use Rattle.pfl_base.specs.declared.refusal.Refusal.TheVariants as refusal
@@ -17,7 +17,6 @@ use Rattle.pfl_node.specs.Flushing.{flushed, frame_of}
 use Rattle.pfl_node.specs.desk.Nodes.{Node, IsRefusal, refused_by, unless_refused}
 use Rattle.pfl_link.specs.declared.fault.LinkFault.{LinkFault}
 use Rattle.pfl_link.specs.declared.fault.LinkFault.TheVariants.{LinkFull, CountFull}
-use Rattle.pfl_link.specs.Faults as links
 use Rattle.pfl_link.specs.Links.{Link, sent}
 use Rattle.pfl_world.specs.Events.{step, IsRefusalOf}
 use Rattle.pfl_world.specs.Meanings.{Stepped}
@@ -28,39 +27,11 @@ use Rattle.pfl_world.proofs.Stepping.{accepted, refused_as}
 
 -- ---- why no frame goes out
 
-abbrev nothing : Bool → Option Refusal
-nothing none = if none then Some refusal.NothingPending else None
-
 abbrev no_room : Bool → Bool → Option LinkFault
 no_room full counted = cond full (Some LinkFull) (cond counted (Some CountFull) None)
 
 abbrev none_goes_out : Bool → Bool → Bool → Option Refusal
 none_goes_out none full counted = refused_by ((none, refusal.NothingPending) ∷ (full, refusal.LinkFull) ∷ (counted, refusal.CountFull) ∷ [])
-
--- nothing is pending
-pub node_first : (none full counted : Bool) (r : Refusal) → Some r ≡ nothing none → Some r ≡ none_goes_out none full counted
-node_first true full counted r is = is
-node_first false full counted r is = absurd (cc)
-
--- or else the link takes no frame
-pub link_next : (none full counted : Bool) (fault : LinkFault) → None ≡ nothing none → Some fault ≡ no_room full counted
-    → Some (links.refusal_of fault) ≡ none_goes_out none full counted
-link_next true full counted fault first is = absurd (cc)
-link_next false true counted fault first is = let same : fault ≡ LinkFull = cc in ap (λ (f : LinkFault). Some (links.refusal_of f)) same
-link_next false false true fault first is = let same : fault ≡ CountFull = cc in ap (λ (f : LinkFault). Some (links.refusal_of f)) same
-link_next false false false fault first is = absurd (cc)
-
--- or else nothing stands in the way
-pub goes_out : (none full counted : Bool) → None ≡ nothing none → None ≡ no_room full counted → None ≡ none_goes_out none full counted
-goes_out true full counted first is = absurd (cc)
-goes_out false true counted first is = absurd (cc)
-goes_out false false true first is = absurd (cc)
-goes_out false false false first is = refl
-
--- where a frame goes out, something is pending and the link has room
-pub something_pending : (none full counted : Bool) → None ≡ none_goes_out none full counted → nothing none ≡ None
-something_pending true full counted is = absurd (cc)
-something_pending false full counted is = refl
 
 pub has_room : (none full counted : Bool) → None ≡ none_goes_out none full counted → no_room full counted ≡ None
 has_room true full counted is = absurd (cc)

@@ -7,13 +7,10 @@ use Rattle.pfl_edits.proofs.tapes.Tape.pop.Goals as goal
 
 pub invariant_of-self-then-unwrap : goal.invariant_of-self-then-unwrap
 invariant_of-self-then-unwrap g c =
-    let t = c.self.inside in
     let larger = rw c.unwrap-else-is_small.ensures at c.pop-else-is_small.ensures.items in
     let middle = rw c.unwrap-then-unwrap.ensures at c.pop-then-unwrap.ensures.items in
-    let less = turns_less_middle g.E.Packed.whole_small g.E.Packed.whole_middle t.turns.items t.small.items t.larger_turns.items
-    t.middle.items t.large.items c.self.invariant.0 c.self.invariant.1 c.pop.new.self.items c.in_ok-is_small.is_small
-    c.in_ok-is_small.ensures.items c.if-is_small.false c.pop-else-is_small.new.self.items c.unwrap-else-is_small.result larger
-    c.if-unwrap.true c.pop-then-unwrap.new.self.items c.unwrap-then-unwrap.result middle in (
+    let less = turns_less_middle g.E.Packed.whole_small g.E.Packed.whole_middle _ _ _ _ _ c.self.invariant.0 c.self.invariant.1 _ _
+    c.in_ok-is_small.ensures.items c.if-is_small.false _ _ larger c.if-unwrap.true _ _ middle in (
       less.0,
       less.1,
       search rules,
@@ -25,13 +22,10 @@ invariant_of-self-then-unwrap g c =
 
 pub invariant_of-self-else-unwrap : goal.invariant_of-self-else-unwrap
 invariant_of-self-else-unwrap g c =
-    let t = c.self.inside in
     let larger = rw c.unwrap-else-is_small.ensures at c.pop-else-is_small.ensures.items in
     let large = rw c.unwrap-else-unwrap.ensures at c.pop-else-unwrap.ensures.items in
-    let less = turns_less_large g.E.Packed.whole_small g.E.Packed.whole_middle t.turns.items t.small.items t.larger_turns.items
-    t.middle.items t.large.items c.self.invariant.0 c.self.invariant.1 c.pop.new.self.items c.in_ok-is_small.is_small
-    c.in_ok-is_small.ensures.items c.if-is_small.false c.pop-else-is_small.new.self.items c.unwrap-else-is_small.result larger
-    c.if-unwrap.false c.pop-else-unwrap.new.self.items c.unwrap-else-unwrap.result large in (
+    let less = turns_less_large g.E.Packed.whole_small g.E.Packed.whole_middle _ _ _ _ _ c.self.invariant.0 c.self.invariant.1 _ _
+    c.in_ok-is_small.ensures.items c.if-is_small.false _ _ larger c.if-unwrap.false _ _ large in (
       less.0,
       less.1,
       search rules,
@@ -45,29 +39,22 @@ pub returns-then-is_small-clause-edit : goal.returns-then-is_small-clause-edit
 returns-then-is_small-clause-edit g c =
     let t = c.self.inside in
     let larger = all_edits g.E.Packed.whole_middle t.larger_turns.items t.middle.items t.large.items in
-    let less = less_small g.E.Packed.whole_small t.turns.items c.pop.new.self.items c.in_ok-is_small.is_small t.small.items c.pop-then-is_small.new.self.items
-    c.pop-then-is_small.result c.unwrap.result larger c.self.invariant.0 c.in_ok-is_small.ensures.items c.if-is_small.true
+    let less = less_small g.E.Packed.whole_small _ _ _ _ _ _ _ larger c.self.invariant.0 c.in_ok-is_small.ensures.items c.if-is_small.true
     c.pop-then-is_small.ensures.items c.unwrap.ensures in
     rw c.unpack_small.ensures.whole (sym (ap (λ (t : Taped _). t.list) c.self.view_is) ∙ less)
 
 pub returns-then-unwrap-clause-edit : goal.returns-then-unwrap-clause-edit
 returns-then-unwrap-clause-edit g c =
-    let t = c.self.inside in
     let larger = rw c.unwrap-else-is_small.ensures at c.pop-else-is_small.ensures.items in
     let middle = rw c.unwrap-then-unwrap.ensures at c.pop-then-unwrap.ensures.items in
-    let less = edits_less_middle g.E.Packed.whole_small g.E.Packed.whole_middle t.turns.items t.small.items t.larger_turns.items
-    t.middle.items t.large.items c.self.invariant.0 c.self.invariant.1 c.pop.new.self.items c.in_ok-is_small.is_small
-    c.in_ok-is_small.ensures.items c.if-is_small.false c.pop-else-is_small.new.self.items c.unwrap-else-is_small.result larger
-    c.if-unwrap.true c.pop-then-unwrap.new.self.items c.unwrap-then-unwrap.result middle in
+    let less = edits_less_middle g.E.Packed.whole_small g.E.Packed.whole_middle _ _ _ _ _ c.self.invariant.0 c.self.invariant.1 _ _
+    c.in_ok-is_small.ensures.items c.if-is_small.false _ _ larger c.if-unwrap.true _ _ middle in
     rw c.unpack_middle.ensures.whole (sym (ap (λ (t : Taped _). t.list) c.self.view_is) ∙ less)
 
 pub returns-else-unwrap-clause-edit : goal.returns-else-unwrap-clause-edit
 returns-else-unwrap-clause-edit g c =
-    let t = c.self.inside in
     let larger = rw c.unwrap-else-is_small.ensures at c.pop-else-is_small.ensures.items in
     let large = rw c.unwrap-else-unwrap.ensures at c.pop-else-unwrap.ensures.items in
-    let less = edits_less_large g.E.Packed.whole_small g.E.Packed.whole_middle t.turns.items t.small.items t.larger_turns.items
-    t.middle.items t.large.items c.self.invariant.0 c.self.invariant.1 c.pop.new.self.items c.in_ok-is_small.is_small
-    c.in_ok-is_small.ensures.items c.if-is_small.false c.pop-else-is_small.new.self.items c.unwrap-else-is_small.result larger
-    c.if-unwrap.false c.pop-else-unwrap.new.self.items c.unwrap-else-unwrap.result large in
+    let less = edits_less_large g.E.Packed.whole_small g.E.Packed.whole_middle _ _ _ _ _ c.self.invariant.0 c.self.invariant.1 _ _
+    c.in_ok-is_small.ensures.items c.if-is_small.false _ _ larger c.if-unwrap.false _ _ large in
     sym (ap (λ (t : Taped _). t.list) c.self.view_is) ∙ less

@@ -3,12 +3,13 @@ use Rattle.std.specs.List.{flat_map}
 use Rattle.std.proofs.lemmas.List.{take_all}
 use Rattle.pfl_node.specs.Flushing.{messages_of}
 use Rattle.pfl_node.specs.inner.Sending.{IsTold}
-use Rattle.pfl_node.proofs.Grouped.{told-at, messages-more}
+use Rattle.pfl_base.proofs.ForCallers.{each-get_or}
+use Rattle.pfl_node.proofs.Grouped.{messages-more}
 use Rattle.pfl_node.proofs.flush.frame.messages_of.Goals as goal
 
 pub message_of-requires : goal.message_of-requires
 message_of-requires g c = record {
-  told = told-at
+  told = each-get_or
       (IsTold c.args.desk.now.node) c.args.entries.now c.loop-entry.entry-index _ c.requires.told c.loop-entry-test.true;
 }
 

@@ -1,12 +1,13 @@
 use Rattle.std.proofs.Common.{◌≡◌, ◌+◌, ◌*◌, ◌∙◌, ap, take_all, arith}
+use Rattle.pfl_base.proofs.ForCallers.{each-get_or}
 use Rattle.pfl_session.specs.Totals.{counts_of_branches, HasAtMost}
-use Rattle.pfl_session.proofs.Sums.{each_at, counts-more, more-at-most}
+use Rattle.pfl_session.proofs.Sums.{counts-more, more-at-most}
 use Rattle.pfl_session.proofs.counts.Counts.of_branches.Goals as goal
 
 pub of_branch-requires : goal.of_branch-requires
 of_branch-requires g c = record {
   few = rw c.branch-item.is
-      (each_at (HasAtMost 8589934592) c.args.branches.now c.loop-branch.branch-index _ c.requires.few c.loop-branch-test.true);
+      (each-get_or (HasAtMost 8589934592) c.args.branches.now c.loop-branch.branch-index _ c.requires.few c.loop-branch-test.true);
 }
 
 pub loop-branch-preserved : goal.loop-branch-preserved
