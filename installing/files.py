@@ -25,7 +25,7 @@ sys.exit(main())
 RUNNABLE, READABLE = 0o755, 0o644
 # The scripts among the examples and what stands beside them; captures and a pf.conf are installed as they are.
 _WRITTEN, _FOUND = (".pfl", ".md", ".svg", ".html"), (".pcap", ".conf")
-_OF_SHELL = ("shell", "verify", "annotate", "chart", "page", "frames", "whatif", "depends", "compare", "capture", "import")
+_OF_SHELL = ("shell", "verify", "annotate", "chart", "page", "sheet", "frames", "whatif", "depends", "compare", "capture", "import")
 # The commands of a checkout, as the examples have them, and what replaces them if there is no checkout.
 INSTALLED_WORDS = (
     *((f"./lab {word}", f"pfl_lab {word}") for word in ("run", "check", "serve")),

@@ -73,7 +73,7 @@ def sources() -> Iterator[str]:
     """The files that the program is made from, except the stamp and its lines of crates.txt."""
     yield "HANDLES"
     for crate in below(NAME).values():
-        files = (os.path.relpath(it, TOP) for it in files_of(crate.folder) if os.path.isfile(it))
+        files = (it[len(TOP) + 1 :] for it in files_of(crate.folder) if os.path.isfile(it))
         yield from (it for it in files if it != STAMP)
 
 

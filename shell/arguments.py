@@ -2,33 +2,33 @@
 from __future__ import annotations
 
 import argparse
-import ipaddress
 import os
 import re
 from itertools import takewhile
-from typing import Callable, List, Optional, Sequence, Tuple
+from typing import TYPE_CHECKING, Any, Callable, Dict, List, NoReturn, Optional, Sequence, Tuple
 
-from .captures.asked import CaptureOptions, add_options as add_capture
-from .captures.run_options import add_options as add_frames
-from .charts.windows import read_flow, read_place
-from .depends.asked import add_options as add_depends
-from .dumps.asked import OUT, About
-from .dumps.asked import add_options as add_compare
-from .dumps.comparing import Tolerance
-from .importing.about import ENDS, Wanted
-from .importing.firewall import Own
-from .inferring.asked import SCRIPT, ScriptOptions
-from .inferring.asked import add_options as add_script
-from .laboratory import Unknown
-from .language.names import Name
+from .endings import STRICT_STATUS
 from .outputs import print_help
-from .scripts import DRY_RUN
-from .shell import STRICT_STATUS
-from .visits import ASKED_FOR, NO_ADDRESS, Address, cleaned
-from .whatif.asked import Options, add_options
+
+# (the options of a word import what they need when they are read, so that none waits for what others need)
+if TYPE_CHECKING:
+    from .captures.asked import CaptureOptions
+    from .dumps.asked import About
+    from .importing.about import Wanted
+    from .importing.firewall import Own
+    from .inferring.asked import ScriptOptions
+    from .language.names import Name
+    from .visits import Address
+    from .whatif.asked import Options
+
+    class Read(Options, CaptureOptions, ScriptOptions):
+        """What the options of these words were read as."""
+
+else:
+    Read = argparse.Namespace
 
 
-class Words(Options, CaptureOptions, ScriptOptions):
+class Words(Read):
     """The parsed command line. Only the attributes of its own word are set."""
 
     name: str
@@ -43,6 +43,7 @@ class Words(Options, CaptureOptions, ScriptOptions):
     strict: bool
     dry_run: bool
     all_replies: bool
+    replies: bool
     version: bool
     file: str
     picture: Optional[str]
@@ -73,7 +74,7 @@ class Words(Options, CaptureOptions, ScriptOptions):
 
 # The words that run no program, besides those that ask for help; each with its option that does run it, if there is one, which is not
 # to be abbreviated.
-WITHOUT_PROGRAM = {"compare": OUT, "capture": SCRIPT, "import": ""}
+WITHOUT_PROGRAM = {"compare": "--out", "capture": "--script", "import": ""}
 
 
 def needs_program(words: Sequence[str]) -> bool:
@@ -94,93 +95,140 @@ class Parser(argparse.ArgumentParser):
             self.exit(status)
 
 
-def parser(name: str = "./lab") -> argparse.ArgumentParser:
-    """The parser of what follows the command's name. Messages use that name without its folder."""
-    words = Parser(prog=name, description="The shell and the other tools around the laboratory's program.")
+class WordParser(Parser):
+    """The parser of one word: its options may be between its other words, and each fault is answered with its own usage."""
+
+    _is_reading = False
+
+    # (Any, as argparse has several forms of this)
+    def parse_known_args(self, args: Any = None, namespace: Any = None) -> Any:
+        # (to Python 3.11, argparse takes `--` away too early where options may be anywhere)
+        if self._is_reading or "--" in args:
+            return super().parse_known_args(args, namespace)
+        self._is_reading = True
+        try:
+            words, others = self.parse_known_intermixed_args(args, namespace)
+        finally:
+            self._is_reading = False
+        if others:
+            # (a word after an option that is unknown may be its value, or not)
+            wrong = [it for it in others if it.startswith("-")] or others
+            self.error(f"unrecognized arguments: {' '.join(wrong)}")
+        return words, others
+
+
+class CommandParser(Parser):
+    """The parser of the command, with those of its words."""
+
+    def __init__(self, **given: Any) -> None:
+        super().__init__(**given)
+        self.words: Dict[str, WordParser] = {}
+
+    def fault(self, word: str, message: str) -> NoReturn:
+        """Ends with what is wrong with the words after a word, and with their usage."""
+        self.words[word].error(message)
+
+
+def parser(name: str = "./lab", arguments: Optional[Sequence[str]] = None) -> CommandParser:
+    """The parser of what follows the command's name. Messages use that name without its folder. If the arguments are given, only words that
+    are among them have options."""
+    words = CommandParser(prog=name, description="The shell and the other tools around the laboratory's program.")
     words.set_defaults(name=os.path.basename(name))
     words.add_argument("--program", required=True, help=argparse.SUPPRESS)
     _version(words, False)
-    kinds = words.add_subparsers(dest="word")
-    _shell(
-        kinds.add_parser(
-            "shell",
-            help="opens a dialogue with the laboratory",
-            description="Opens a dialogue with the laboratory; `help` in it lists its words.",
-        )
+    kinds = words.add_subparsers(dest="word", parser_class=WordParser)
+    words.words = kinds.choices
+
+    def add(word: str, add_options: Callable[[argparse.ArgumentParser], None], **how: Any) -> None:
+        its = kinds.add_parser(word, **how)
+        if arguments is None or word in arguments:
+            add_options(its)
+
+    add(
+        "shell",
+        _shell,
+        help="opens a dialogue with the laboratory",
+        description="Opens a dialogue with the laboratory; `help` in it lists its words.",
     )
-    _scripts(kinds.add_parser("verify", help="compares the replies with the lines `#>` of scripts"))
-    _annotate(kinds.add_parser("annotate", help="writes the replies into scripts, as lines `#>`"))
-    _chart(kinds.add_parser("chart", help="draws what happened in a script"))
-    _page(
-        kinds.add_parser(
-            "page",
-            help="shows what happens in a script as a page for a browser",
-            usage=f"{name} page SCRIPT OUT.html\n       {name} page --serve PORT [SCRIPT | --port P [--setup FILE]]",
-            description="Writes what happens in a script as a page: one file that needs nothing else. With --serve, it serves a page to"
-            " browsers on this machine, which shows a pair as it changes, and steps it.",
-        )
+    add("verify", _scripts, help="compares the replies with the lines `#>` of scripts")
+    add(
+        "annotate",
+        _annotate,
+        help="writes the replies into scripts, as lines `#>`",
+        description="Writes the replies into scripts, as lines `#>`. It reports each line that is faulty or refused and had no such reply"
+        " before, with the reason; then the status is 1. The replies are written all the same, since a story may be about a refusal.",
     )
-    _further(kinds.add_parser, name)
+    add("chart", _chart, help="draws what happened in a script")
+    add(
+        "page",
+        _page,
+        help="shows what happens in a script as a page for a browser",
+        usage=f"{name} page SCRIPT OUT.html\n       {name} page --serve PORT [SCRIPT | --port P [--setup FILE]]",
+        description="Writes what happens in a script as a page: one file that needs nothing else. With --serve, it serves a page to"
+        " browsers on this machine, which shows a pair as it changes, and steps it.",
+    )
+    add(
+        "sheet",
+        _sheet,
+        help="writes a script as a sheet of paper for students or their teacher",
+        description="Writes a script as a sheet to print: its comments, its rules and its events, with room to write the outcomes that"
+        " a student expects. With --replies it is the teacher's.",
+    )
+    _further(add, name)
     return words
 
 
-def _further(add: Callable[..., argparse.ArgumentParser], name: str) -> None:
+def _further(add: Callable[..., None], name: str) -> None:
     """The words that ask what else might have happened, and those that read files of real firewalls."""
-    _whatif(
-        add(
-            "whatif",
-            help="tries each single fault of what happened in a script",
-            description="Replays what happened in a script with each single fault by itself, such as a lost frame or a restart, and"
-            " groups the faults by what they change.",
-        )
+    add(
+        "whatif",
+        _whatif,
+        help="tries each single fault of what happened in a script",
+        description="Replays what happened in a script with each single fault by itself, such as a lost frame or a restart, and"
+        " groups the faults by what they change.",
     )
-    _depends(
-        add(
-            "depends",
-            help="shows which replies of scripts depend on the choice of rules, the profile's or the kernel's",
-            description="Plays scripts again with each word of `kernel` and with all of them. It shows which replies change, the first of"
-            " them with its reason. Status: 0 if none changes, 1 if any does, 2 if a script could not be played.",
-        )
+    add(
+        "depends",
+        _depends,
+        help="shows which replies of scripts depend on the choice of rules, the profile's or the kernel's",
+        description="Plays scripts again with each word of `kernel` and with all of them. It shows which replies change, the first of"
+        " them with its reason. Status: 0 if none changes, 1 if any does, 2 if a script could not be played.",
     )
-    _compare(
-        add(
-            "compare",
-            help="compares the state tables of two firewalls, as pfctl printed them",
-            usage=f"{name} compare A B [--stats A B] [--apart S] [--all] [--out PAIR.pfl [--rules SETUP.pfl] [--flow ADDRESS[:PORT]]]",
-            description="Compares two files with the output of `pfctl -ss -vv`, one from each firewall of a pair. It shows the states that"
-            " only one has, and those that differ, field by field. Status: 0 if they agree, 1 if they differ, 2 if a file could not be"
-            " read or the script could not be written.",
-            allow_abbrev=False,
-        )
+    add(
+        "compare",
+        _compare,
+        help="compares the state tables of two firewalls, as pfctl printed them",
+        usage=f"{name} compare A B [--stats A B] [--apart S] [--all] [--out PAIR.pfl [--rules SETUP.pfl] [--flow ADDRESS[:PORT]]]",
+        description="Compares two files with the output of `pfctl -ss -vv`, one from each firewall of a pair. It shows the states that"
+        " only one has, and those that differ, field by field. Status: 0 if they agree, 1 if they differ, 2 if a file could not be"
+        " read or the script could not be written.",
+        allow_abbrev=False,
     )
-    add_frames(
-        add(
-            "frames",
-            help="writes the frames of a script as captures, in the layout of FreeBSD's messages",
-            description="Writes the frames of a script as two captures: what tcpdump(1) would have written at each node, had the frames"
-            " been messages of FreeBSD 13.",
-        )
+    add(
+        "frames",
+        _frames,
+        help="writes the frames of a script as captures, in the layout of FreeBSD's messages",
+        description="Writes the frames of a script as two captures: what tcpdump(1) would have written at each node, had the frames"
+        " been messages of FreeBSD 13.",
     )
-    _capture(
-        add(
-            "capture",
-            help="reads captures of the sync interface: what the nodes of a pair sent each other, and what needs attention",
-            usage=f"{name} capture A [B] [--a ADDRESS] [--flow ADDRESS[:PORT]] [--from TIME] [--to TIME] [--states] [--all]"
-            " [--script NIGHT.pfl [--rules PAIR.pfl] [--log-a PFLOG] [--log-b PFLOG] [--data-a PCAP] [--data-b PCAP]]",
-            description="Reads captures of a pair's sync interface, of one node or of both: pcap or pcapng files, as `tcpdump -s 0 -w FILE ip"
-            " proto 240` writes them. It shows frames that are not in the other capture, requests, bulk updates and the like, and a"
-            " timeline. Status: 0 if nothing is found, 1 if something is, 2 if a file could not be read to its end or the script could"
-            " not be written.",
-            allow_abbrev=False,
-        )
+    add(
+        "capture",
+        _capture,
+        help="reads captures of the sync interface: what the nodes of a pair sent each other, and what needs attention",
+        usage=f"{name} capture A [B] [--a ADDRESS] [--flow ADDRESS[:PORT]] [--from TIME] [--to TIME] [--states] [--all]"
+        " [--script NIGHT.pfl [--rules PAIR.pfl] [--log-a PFLOG] [--log-b PFLOG] [--data-a PCAP] [--data-b PCAP]]",
+        description="Reads captures of a pair's sync interface, of one node or of both: pcap or pcapng files, as `tcpdump -s 0 -w FILE ip"
+        " proto 240` writes them. It shows frames that are not in the other capture, requests, bulk updates and the like, and a"
+        " timeline. Status: 0 if nothing is found, 1 if something is, 2 if a file could not be read to its end or the script could"
+        " not be written.",
+        allow_abbrev=False,
     )
-    _import(
-        add(
-            "import",
-            help="imports the rules of an interface from a pf.conf",
-            description="Writes the rules that a pf.conf(5) has for one interface as a setup of the laboratory, and reports on standard"
-            " error what is approximated or left out.",
-        )
+    add(
+        "import",
+        _import,
+        help="imports the rules of an interface from a pf.conf",
+        description="Writes the rules that a pf.conf(5) has for one interface as a setup of the laboratory, and reports on standard"
+        " error what is approximated or left out.",
     )
 
 
@@ -213,6 +261,8 @@ def _scripts(words: argparse.ArgumentParser) -> None:
 
 
 def _annotate(words: argparse.ArgumentParser) -> None:
+    from .scripts import DRY_RUN
+
     _scripts(words)
     words.add_argument(*DRY_RUN, action="store_true", help="shows what would change, as `diff -u` does, and writes nothing")
 
@@ -241,23 +291,49 @@ def _page(words: argparse.ArgumentParser) -> None:
     words.add_argument("--setup", metavar="FILE", help="with --port: the setup that the server read, if it does not report it")
 
 
+def _sheet(words: argparse.ArgumentParser) -> None:
+    words.add_argument("file", metavar="SCRIPT")
+    words.add_argument(
+        "page", nargs="?", type=page_name, metavar="OUT.html", help="the sheet's file; without it the sheet goes to standard output"
+    )
+    words.add_argument(
+        "--replies", action="store_true", help="has the replies with their reasons, the charts, and the state tables at the end"
+    )
+
+
 def _whatif(words: argparse.ArgumentParser) -> None:
+    from .whatif.asked import add_options
+
     words.add_argument("file", metavar="SCRIPT")
     words.add_argument("--branch", default="main", metavar="BRANCH", help="tries the events of this branch instead of `main`")
     add_options(words)
 
 
 def _capture(words: argparse.ArgumentParser) -> None:
+    from .captures.asked import add_options as add_capture
+    from .inferring.asked import add_options as add_script
+
     add_capture(words)
     add_script(words)
 
 
+def _frames(words: argparse.ArgumentParser) -> None:
+    from .captures.run_options import add_options as add_frames
+
+    add_frames(words)
+
+
 def _depends(words: argparse.ArgumentParser) -> None:
+    from .depends.asked import add_options as add_depends
+
     words.add_argument("files", nargs="+", metavar="SCRIPT")
     add_depends(words)
 
 
 def _compare(words: argparse.ArgumentParser) -> None:
+    from .dumps.asked import add_options as add_compare
+    from .dumps.comparing import Tolerance
+
     words.add_argument("dumps", nargs=2, metavar="FILE", help="the output of `pfctl -ss -vv` at one firewall and at the other")
     words.add_argument(
         "--stats", nargs=2, default=[], metavar="FILE", help="the output of `netstat -s -p pfsync`, if those files do not have it too"
@@ -312,6 +388,8 @@ def interface(word: str) -> str:
 
 def own_address(word: str) -> Tuple[str, Own]:
     """An address with its length, after the interface that has it, if that is named."""
+    import ipaddress
+
     name, _, address = word.rpartition("=")
     try:
         if "/" not in address:
@@ -323,6 +401,10 @@ def own_address(word: str) -> Tuple[str, Own]:
 
 def wanted(word: str) -> Wanted:
     """An address, with a port if one is named, of IPv6 in brackets then; and the end that has it."""
+    import ipaddress
+
+    from .importing.about import ENDS, Wanted
+
     end, _, text = word.rpartition("=")
     found = re.fullmatch(r"\[(?P<v6>[^\]]*)\](?::(?P<port6>[0-9]{1,5}))?|(?P<v4>[^:]*):(?P<port4>[0-9]{1,5})|(?P<alone>.*)", text)
     try:
@@ -348,6 +430,9 @@ def group(word: str) -> Tuple[str, str]:
 
 def event(word: str) -> int:
     """The place of an event in its branch."""
+    from .charts.windows import read_place
+    from .laboratory import Unknown
+
     try:
         return read_place(word)
     except Unknown as why:
@@ -356,6 +441,9 @@ def event(word: str) -> int:
 
 def flow(word: str) -> Name:
     """The name of a state."""
+    from .charts.windows import read_flow
+    from .laboratory import Unknown
+
     try:
         return read_flow(word)
     except Unknown as why:
@@ -370,6 +458,8 @@ def port(word: str) -> int:
 
 def page_address(word: str) -> Address:
     """The address of a page, which may be asked for: arguments can be seen in the list of processes."""
+    from .visits import ASKED_FOR, NO_ADDRESS, Address
+
     it = ASKED_FOR if word == "-" else Address.read(word)
     if it is None:
         # (the token in it is not repeated)
@@ -379,6 +469,8 @@ def page_address(word: str) -> Address:
 
 def person(word: str) -> str:
     """A name, as others are shown it."""
+    from .visits import cleaned
+
     it = cleaned(word)
     if not it:
         raise argparse.ArgumentTypeError("a name has a character that prints")

@@ -6,7 +6,6 @@ import contextlib
 from typing import IO, Any, List, Optional, Sequence
 
 from .colours import Paint
-from .completion import candidates
 from .fitting import columns_of, fitted
 from .laboratory import Laboratory, Unknown
 from .notes import Notes
@@ -70,7 +69,7 @@ class Loop(cmd.Cmd):
     def _branch(self) -> str:
         """The branch in use, and how many of its events stand."""
         # (a server keeps every command that it gets, so a prompt asks it nothing)
-        if self.lab.is_own or self.lab.is_mirrored:
+        if self.lab.has_free_looks:
             with contextlib.suppress(Unknown):
                 branch = self.lab.branch(self.lab.in_use)
                 return f"{branch.name} {branch.cursor}/{len(branch.events)}"
@@ -112,10 +111,14 @@ class Loop(cmd.Cmd):
             return super().complete(text, state)
 
     def completenames(self, text: str, *ignored: object) -> List[str]:
+        from .completion import candidates
+
         return spaced(candidates(self.lab, (), text))
 
     # (Any, as in cmd.Cmd)
     def completedefault(self, *words: Any) -> List[str]:
+        from .completion import candidates
+
         text, line, begun, _ = words
         try:
             return spaced(candidates(self.lab, line[:begun].split(), text))

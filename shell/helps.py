@@ -241,7 +241,8 @@ SHELL: Dict[str, Help] = {
     "annotate": _word(
         "annotate [--dry-run] FILE..",
         "write[s] the replies into scripts, as lines `#>`",
-        "A dry run (-n) shows what would change, as `diff -u` does, and writes nothing.",
+        "It reports each line that is faulty or refused and had no such reply before, with the reason. The replies are written all the same, "
+        "since a story may be about a refusal. A dry run (-n) shows what would change, as `diff -u` does, and writes nothing.",
     ),
     "read": _word("read FILE", "read[s] the lines of a file as if they were typed"),
     "save": _word(

@@ -2,14 +2,17 @@
 from __future__ import annotations
 
 import contextlib
+from collections import deque
 from dataclasses import dataclass, replace
-from typing import ContextManager, Dict, Iterator, List, Optional, Protocol, Sequence, Tuple, Union
+from itertools import takewhile
+from typing import ContextManager, Deque, Dict, Iterator, List, Optional, Protocol, Sequence, Tuple, Union
 
 from .branches import Branch, Mark, read_log
+from .endings import NotDone
 from .explanations import Explanation, read_explanation
 from .flights import Flight, read_flight
 from .held import held_packets, with_packets
-from .language.commands import NAMES, OPEN, STEP
+from .language.commands import KERNEL, NAMES, OPEN, SETUP, STEP
 from .language.events import PACKET
 from .language.faults import COMMAND_REFUSALS, numbered
 from .language.forms import END
@@ -34,7 +37,7 @@ MOST_ENDS = 48
 NO_FRAME = f"refused {numbered('NoFrame', COMMAND_REFUSALS)}"
 
 
-class Unknown(Exception):
+class Unknown(NotDone):
     """A question that the laboratory cannot answer, with the reason."""
 
 
@@ -73,6 +76,8 @@ class Laboratory:
         self.marks: Dict[str, Mark] = {}
         # Who gives the commands of a server, if a page says so.
         self.people: Optional[Names] = None
+        # The next lines of the setup, if the program was seen to take them all.
+        self._right: Deque[str] = deque()
         # The ends of the packets that were stepped here, the newest last.
         self.ends: Dict[str, None] = {}
 
@@ -97,6 +102,11 @@ class Laboratory:
     def is_mirrored(self) -> bool:
         """Whether looks cost the server nothing."""
         return self.shared is not None and self.shared.has_mirror
+
+    @property
+    def has_free_looks(self) -> bool:
+        """Whether a question costs no server anything: it would keep each one."""
+        return self.is_own or self.is_mirrored
 
     @property
     def searches(self) -> bool:
@@ -124,10 +134,21 @@ class Laboratory:
         if opens(line):
             self.open()
             return
-        fault = check_setup(self.program, [*self.setup.lines, line])
-        if fault:
-            raise fault
+        if self._right and self._right[0] == line.strip():
+            self._right.popleft()
+        else:
+            self._right.clear()
+            fault = check_setup(self.program, [*self.setup.lines, line])
+            if fault:
+                raise fault
         self.setup.add(line)
+
+    def try_setup(self, lines: Sequence[str]) -> None:
+        """Tries the lines of the setup among those that are to come, up to `open`, by one run of the program. If it takes them all, none
+        needs a run of its own, as long as they come in this order."""
+        coming = [it.strip() for it in takewhile(lambda it: not opens(it), lines) if is_of_setup(it)]
+        if not self.is_open and len(coming) > 1 and not check_setup(self.program, [*self.setup.lines, *coming]):
+            self._right = deque(coming)
 
     def pass_over(self, line: str) -> None:
         """Takes a line that is not read, such as a comment of the setup."""
@@ -277,6 +298,12 @@ class Laboratory:
         if len(ran.replies) != len(lines):
             raise Ended("; ".join(ran.faults) or f"the program ended with status {ran.status}")
         return ran.replies
+
+
+def is_of_setup(line: str) -> bool:
+    """Whether a line says something of the setup; `kernel` alone asks what was said."""
+    words = line.split()
+    return has_word(line) and words[0] in SETUP and words != [KERNEL.word]
 
 
 def no_branch(name: str) -> str:

@@ -1,74 +1,51 @@
-"""The words that need the shell, of `./lab` and of the installed `pfl_shell`: shell, verify, annotate, chart, page, frames, whatif,
-depends, compare, capture and import."""
+"""The words that need the shell, of `./lab` and of the installed `pfl_shell`: shell, verify, annotate, chart, page, sheet, frames,
+whatif, depends, compare, capture and import."""
 from __future__ import annotations
 
 import io
 import os
+import stat
 import subprocess
 import sys
 from contextlib import closing
 from functools import partial
 from itertools import takewhile
-from typing import Callable, Dict, Iterator, Optional, Sequence
+from typing import TYPE_CHECKING, Callable, Dict, Iterable, Optional, Sequence
 
-from . import scripts
 from .arguments import Words, page_fault, parser, shell_fault
-from .branches import Branch
-from .captures import runs
-from .captures.command import NotRead, captured
-from .charts.chart import NO_TEXTS, Texts, chart as chart_of
-from .charts.picture import draw
-from .charts.rows import Chart
-from .charts.text import WIDEST, text as chart_text
-from .charts.windows import WHOLE, Window
 from .colours import PLAIN, Paint
-from .depends.answers import of_script
-from .depends.marks import marks_of, notes_of
-from .dumps.command import TROUBLE, NothingRead, compared
-from .dumps.comparing import Tolerance
-from .dumps.opening import Asked, NotOpened, opening
-from .dumps.report import Shown
+from .endings import INTERRUPTED_STATUS, STRICT_STATUS, TROUBLE, NotDone
 from .fitting import columns_of, fitted
-from .importing.command import carry_out as import_
-from .inferring.asked import script_fault
-from .inferring.command import Captured, infer
-from .inferring.night import Part
-from .laboratory import Laboratory, Unknown
-from .language.forms import one_of
-from .language.lines import has_word, lines_of, opens
-from .language.names import NODES
 from .outputs import discard_output
-from .pages.live import OPENING, begun, joined, serve
-from .pages.packing import NotPacked, page as page_of
-from .pages.runs import run_of
 from .paging import paged
-from .programs import Client, Ended, SetupFault, check_setup, run_lines, setup_fault
-from .seats import introduced, seated
-from .setups import Setup
-from .shell import STRICT_STATUS, Shell, Stopped
-from .stories import Story, story_of
-from .visits import ASKED_FOR, NO_ADDRESS, Address, Page
-from .whatif.answers import Counter, answer
-from .whatif.asked import asked
+
+# (a word imports what it needs when it is carried out, so that none waits for what others need)
+if TYPE_CHECKING:
+    from .branches import Branch
+    from .charts.chart import Texts
+    from .charts.rows import Chart
+    from .charts.windows import Window
+    from .laboratory import Laboratory
+    from .programs import Client
+    from .setups import Setup
+    from .shell import Shell
+    from .stories import Story
+    from .visits import Address, Page
 
 HISTORY = "~/.pfl_lab_history"
-INTERRUPTED_STATUS = 130
 
 
 def main(arguments: Sequence[str], name: str = "./lab") -> int:
     """Carries out the words after the command's name; returns the status."""
-    kinds = parser(name)
+    kinds = parser(name, arguments)
     words = kinds.parse_args(arguments, Words())
     if not words.word and not words.version:
+        from .language.forms import one_of
+
         kinds.error(f"a word is missing: {one_of(WORDS)}")
-    if words.word == "shell" and shell_fault(words):
-        kinds.error(shell_fault(words))
-    if words.word == "compare" and not words.out and (words.rules or words.of_flow):
-        kinds.error("--rules and --flow say what the script of --out has, and need --out")
-    if words.word == "capture" and script_fault(words):
-        kinds.error(script_fault(words))
-    if words.word == "page" and page_fault(words):
-        kinds.error(page_fault(words))
+    fault = words_fault(words)
+    if fault:
+        kinds.fault(words.word, fault)
     for stream in (sys.stdin, sys.stdout):
         if isinstance(stream, io.TextIOWrapper):
             # A line may have any bytes: the program judges them.
@@ -82,11 +59,22 @@ def main(arguments: Sequence[str], name: str = "./lab") -> int:
         discard_output()
     except OSError as error:
         say(words, f"{error.filename}: {error.strerror}" if error.filename else error)
-    except SetupFault as fault:
-        say(words, f"setup line {fault.line}: {fault.words}")
-    except (Ended, Unknown, NotPacked, scripts.NotWritten, scripts.FaultyRules, NothingRead, NotOpened, NotRead) as why:
-        say(words, why)
+    except NotDone as why:
+        say(words, why.told)
     return TROUBLE if words.word in ("compare", "depends", "capture") else 1
+
+
+def words_fault(words: Words) -> str:
+    """What is wrong with words that do not all go together; empty if nothing is."""
+    if words.word == "shell":
+        return shell_fault(words)
+    if words.word == "compare" and not words.out and (words.rules or words.of_flow):
+        return "--rules and --flow say what the script of --out has, and need --out"
+    if words.word == "capture":
+        from .inferring.asked import script_fault
+
+        return script_fault(words)
+    return page_fault(words) if words.word == "page" else ""
 
 
 def say(words: Words, what: object) -> None:
@@ -111,19 +99,36 @@ def version(words: Words) -> int:
 
 
 def verify(words: Words) -> int:
+    from . import scripts
+
     found = scripts.verified(words.program, words.files)
     show(found.shown(sys.stdout.isatty()))
     return int(found.differing > 0)
 
 
 def annotate(words: Words) -> int:
-    for line in scripts.annotated_all(words.program, words.files, words.dry_run):
+    """Writes the replies into scripts; the status is 1 if a line looks like a slip."""
+    from . import annotating
+
+    found = 0
+    for written in annotating.annotate(words.program, words.files, words.dry_run):
         # (lines of a script are as they are)
-        (show_whole if words.dry_run else show)([line])
-    return 0
+        (show_whole if words.dry_run else show)(written.lines)
+        for it in written.slips:
+            say(words, f"{written.path}: {it}")
+        found += len(written.slips)
+    if found:
+        say(words, annotating.about_slips(found))
+    return int(found > 0)
 
 
 def chart(words: Words) -> int:
+    from . import scripts
+    from .charts.picture import draw
+    from .charts.text import WIDEST, text as chart_text
+    from .charts.windows import Window
+    from .language.lines import lines_of
+
     script = lines_of(scripts.read(words.file))
     if says_faults(words, words.file, script):
         return 1
@@ -138,6 +143,12 @@ def chart(words: Words) -> int:
 
 def page(words: Words) -> int:
     """Writes the run of a script as a page, or serves the page of a pair."""
+    from . import scripts
+    from .language.lines import lines_of
+    from .pages.live import OPENING, begun, joined, serve
+    from .pages.packing import page as page_of
+    from .pages.runs import run_of
+
     script: Sequence[str] = lines_of(scripts.read(words.script)) if words.script else OPENING
     if words.script and says_faults(words, words.script, script):
         return 1
@@ -151,8 +162,33 @@ def page(words: Words) -> int:
     return 0
 
 
+def sheet(words: Words) -> int:
+    """Writes a script as a sheet of paper."""
+    from . import scripts
+    from .language.lines import lines_of
+    from .sheets.lesson import lesson_of
+    from .sheets.sheet import sheet as sheet_of
+
+    script = lines_of(scripts.read(words.file))
+    if says_faults(words, words.file, script):
+        return 1
+    text = sheet_of(lesson_of(words.program, script, os.path.basename(words.file), words.replies))
+    if words.page:
+        save(words.page, text)
+    else:
+        # (in ASCII, which any encoding of standard output has)
+        print(text.encode("ascii", "xmlcharrefreplace").decode(), end="", flush=True)
+    return 0
+
+
 def frames(words: Words) -> int:
     """Writes the frames of a script as captures, one at each node."""
+    from . import scripts
+    from .captures import runs
+    from .laboratory import Laboratory
+    from .language.lines import lines_of
+    from .stories import story_of
+
     paths = (words.capture_a, words.capture_b)
     runs.refuse_same_files(words.file, paths)
     script = lines_of(scripts.read(words.file))
@@ -166,6 +202,13 @@ def frames(words: Words) -> int:
 
 def whatif(words: Words) -> int:
     """Tries the faults of what happened in a script."""
+    from . import scripts
+    from .laboratory import Laboratory, Unknown
+    from .language.lines import lines_of
+    from .stories import story_of
+    from .whatif.answers import Counter, answer
+    from .whatif.asked import asked
+
     text = scripts.read(words.file)
     if words.out and os.path.realpath(words.out) == os.path.realpath(words.file):
         raise Unknown(f"{words.out} is the script itself: --out writes a copy of it under another name")
@@ -189,6 +232,10 @@ def whatif(words: Words) -> int:
 
 def depends(words: Words) -> int:
     """Plays scripts by other rules than their own; the status is that of diff(1)."""
+    from . import scripts
+    from .depends.answers import of_script
+    from .language.lines import lines_of
+
     status = 0
     for number, path in enumerate(words.files):
         script = lines_of(scripts.read(path))
@@ -203,12 +250,20 @@ def depends(words: Words) -> int:
 
 def compare(words: Words) -> int:
     """Compares two dumps; the status is that of diff(1)."""
+    from .dumps.command import compared
+    from .dumps.comparing import Tolerance
+    from .dumps.report import Shown
+
     tolerance = Tolerance() if words.apart is None else Tolerance(words.apart, True)
     how = Shown(paint(sys.stdout.isatty()), tolerance, words.all)
     answer = compared(words.dumps, words.stats, how, partial(say, words), bool(words.out))
     said: Sequence[str] = ()
     try:
         if words.out:
+            from . import scripts
+            from .dumps.opening import Asked, opening
+            from .language.names import NODES
+
             asked_for = Asked(words.out, words.rules, words.of_flow)
             made = opening(words.program, answer.found, dict(zip(NODES, words.dumps)), tolerance, asked_for)
             scripts.write(words.out, made.text)
@@ -224,11 +279,17 @@ def compare(words: Words) -> int:
 def capture(words: Words) -> int:
     """Reads captures of the sync interface; the status is 1 where something is found, and 2 where a file cannot be read, or a script that
     is asked for cannot be written."""
+    from .captures.command import captured
+
     answer = captured(words, paint(sys.stdout.isatty()), partial(say, words))
     if not words.script:
         show_answer(answer.lines)
         return answer.status
     lines = answer.lines
+    from . import scripts
+    from .inferring.command import Captured, infer
+    from .inferring.night import Part
+
     try:
         asked_for = Captured(answer.overlay, Part.of(answer.selection), answer.times)
         made = infer(words, words.program, words.captures, asked_for, words.all)
@@ -266,38 +327,35 @@ def save(path: str, text: str) -> None:
 
 def says_faults(words: Words, path: str, script: Sequence[str]) -> bool:
     """Reports what the program finds faulty in a script; returns whether there is something."""
-    faulty = list(faulty_lines(words.program, script))
-    for line in faulty:
-        say(words, f"{path}:{line}")
-    return bool(faulty)
+    from .proofreading import faulty
+
+    found = faulty(words.program, script)
+    for it in found:
+        say(words, f"{path}: {it}")
+    return bool(found)
 
 
-def faulty_lines(program: str, script: Sequence[str]) -> Iterator[str]:
-    """The lines of a script that the program finds faulty, each with its number and fault."""
-    checked = run_lines(program, script, "check")
-    fault = setup_fault(checked.faults)
-    if fault:
-        yield f"{fault.line}: {fault.words}"
-    for reply in checked.replies:
-        words = reply[0].split()
-        if words[0] == "line":
-            yield f"{words[1]}: {' '.join(words[2:])}"
-
-
-def drawn_from(program: str, script: Sequence[str], branch: str, window: Window = WHOLE, with_notes: bool = False) -> Chart:
+def drawn_from(program: str, script: Sequence[str], branch: str, window: Optional[Window] = None, with_notes: bool = False) -> Chart:
     """A chart of what a script makes of a branch; with notes also the comments of the script, and what comes of its events by other
     rules."""
+    from .charts.chart import NO_TEXTS, chart as chart_of
+    from .charts.windows import WHOLE
+    from .laboratory import Laboratory
+    from .stories import story_of
+
     lab = Laboratory(program)
     try:
         story = story_of(lab, script)
         notes = noted(lab, story, lab.branch(branch)) if with_notes else NO_TEXTS
-        return chart_of(lab, lab.branch(branch), notes, story.forks(branch), window)
+        return chart_of(lab, lab.branch(branch), notes, story.forks(branch), window or WHOLE)
     finally:
         lab.close()
 
 
 def noted(lab: Laboratory, story: Story, branch: Branch) -> Texts:
     """The paragraphs about a branch, by how many of its events come before them, and below these what is said of other rules."""
+    from .depends.marks import marks_of, notes_of
+
     stands, notes = branch.events[: branch.cursor], story.above(branch.name)
     for place, paragraphs in notes_of(marks_of(lab.program, lab.setup, stands), lab.setup.kernel, len(stands)).items():
         notes.setdefault(place, []).extend(paragraphs)
@@ -310,19 +368,21 @@ def paint(is_terminal: bool) -> Paint:
 
 
 def shell(words: Words) -> int:
+    from . import scripts
+    from .language.lines import lines_of
+    from .shell import Shell, Stopped
+    from .typed import without_mark
+
     is_typed = sys.stdin.isatty()
-    page = page_at(words.at) if words.at else None
-    if words.port:
-        lab = joined_to(words, words.port, page)
-    else:
-        lab = seated(words.program, page, words.person or "", partial(say, words)) if page else Laboratory(words.program)
+    lab = laboratory_of(words)
     it = Shell(lab, sys.stdout, paint(sys.stdout.isatty()), words.strict, is_typed)
     try:
-        ended = any(it.take(lines_of(scripts.read(path)), echo=is_typed or words.echo) for path in words.files)
+        ended = any(it.take(lines_of(without_mark(scripts.read(path))), echo=is_typed or words.echo) for path in words.files)
         if not ended and is_typed:
+            (it.suggest if words.files else it.greet)()
             dialogue(it)
         elif not ended:
-            it.take((line.rstrip("\n") for line in sys.stdin), words.echo)
+            it.take(lines_of_input(), words.echo)
     except Stopped as why:
         say(words, f"stopped at {why}")
         return STRICT_STATUS
@@ -331,8 +391,25 @@ def shell(words: Words) -> int:
     return int(it.has_faults and not is_typed)
 
 
+def laboratory_of(words: Words) -> Laboratory:
+    """The laboratory of a shell: its pair is that of a server, that of a page, or its own."""
+    from .laboratory import Laboratory
+
+    page = page_at(words.at) if words.at else None
+    if words.port:
+        return joined_to(words, words.port, page)
+    if page:
+        from .seats import seated
+
+        return seated(words.program, page, words.person or "", partial(say, words))
+    return Laboratory(words.program)
+
+
 def page_at(address: Address) -> Page:
     """The page at an address, which is asked for where that is wanted: arguments can be seen in the list of processes."""
+    from .laboratory import Unknown
+    from .visits import ASKED_FOR, NO_ADDRESS, Address, Page
+
     if address == ASKED_FOR:
         print("address of the page: ", end="", file=sys.stderr, flush=True)
     it = Address.read(sys.stdin.readline()) if address == ASKED_FOR else address
@@ -343,6 +420,9 @@ def page_at(address: Address) -> Page:
 
 def joined_to(words: Words, port: int, page: Optional[Page]) -> Laboratory:
     """A laboratory whose pair is that of a server, with what there is to say about that."""
+    from .laboratory import Laboratory
+    from .programs import Client, Ended
+
     setup = setup_from(words.program, words.setup) if words.setup else None
     try:
         lab = Laboratory(words.program, port, setup)
@@ -351,14 +431,26 @@ def joined_to(words: Words, port: int, page: Optional[Page]) -> Laboratory:
     assert isinstance(lab.session, Client)
     say(words, "connected; the server answers once all its sessions are")
     wait(lab.session, nobody_listens(words, port))
-    said = [lab.join(), introduced(lab, page, words.person or "", command_of(words))]
+    said = [lab.join()]
+    if page or words.person:
+        from .seats import introduced
+
+        said.append(introduced(lab, page, words.person or "", command_of(words)))
     for it in filter(None, said):
         say(words, it)
     return lab
 
 
+def lines_of_input() -> Iterable[str]:
+    """The lines of standard input: all together from a file, and from a pipe as they come."""
+    lines = (line.rstrip("\n") for line in sys.stdin)
+    return list(lines) if stat.S_ISREG(os.fstat(sys.stdin.fileno()).st_mode) else lines
+
+
 def wait(session: Client, gone: str) -> None:
     """Waits for the other sessions of a server; an interrupt gives up."""
+    from .programs import Ended
+
     try:
         session.wait()
     except KeyboardInterrupt:
@@ -383,10 +475,17 @@ def command_of(words: Words) -> str:
 
 def setup_from(program: str, path: str) -> Setup:
     """The setup in a file, up to `open` if that is there, if the program finds no fault in it."""
+    from . import scripts
+    from .laboratory import Unknown
+    from .language.lines import lines_of, opens
+    from .programs import check_setup
+    from .proofreading import setup_slip
+    from .setups import Setup
+
     lines = list(takewhile(lambda line: not opens(line), lines_of(scripts.read(path))))
-    fault = check_setup(program, [line for line in lines if has_word(line)])
+    fault = check_setup(program, lines)
     if fault:
-        raise fault
+        raise Unknown(f"{path}: {setup_slip(fault, lines)}")
     return Setup.of(lines)
 
 
@@ -430,12 +529,20 @@ def write_history(path: str) -> None:
         pass
 
 
+def import_(words: Words) -> int:
+    """Takes in the rules of an interface from a pf.conf."""
+    from .importing.command import carry_out
+
+    return carry_out(words)
+
+
 WORDS: Dict[str, Callable[[Words], int]] = {
     "shell": shell,
     "verify": verify,
     "annotate": annotate,
     "chart": chart,
     "page": page,
+    "sheet": sheet,
     "frames": frames,
     "whatif": whatif,
     "depends": depends,

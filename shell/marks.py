@@ -7,10 +7,12 @@ from typing import List, NamedTuple, Optional, Sequence, Tuple
 
 from .branches import Mark
 from .laboratory import Laboratory, Unknown
-from .language.commands import BACK, FORK, FORWARD
+from .language.commands import BACK, EXCISE, FORK, FORWARD, PAST, RESTORE, SHOW
 from .words import counted
 
 TO, HERE = "to", "here"
+# The commands that are about the branch in use if none is named, each with the forms of its other words. `drop` is not among them.
+WITHOUT_BRANCH = {it.word: it.values[1:] for it in (BACK, FORWARD, FORK, SHOW, PAST, EXCISE, RESTORE)}
 # The form of a name, the same as for a branch.
 NAME = re.compile("[a-z][a-z0-9-]{0,15}")
 
@@ -40,13 +42,22 @@ def line_for(lab: Laboratory, words: Sequence[str]) -> str:
         return f"{FORK.word} {branch.name} {branch.cursor} {words[2]}"
     asked = _asked(lab, words)
     if not asked:
-        return ""
+        return _of_branch_in_use(lab, words)
     name, place = _place(lab, asked)
     branch = lab.branch(name)
     if place > len(branch.events):
         raise Unknown(f"{name} has {counted(len(branch.events), 'event')}, so it has no place {place}")
     by = branch.cursor - place
     return f"{BACK.word} {name} {by}" if by >= 0 else f"{FORWARD.word} {name} {-by}"
+
+
+def _of_branch_in_use(lab: Laboratory, words: Sequence[str]) -> str:
+    """A command without its branch, which is the one in use then; empty if the words are another line. (The name of a branch begins with a letter.)"""
+    word, *others = words
+    if word not in WITHOUT_BRANCH or len(others) != len(WITHOUT_BRANCH[word]):
+        return ""
+    is_right = all(it.wrong(other) is None for it, other in zip(WITHOUT_BRANCH[word], others))
+    return " ".join([word, lab.in_use, *others]) if is_right else ""
 
 
 def _asked(lab: Laboratory, words: Sequence[str]) -> Optional[Asked]:

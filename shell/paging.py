@@ -8,8 +8,8 @@ import subprocess
 from contextlib import contextmanager
 from typing import IO, Iterator, Sequence
 
-from .terminal import PLAIN_TERMINALS
-
+# Terminals that do not know the control sequences of a VT100.
+PLAIN_TERMINALS = ("", "dumb", "unknown")
 # What less is to do if LESS does not say it: end at once if everything fits, show colours, and leave what it showed.
 _OPTIONS = {"LESS": "FRX", "LV": "-c"}
 # The status of a shell that cannot run a command.

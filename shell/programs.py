@@ -11,6 +11,7 @@ import time
 from collections import deque
 from typing import IO, Deque, Iterable, Iterator, List, Optional, Sequence
 
+from .endings import NotDone
 from .language.commands import COMMANDS, OPEN
 from .language.faults import LIMIT_FAULTS, LINE_FAULTS, RULE_FAULTS
 from .language.lines import lines_of, opens
@@ -30,11 +31,11 @@ FULL = "full"
 TOO_LONG = f"{SETUP_WORD} too long"
 
 
-class Ended(Exception):
+class Ended(NotDone):
     """The program ended, or the server went away: no reply came."""
 
 
-class SetupFault(Exception):
+class SetupFault(NotDone):
     """A line of the setup is faulty: its number, counted from 1 over the given lines, and the fault."""
 
     def __init__(self, line: int, fault: str):
@@ -46,6 +47,10 @@ class SetupFault(Exception):
         """The fault, with the list of docs/FORMATS.md that its number belongs to."""
         kind, _, rest = self.fault.partition(" ")
         return f"{_LISTS[kind]} {rest}" if kind in _LISTS else self.fault
+
+    @property
+    def told(self) -> str:
+        return f"setup line {self.line}: {self.words}"
 
 
 _FAULTS = {"line": LINE_FAULTS, "rule": RULE_FAULTS, "world": LIMIT_FAULTS}

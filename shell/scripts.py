@@ -1,15 +1,14 @@
-"""Scripts with their replies: compares the lines `#>` with what comes, and writes them."""
+"""Scripts with their replies: compares the lines `#>` with what comes."""
 from __future__ import annotations
 
-import os
+import errno
 import re
-import tempfile
 import time
 from dataclasses import dataclass, field
-from difflib import unified_diff
 from itertools import takewhile
-from typing import Dict, Iterator, List, Sequence, Tuple
+from typing import IO, Dict, Iterator, List, Sequence, Tuple
 
+from .endings import NotDone
 from .language.lines import content_of, has_word, lines_of, opens
 from .programs import check_setup, run_lines
 
@@ -34,11 +33,11 @@ def title_of(script: Sequence[str]) -> str:
     return title if len(title) <= LONGEST_TITLE else ""
 
 
-class FaultyRules(Exception):
+class FaultyRules(NotDone):
     """A file of rules has a fault."""
 
 
-class NotWritten(Exception):
+class NotWritten(NotDone):
     """Replies would be lost: nothing was written."""
 
 
@@ -96,8 +95,17 @@ class Script:
 
 def read(path: str) -> str:
     """The text of a script, whatever bytes it has."""
-    with open(path, encoding="utf-8", errors="surrogateescape", newline="") as it:
+    with opened(path, "r") as it:
         return it.read()
+
+
+def opened(path: str, mode: str) -> IO[str]:
+    """A script that is opened."""
+    try:
+        return open(path, mode, encoding="utf-8", errors="surrogateescape", newline="")
+    except ValueError as error:
+        # (open raises this for a NUL, and for characters that it cannot encode)
+        raise OSError(errno.EINVAL, "no file can have this name", repr(path)) from error
 
 
 def rules_of(program: str, path: str) -> List[str]:
@@ -112,10 +120,10 @@ def rules_of(program: str, path: str) -> List[str]:
 def write(path: str, text: str) -> None:
     """Writes a script, whatever bytes it has. A fault names the file, even one after it was opened, such as a full disk."""
     try:
-        with open(path, "w", encoding="utf-8", errors="surrogateescape", newline="") as it:
+        with opened(path, "w") as it:
             it.write(text)
     except OSError as error:
-        raise OSError(error.errno, error.strerror, path) from error
+        raise OSError(error.errno, error.strerror, error.filename or path) from error
 
 
 def verify(program: str, text: str) -> List[Mismatch]:
@@ -151,58 +159,6 @@ def _differ(what: str, wanted: List[Tuple[int, str]], came: List[str], at: int) 
             return
 
 
-def annotated(program: str, text: str) -> str:
-    """The script with the replies, the faults and the status as they come, instead of those that it has."""
-    script = Script.of(text)
-    ran = run_lines(program, script.lines)
-    if len(ran.replies) < len(script.commands) and not (ran.faults and (script.marked[FAULT] or script.marked[STATUS])):
-        had = "the replies that the script has are kept" if any(it.expected for it in script.commands) else "nothing is written"
-        raise NotWritten(f"{'; '.join(ran.faults) or 'not every line was answered'}: {had}")
-    below = {command.number: reply for command, reply in zip(script.commands, ran.replies)}
-    checked = iter(_checked(program, script))
-    lines: List[str] = []
-    for number, line in enumerate(script.lines, 1):
-        if line.startswith(CHECKED):
-            lines += [f"{CHECKED}{it}" for it in checked]
-        elif not line.startswith((REPLY, FAULT, STATUS)):
-            lines.append(line)
-            lines += [f"{REPLY}{it}" for it in below.get(number, [])]
-    lines += [f"{FAULT}{it}" for it in ran.faults]
-    lines += [f"{STATUS}{ran.status}"] * bool(ran.status)
-    return "".join(f"{line}\n" for line in lines)
-
-
-def _checked(program: str, script: Script) -> List[str]:
-    if not script.marked[CHECKED]:
-        return []
-    return [line for reply in run_lines(program, script.lines, "check").replies for line in reply]
-
-
-def annotate(program: str, path: str) -> bool:
-    """Writes the replies into a script; returns whether anything changed. The file is whole at every moment."""
-    path = os.path.realpath(path)
-    text = read(path)
-    new = annotated(program, text)
-    if new == text:
-        return False
-    folder = os.path.dirname(path)
-    with tempfile.NamedTemporaryFile("w", dir=folder, delete=False, encoding="utf-8", errors="surrogateescape", newline="") as it:
-        it.write(new)
-    os.chmod(it.name, os.stat(path).st_mode)
-    os.replace(it.name, path)
-    return True
-
-
-def would_change(program: str, path: str) -> List[str]:
-    """What `annotate` would change in a script, in lines as diff(1) has them; none where it stays as it is."""
-    text = read(path)
-    old, new = (re.findall("[^\n]*\n|[^\n]+", it) for it in (text, annotated(program, text)))
-    lines: List[str] = []
-    for line in unified_diff(old, new, path, path):
-        lines += [line[:-1]] if line.endswith("\n") else [line, "\\ No newline at end of file"]
-    return lines
-
-
 @dataclass(frozen=True)
 class Verified:
     """The result of running scripts against their replies: a line for each difference, and one for all; and how many seconds that
@@ -220,32 +176,19 @@ class Verified:
 def verified(program: str, paths: Sequence[str]) -> Verified:
     """Runs scripts, and reports where their marked lines and the replies differ, or why one could not be read."""
     lines: List[str] = []
-    differing, begun = 0, time.monotonic()
+    differing, unread, begun = 0, 0, time.monotonic()
     for path in paths:
         try:
             found = [f"{path}:{it}" for it in verify(program, read(path))]
         except OSError as error:
             if error.filename == program:
                 raise
-            found = [f"{path}: {error.strerror}"]
+            lines.append(f"{error.filename or path}: {error.strerror}")
+            unread += 1
+            continue
         differing += bool(found)
         lines += found
     total = f"{len(paths)} script{'s' * (len(paths) != 1)}"
-    lines.append(
-        f"{total}: {f'{differing} differ' if differing > 1 else '1 differs' if differing else 'all replies as they say'}"
-    )
-    return Verified(lines, differing, time.monotonic() - begun)
-
-
-def annotated_all(program: str, paths: Sequence[str], is_dry: bool = False) -> Iterator[str]:
-    """Writes the replies into scripts, and reports what became of each; stops at one that could not be written. A dry run writes
-    nothing, and reports what would change."""
-    for path in paths:
-        try:
-            if is_dry:
-                lines = would_change(program, path)
-                yield from [*lines, f"{path}: {'replies would be written' if lines else 'as it was'}"]
-            else:
-                yield f"{path}: {'replies written' if annotate(program, path) else 'as it was'}"
-        except NotWritten as why:
-            raise NotWritten(f"{path}: {why}") from why
+    wrong = [f"{differing} differ{'s' * (differing == 1)}"] * bool(differing) + [f"{unread} could not be read"] * bool(unread)
+    lines.append(f"{total}: {', '.join(wrong) or 'all replies as they say'}")
+    return Verified(lines, differing + unread, time.monotonic() - begun)

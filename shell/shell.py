@@ -5,17 +5,12 @@ import difflib
 import os
 import re
 import sys
-from typing import IO, Iterable, List, Sequence, Set, Tuple
+from typing import IO, TYPE_CHECKING, Iterable, List, Optional, Sequence, Set, Tuple
 
 from . import changes, diffs, helps, logs, macros, marks, scripts, views
+from .annotating import about_slips, annotate
 from .branches import Branch
-from .charts.chart import NO_TEXTS, chart
-from .charts.picture import draw
-from .charts.text import WIDEST, text as chart_text
-from .charts.windows import read_asked
 from .colours import Paint
-from .depends.answers import of_branch
-from .depends.asked import read as read_depends
 from .dialogue import Loop
 from .fitting import shortened
 from .laboratory import Asked, Laboratory, Unknown, event_of
@@ -23,21 +18,25 @@ from .language import pf_conf
 from .language.commands import KERNEL, SETUP, STEP
 from .language.events import BROKEN, DELIVER, DROPPED, EVENTS, TICK
 from .language.forms import GREATEST, NAME as STATE_NAME
-from .language.lines import has_word, lines_of, opens
+from .language.lines import content_of, has_word, lines_of, opens
 from .language.names import NODES, Name
 from .language.searches import GAVE_UP, SEARCH
 from .programs import Ended, SetupFault
-from .reasons.faults import explain_fault
-from .reasons.why import why_ahead, why_event, why_last
-from .searches.finder import Finder
 from .stories import Story
-from .whatif.answers import Counter, answer
-from .whatif.asked import read as read_whatif
+from .typed import shown_safely, without_mark, written_out
+from .words import counted
 
-STRICT_STATUS = 4
+# (what explains, searches, draws and plays again is imported where it is asked for, so that the first prompt comes early)
+if TYPE_CHECKING:
+    from .searches.finder import Finder
+
+# A script to begin with, if it is there.
+EXAMPLE = "examples/lost-insertion.pfl"
 BAD_WORDS = ("bad", "refused")
 # What other programs call a word.
 OTHERS_SAY = {"undo": "back", "redo": "forward", "next": "forward"}
+# The first words of lines in which IPv6 addresses are written out.
+WITH_ADDRESSES = {*helps.SETUP, *helps.COMMANDS, *helps.EVENTS, "why", SEARCH}
 # Outcomes of an event that deserve a look.
 BAD_OUTCOMES = (DROPPED.word, BROKEN.word)
 
@@ -58,24 +57,66 @@ class Shell(Loop):
         self.forms: Set[str] = set()
         # The files being read, newest last.
         self.reading: List[str] = []
-        self.finder = Finder(self)
+        # The lines of the newest reply that no line of a script has repeated yet.
+        self.unrepeated: List[str] = []
+        self._finder: Optional[Finder] = None
+
+    @property
+    def finder(self) -> Finder:
+        """What searches for this shell, and keeps what it found."""
+        from .searches.finder import Finder
+
+        self._finder = self._finder or Finder(self)
+        return self._finder
 
     # ---- the loop
 
     def take(self, lines: Iterable[str], echo: bool) -> bool:
         """Takes lines in turn; returns whether one of them ends the shell."""
+        if isinstance(lines, list):
+            self.lab.try_setup(lines)
         for line in lines:
             if echo:
-                self.show_whole([self.paint.dim(f"> {line}")])
+                self.echo(line)
             if self.onecmd(line):
                 return True
         return False
+
+    def echo(self, line: str) -> None:
+        """Shows a line that was read. At a terminal a comment is folded, and a reply that the script repeats is not shown again."""
+        if not self.is_typed or has_word(line):
+            self.show_whole([self.paint.dim(f"> {self.safe(line)}")])
+        elif not line.startswith(scripts.REPLY) or not self.is_repeated(content_of(line)[len(scripts.REPLY) :]):
+            self.show([self.paint.dim(f"> {self.safe(line)}")])
+
+    def safe(self, text: str) -> str:
+        """A text of somebody else's, which sends a terminal no control characters. Elsewhere it is as it is."""
+        return text if self.columns is None else shown_safely(content_of(text))
+
+    def is_repeated(self, text: str) -> bool:
+        """Whether this is the next line of the newest reply, as it was shown."""
+        return bool(self.unrepeated) and self.unrepeated.pop(0) == text
+
+    def greet(self) -> None:
+        """Says how to begin, where a pair has no setup yet."""
+        if not self.lab.is_open:
+            example = f"`read {EXAMPLE}` shows one; " if os.path.exists(EXAMPLE) else ""
+            self.show([self.paint.dim(f"enter rules, then `open`; {example}`help`")])
+
+    def suggest(self) -> None:
+        """Says what to ask after a file was read at a terminal."""
+        if not self.is_typed or not self.lab.is_open or not self.lab.has_free_looks:
+            return
+        branch = self.branch("")
+        if branch.events:
+            place = branch.cursor or len(branch.events)
+            self.show([self.paint.dim(f"{counted(len(branch.events), 'event')}; try: view, diff, why {place}, chart")])
 
     def onecmd(self, line: str) -> bool:
         """Takes one line; returns whether it ends the shell. If a question fails, that is reported, and nothing has changed."""
         try:
             with self.lab.one_moment():
-                return bool(super().onecmd(line))
+                return bool(super().onecmd(self.written_out(line)))
         except (Stopped, Ended, BrokenPipeError):
             raise
         except SetupFault as fault:
@@ -89,17 +130,30 @@ class Shell(Loop):
             self.fault(f"the shell failed here, but the pair is as it was: {error!r}")
         return False
 
+    def written_out(self, line: str) -> str:
+        """A line with its IPv6 addresses written out, as it is shown then; a line that has none as it is."""
+        if not has_word(line) or line.split()[0] not in WITH_ADDRESSES:
+            return line
+        whole = written_out(line)
+        if whole != line:
+            self.show_whole([self.paint.dim(f"> {self.safe(whole)}")])
+        return whole
+
     def fault(self, text: str) -> None:
         """Reports what could not be done; if faults stop the shell, this one does."""
         self.has_faults = True
-        self.show([self.paint.bad(shortened(text))])
+        self.show([self.paint.bad(self.safe(shortened(text)))])
         if self.strict:
             raise Stopped(text)
 
     def explain(self, line: str, reply: str) -> None:
         """Shows what is wrong with a line. The form of what was meant comes once in a dialogue."""
+        from .reasons.faults import explain_fault
+
         word = line.split()[0]
-        self.show(explain_fault(line, reply, self.columns, self.forms) if word in helps.WORDS else [shortened(unknown_word(word))])
+        known = word in helps.WORDS
+        lines = explain_fault(line, reply, self.columns, self.forms) if known else [shortened(unknown_word(word))]
+        self.show([self.safe(it) for it in lines])
 
     # ---- lines of the language
 
@@ -133,6 +187,7 @@ class Shell(Loop):
     def record(self, asked: Asked) -> None:
         """Shows a line that was asked in a run of its own, in place of what was typed, and takes it with its reply into the script."""
         self.lines.append((asked.line, asked.reply))
+        self.unrepeated = [*asked.reply]
         self.show_whole([self.paint.dim(f"> {asked.line}")])
 
     def setup_line(self, line: str) -> None:
@@ -179,6 +234,7 @@ class Shell(Loop):
         in_use = self.lab.in_use
         reply = self.lab.ask(line)
         self.lines.append((line, tuple(reply)))
+        self.unrepeated = [*reply]
         self.show_whole([self.painted(it) for it in reply])
         if self.lab.in_use != in_use:
             self.show([self.paint.note(f"the branch in use is now {self.lab.in_use}")])
@@ -188,11 +244,16 @@ class Shell(Loop):
         self.has_faults = self.has_faults or words[0] == "bad"
         if self.is_typed and words[0] == "bad":
             self.explain(line, reply[0])
+        elif self.is_typed and self.lab.has_free_looks:
+            from .reasons.why import why_last
+
+            self.show(why_last(self.lab, self.paint, self.columns)[1:2])
         if self.strict:
             raise Stopped(f"`{line}`: {reply[0]}")
         return False
 
     def painted(self, line: str) -> str:
+        line = self.safe(line)
         words = line.split()
         if words[0] in BAD_WORDS or (words[0] == STEP.word and words[1] in BAD_OUTCOMES):
             return self.paint.bad(line)
@@ -255,6 +316,8 @@ class Shell(Loop):
         self.answer(changes.changes(self.lab, branch, number, self.paint))
 
     def do_why(self, words: str) -> None:
+        from .reasons.why import why_ahead, why_event, why_last
+
         said = words.split()
         # An event that has not happened begins with its word, after a branch if one is given.
         begin = next((at for at, word in enumerate(said[:2]) if word in EVENTS), None)
@@ -281,9 +344,17 @@ class Shell(Loop):
         self.finder.take(words.split())
 
     def do_chart(self, words: str) -> None:
+        from .charts.chart import NO_TEXTS, chart
+        from .charts.picture import draw
+        from .charts.text import WIDEST, text as chart_text
+        from .charts.windows import read_asked
+
         asked = read_asked(words.split())
         if asked is None:
             raise Unknown(usage("chart"))
+        if "." in asked.branch:
+            # (no branch has such a name)
+            raise Unknown(f"{asked.branch}: the name of a picture must end in .svg")
         branch, path = self.branch(asked.branch), asked.file
         drawn = chart(self.lab, branch, NO_TEXTS, self.story().forks(branch.name), asked.window)
         if not path:
@@ -354,20 +425,28 @@ class Shell(Loop):
         is_dry = paths[0] in scripts.DRY_RUN
         if not paths[is_dry:]:
             raise Unknown(usage("annotate"))
-        for line in scripts.annotated_all(self.lab.program, paths[is_dry:], is_dry):
+        found = 0
+        for written in annotate(self.lab.program, paths[is_dry:], is_dry):
             # (lines of a script are as they are)
-            (self.show_whole if is_dry else self.show)([line])
+            (self.show_whole if is_dry else self.show)(written.lines)
+            self.show([self.paint.bad(shortened(f"{written.path}: {it}")) for it in written.slips])
+            found += len(written.slips)
+        if found:
+            self.fault(about_slips(found))
 
     def do_read(self, words: str) -> bool:
         path = self.needed(words, "read")
+        lines = lines_of(without_mark(scripts.read(path)))
         if os.path.realpath(path) in self.reading:
             raise Unknown(f"{path} is already being read")
-        lines = lines_of(scripts.read(path))
         self.reading.append(os.path.realpath(path))
         try:
-            return self.take(lines, echo=True)
+            has_ended = self.take(lines, echo=True)
         finally:
             self.reading.pop()
+        if not has_ended and not self.reading:
+            self.suggest()
+        return has_ended
 
     def do_save(self, words: str) -> None:
         path = self.needed(words, "save")
@@ -384,6 +463,9 @@ class Shell(Loop):
         return "".join(f"{text}\n" for line, reply in kept for text in (line, *(f"{scripts.REPLY}{part}" for part in reply)))
 
     def do_whatif(self, words: str) -> None:
+        from .whatif.answers import Counter, answer
+        from .whatif.asked import read as read_whatif
+
         name, asked = read_whatif(words.split())
         counter = Counter(sys.stderr)
         try:
@@ -401,6 +483,9 @@ class Shell(Loop):
             raise KeyboardInterrupt
 
     def do_depends(self, words: str) -> None:
+        from .depends.answers import of_branch
+        from .depends.asked import read as read_depends
+
         name, shows_all = read_depends(words.split())
         self.answer(of_branch(self.lab, self.branch(name), shows_all, self.paint).lines)
 

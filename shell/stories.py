@@ -170,6 +170,7 @@ _CHANGES: Dict[str, Callable[[Story, str, Sequence[str], Sequence[str]], None]] 
 def story_of(lab: Laboratory, script: Sequence[str]) -> Story:
     """Runs a script without faults in a new laboratory, all but its questions; returns its story."""
     story = Story()
+    lab.try_setup(script)
     for line in script:
         if not has_word(line):
             story.comment(line)

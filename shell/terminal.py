@@ -7,12 +7,11 @@ from typing import IO, Callable, Optional, Sequence
 
 from .fitting import fitted, length_of
 from .notes import Notes
+from .paging import PLAIN_TERMINALS
 from .programs import Ended, uninterrupted
 
 # How often, in seconds, to look whether notes have become due.
 PERIOD = 0.1
-# Terminals that do not know the control sequences of a VT100.
-PLAIN_TERMINALS = ("", "dumb", "unknown")
 
 
 def above(lines: Sequence[str], columns: int) -> str:

@@ -6,6 +6,7 @@ from contextlib import contextmanager
 from typing import Callable, Iterator, List, NamedTuple
 
 from ..colours import Paint
+from ..endings import TROUBLE, NotDone
 from .asked import CaptureOptions, Selection
 from .files import BadCapture
 from .pairing import Overlay
@@ -15,14 +16,14 @@ from .story import Story
 from .timeline import Timeline
 from .wording import Times
 
-NOTHING, SOMETHING, TROUBLE = 0, 1, 2
+NOTHING, SOMETHING = 0, 1
 
 
 # How many objects there are more before Python looks for unused ones among them: what is made of messages goes without that.
 _COLLECTED = 200_000
 
 
-class NotRead(Exception):
+class NotRead(NotDone):
     """No capture could be read."""
 
 

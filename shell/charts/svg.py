@@ -1,8 +1,8 @@
 """Elements as the text of an SVG, which needs no fonts and no script."""
 from __future__ import annotations
 
+from html import escape
 from typing import Sequence
-from xml.sax.saxutils import escape
 
 from .elements import BAD, BAND, FAINT, FRAME, GOOD, INK, NONE, NOTE, PAPER, Element, Span, written
 
@@ -17,7 +17,7 @@ def svg(elements: Sequence[Element], width: float, height: float, title: str) ->
     """A whole picture."""
     size = f'viewBox="0 0 {written(width)} {written(height)}" width="{written(width)}" height="{written(height)}"'
     head = f'<svg xmlns="http://www.w3.org/2000/svg" {size} font-family="sans-serif">'
-    return "\n".join([head, f"<title>{escape(title)}</title>", *map(_element, elements), "</svg>", ""])
+    return "\n".join([head, f"<title>{escape(title, False)}</title>", *map(_element, elements), "</svg>", ""])
 
 
 def _element(it: Element) -> str:
@@ -27,9 +27,9 @@ def _element(it: Element) -> str:
 
 
 def _value(key: str, value: str) -> str:
-    return COLOURS[value] if key in _OF_COLOUR else escape(value, {'"': "&quot;"})
+    return COLOURS[value] if key in _OF_COLOUR else escape(value, False).replace('"', "&quot;")
 
 
 def _span(it: Span) -> str:
     bold = ' font-weight="bold"' if it.is_bold else ""
-    return f'<tspan fill="{COLOURS[it.tone]}"{bold}>{escape(it.words)}</tspan>'
+    return f'<tspan fill="{COLOURS[it.tone]}"{bold}>{escape(it.words, False)}</tspan>'

@@ -4,6 +4,7 @@ from __future__ import annotations
 from collections import deque
 from typing import Dict, List, NamedTuple, Sequence
 
+from ..endings import NotDone
 from ..language.names import NODES
 from . import statistics
 from .captures import Say
@@ -11,10 +12,10 @@ from .comparing import Compared, compare
 from .reading import Dump
 from .report import Shown, report
 
-SAME, APART, TROUBLE = 0, 1, 2
+SAME, APART = 0, 1
 
 
-class NothingRead(Exception):
+class NothingRead(NotDone):
     """There is nothing to compare."""
 
 

@@ -5,6 +5,7 @@ import os
 from typing import Dict, List, Mapping, NamedTuple, Optional, Tuple
 
 from .. import scripts
+from ..endings import NotDone
 from ..language.commands import OPEN, SET
 from ..language.lines import has_word
 from ..language.names import NODES
@@ -21,7 +22,7 @@ from .ruling import rules_for
 from .stages import Stage, Timing, stages_of
 
 
-class NotOpened(Exception):
+class NotOpened(NotDone):
     """No script can have the states of the dumps."""
 
 

@@ -2,12 +2,11 @@
 from __future__ import annotations
 
 import sys
-from typing import Iterable, List, Optional
+from typing import TYPE_CHECKING, Iterable, List, Optional
 
-from ..arguments import Words
+from ..endings import STRICT_STATUS
 from ..fitting import columns_of, fitted
 from ..language.names import NODES
-from ..shell import STRICT_STATUS
 from ..stories import legible
 from .firewall import Firewall
 from .importer import imported
@@ -15,6 +14,9 @@ from .judged import Verdict
 from .rc import Rc, of_rc
 from .sources import Sources
 from .writing import first_too_many, report, setup_lines
+
+if TYPE_CHECKING:
+    from ..arguments import Words
 
 
 def carry_out(words: Words) -> int:

@@ -19,10 +19,11 @@ class ScriptOptions(argparse.Namespace):
     data_a: Optional[str]
     data_b: Optional[str]
 
-    def of_nodes(self, kind: str) -> List[Tuple[str, str]]:
-        """The files of a kind, `log` or `data`, each with its node."""
-        files = [(node, getattr(self, f"{kind}_{node}")) for node in NODES]
-        return [(node, path) for node, path in files if path]
+
+def of_nodes(words: ScriptOptions, kind: str) -> List[Tuple[str, str]]:
+    """The files of a kind, `log` or `data`, each with its node."""
+    files = [(node, getattr(words, f"{kind}_{node}")) for node in NODES]
+    return [(node, path) for node, path in files if path]
 
 
 def add_options(words: argparse.ArgumentParser) -> None:
@@ -36,5 +37,5 @@ def add_options(words: argparse.ArgumentParser) -> None:
 
 def script_fault(words: ScriptOptions) -> str:
     """What is wrong with the words, which do not all go together; empty if nothing is."""
-    alone = ["--rules"] * bool(words.rules) + [f"--{kind}-{node}" for kind in ("log", "data") for node, _ in words.of_nodes(kind)]
+    alone = ["--rules"] * bool(words.rules) + [f"--{kind}-{node}" for kind in ("log", "data") for node, _ in of_nodes(words, kind)]
     return f"{alone[0]} goes with {SCRIPT}" if alone and not words.script else ""

@@ -13,7 +13,7 @@ from ..captures.pairing import Overlay
 from ..captures.pflog import LINK, Logged, Passed, logged
 from ..captures.wording import Times
 from ..laboratory import Unknown
-from .asked import SCRIPT, ScriptOptions
+from .asked import SCRIPT, ScriptOptions, of_nodes
 from .happening import Happening
 from .night import Night, Part, night_of
 from .playing import MOST_EVENTS, Playing
@@ -35,7 +35,7 @@ class Captured(NamedTuple):
 
 def infer(words: ScriptOptions, program: str, captures: Sequence[str], captured: Captured, lists_all: bool = False) -> Written:
     """Infers the script. What is too much for one says which words take a part."""
-    sources = Sources(captures, words.of_nodes("log"), words.of_nodes("data"), words.rules or "")
+    sources = Sources(captures, of_nodes(words, "log"), of_nodes(words, "data"), words.rules or "")
     _refuse_own(words.script or "", sources)
     try:
         night = night_of(captured.overlay.sent(), captured.part, captured.times)

@@ -6,8 +6,10 @@ import hashlib
 import json
 import pkgutil
 import re
+from html import escape
 from typing import Dict, List, Mapping, Tuple
-from xml.sax.saxutils import escape
+
+from ..endings import NotDone
 
 TEMPLATE, STYLE, FIRST = "page.html", "page.css", "main.js"
 IMPORT = re.compile(r'^import \{ [^}]+ \} from "\./([\w-]+\.js)";\n', re.M)
@@ -17,13 +19,13 @@ NAMED = re.compile(r"^(?:async )?(?:function|class|const|let) ([A-Za-z_$][\w$]*)
 MARKUP = "<>&"
 
 
-class NotPacked(Exception):
+class NotPacked(NotDone):
     """The page's own files do not fit together."""
 
 
 def page(data: Mapping[str, object], served: bool = False) -> str:
     """The page that shows this data. A served page may ask its server; no page may ask any other."""
-    style, script, title = read(STYLE), packed(), escape(str(data["title"]))
+    style, script, title = read(STYLE), packed(), escape(str(data["title"]), False)
     allowed = policy(style, script, served)
     parts = {
         "<title></title>": f"<title>{title}</title>",

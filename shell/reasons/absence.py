@@ -59,9 +59,10 @@ def _names_of(question: Question) -> List[Name]:
     same far end if rules are known to translate the near one. A state that a frame brought was made by a packet, too."""
     packet = question.packet
     translate = any(it.pool for rules in question.lab.setup.rules.values() for it in rules)
-    # (first a look at the text: there can be many packets)
-    lines = (it for it in enumerate(question.history.lines, 1) if it[1].startswith(f"{PACKET.word} ") and packet.key.far in it[1])
-    packets = ((number, read_packet(line)) for number, line in lines)
+    # (first a look at the text, at the rarer end before all: there can be many packets)
+    far, rarer = packet.key.far, packet.key.far if translate else packet.key.near
+    lines = ((number, line) for number, line in enumerate(question.history.lines, 1) if rarer in line and far in line)
+    packets = ((number, read_packet(line)) for number, line in lines if line.startswith(f"{PACKET.word} "))
     made = (number for number, one in packets if _meets(one, packet) and (translate or one.key == packet.key))
     outcomes = (question.history.explained(it).event.outcome for it in made)
     return list({Name.read(it[1]): None for it in outcomes if it[0] in (PASS.word, HELD_BACK.word) and it[1] != "-"})

@@ -1,21 +1,42 @@
-"""Tests of the shell over the built program: `python3 -m unittest discover -t . -s shell/tests`, with its path in PFL_LAB."""
+"""Tests of everything around the program, over the one that PFL_LAB names or that of this tree: `./test --around` runs them, and
+`python3 -m unittest shell.tests.test_marks` those of one module."""
 from __future__ import annotations
 
 import atexit
 import os
+import sys
+from functools import lru_cache
 from typing import List
 
+from proving.programs import program_of_tree
+from proving.releases import NoRelease
+
+from ..chosen import NoProgram, chosen
 from ..colours import PLAIN
 from ..laboratory import Laboratory
 from ..language.lines import has_word
 from ..reasons.why import why_last
 
 TOP = os.path.dirname(os.path.dirname(os.path.dirname(os.path.realpath(__file__))))
+NO_PROGRAM_STATUS = 125
 
 
 def program() -> str:
-    """The program that the tests run: the one that PFL_LAB names, else the one that `./lab build` makes."""
-    return os.environ.get("PFL_LAB", f"{TOP}/crates/pfl_lab/out/pfl_lab")
+    """The program that the tests run: the one that PFL_LAB names, else that of this tree, as `./lab` chooses it."""
+    return _program(os.environ.get("PFL_LAB", ""))
+
+
+@lru_cache(maxsize=None)
+def _program(_: str) -> str:
+    try:
+        return chosen() or program_of_tree()
+    except NoProgram as why:
+        said = f"{why}"
+    except NoRelease as why:
+        said = f"{why}; ./lab build makes one, and PFL_LAB can name another"
+    print(f"test: {said}", file=sys.stderr, flush=True)
+    # (an exception would be reported once for each test)
+    os._exit(NO_PROGRAM_STATUS)
 
 
 def laboratory(script: str) -> Laboratory:

@@ -81,10 +81,10 @@ class Bridged(unittest.TestCase):
 
     def served(self, pair: Served) -> Door:
         door = self.ends.enter_context(live(program(), 0, pair))
-        thread = threading.Thread(target=watched, args=(door.bridge,))
+        thread = threading.Thread(target=watched, args=(door.bridge,), daemon=True)
         thread.start()
         # (which ends with the session)
-        self.addCleanup(thread.join)
+        self.addCleanup(thread.join, SECONDS)
         self.addCleanup(self.ends.close)
         return door
 

@@ -19,6 +19,8 @@ import unittest
 from http.client import HTTPConnection
 from typing import Any, Dict, List, Optional, Sequence, Tuple
 
+from .children import bounded
+
 PACKAGES = "apt-get install chromium chromium-driver"
 PROGRAMS = ("chromium", "chromedriver")
 ARGUMENTS = ("--headless=new", "--no-sandbox", "--disable-gpu", "--disable-dev-shm-usage", "--window-size=1440,1000", "--no-first-run")
@@ -91,7 +93,8 @@ class Driver:
             start_new_session=True,
         )
         assert self.process.stdout
-        self.port = next((int(it[1]) for it in map(STARTED.search, self.process.stdout) if it), 0)
+        with bounded(self.process):
+            self.port = next((int(it[1]) for it in map(STARTED.search, self.process.stdout) if it), 0)
         if not self.port:
             self.close()
             raise Refused("chromedriver did not start")
@@ -111,7 +114,7 @@ class Driver:
             self.process.wait(10)
         except subprocess.TimeoutExpired:
             os.killpg(self.process.pid, signal.SIGKILL)
-            self.process.wait()
+            self.process.wait(10)
         if self.process.stdout:
             self.process.stdout.close()
         shutil.rmtree(self.folder, ignore_errors=True)

@@ -9,6 +9,7 @@ import unittest
 from typing import List, Optional, Sequence
 
 from . import program
+from .children import SECONDS
 from .servers import RULES, Proved, Server, proved_server, standin_server
 from ..colours import PLAIN
 from ..laboratory import Laboratory
@@ -88,12 +89,14 @@ class Scripted:
         self.asked: List[str] = []
         self._ends = ends
         self._listener = socket.create_server(("127.0.0.1", 0))
+        self._listener.settimeout(SECONDS)
         self.port: int = self._listener.getsockname()[1]
-        self._thread = threading.Thread(target=self._serve, args=(texts,))
+        self._thread = threading.Thread(target=self._serve, args=(texts,), daemon=True)
         self._thread.start()
 
     def _serve(self, texts: Sequence[str]) -> None:
         connection = self._listener.accept()[0]
+        connection.settimeout(SECONDS)
         with contextlib.suppress(ConnectionError), self._listener, connection, connection.makefile("r") as lines:
             for text, line in zip(texts, lines):
                 self.asked.append(line.rstrip("\n"))
@@ -102,4 +105,4 @@ class Scripted:
                 pass
 
     def end(self) -> None:
-        self._thread.join()
+        self._thread.join(SECONDS)

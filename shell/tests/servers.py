@@ -12,6 +12,7 @@ import time
 from typing import IO, Dict, Iterator, List, NamedTuple, Optional, Sequence, Tuple
 
 from . import program
+from .children import bounded
 from ..language.commands import COMMANDS, EVENT
 from ..language.events import plain_event
 from ..language.lines import LONGEST_LINE, has_word, opens
@@ -189,7 +190,8 @@ def proved_server(sessions: int, setup: Sequence[str] = RULES, faults: int = sub
         assert its.stdin and its.stdout
         its.stdin.write("".join(f"{line}\n" for line in setup))
         its.stdin.close()
-        its.stdout.readline()
+        with bounded(its):
+            its.stdout.readline()
         try:
             yield Proved(its, port)
         finally:

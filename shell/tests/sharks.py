@@ -6,7 +6,6 @@ from __future__ import annotations
 
 import ipaddress
 import os
-import shutil
 import struct
 import subprocess
 import unittest
@@ -17,10 +16,10 @@ from typing import Dict, List, NamedTuple, Sequence, Tuple
 from ..language.lines import lines_of
 from ..programs import run_lines
 from . import TOP, program
+from .children import needs
 
 DISSECTOR = f"{TOP}/wireshark/pfsync.lua"
-needs_tshark = unittest.skipUnless(shutil.which("tshark"), "there is no tshark on the path: apt-get install tshark")
-needs_tcpdump = unittest.skipUnless(shutil.which("tcpdump"), "there is no tcpdump on the path: apt-get install tcpdump")
+needs_tshark, needs_tcpdump = needs("tshark"), needs("tcpdump")
 # The head of a pcap with nanoseconds and numbers that begin with the low byte, and the head of each of its packets.
 HEAD, PACKET_HEAD = 24, struct.Struct("<IIII")
 # The headers of Ethernet and of IP before a message.

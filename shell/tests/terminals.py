@@ -13,6 +13,8 @@ import termios
 import time
 from typing import Callable, List, Mapping, Sequence
 
+from .children import take_signals
+
 SECONDS = 30.0
 # Makes standard input the terminal of the session, from which interrupts come, and then becomes another program.
 IN_FRONT = "import fcntl, os, sys, termios; fcntl.ioctl(0, termios.TIOCSCTTY, 0); os.execv(sys.argv[1], sys.argv[1:])"
@@ -105,7 +107,9 @@ class Terminal:
         fcntl.ioctl(its, termios.TIOCSWINSZ, struct.pack("HHHH", rows, columns, 0, 0))
         words = [sys.executable, "-c", IN_FRONT, *words]
         environment = {**os.environ, "TERM": "xterm", "PAGER": "", **more}
-        self.process = subprocess.Popen(words, stdin=its, stdout=its, stderr=its, env=environment, start_new_session=True)
+        self.process = subprocess.Popen(
+            words, stdin=its, stdout=its, stderr=its, env=environment, start_new_session=True, preexec_fn=take_signals
+        )
         os.close(its)
 
     def type(self, keys: str) -> None:
@@ -137,5 +141,5 @@ class Terminal:
 
     def close(self) -> None:
         self.process.kill()
-        self.process.wait()
+        self.process.wait(SECONDS)
         os.close(self.file)

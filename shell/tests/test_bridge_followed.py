@@ -109,7 +109,7 @@ class Followed(Pages):
         mirror = self.shared(door)._mirror
         assert mirror
         mirror.process.kill()
-        mirror.process.wait()
+        mirror.process.wait(10)
         shell.ask("step main flush a")
         self.step(door, "step main deliver 1")
         self.assertEqual([watcher.update()["who"] for _ in range(3)], ["Ann", "another session", "Ann"])

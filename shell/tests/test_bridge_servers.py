@@ -18,6 +18,7 @@ from unittest import mock
 
 from . import TOP, program
 from .bridges import PACKET, PROMPT, Bridged, Data
+from .children import SECONDS, bounded, take_signals
 from .servers import proved_server, standin_server
 from ..laboratory import Unknown
 from ..pages.door import Door
@@ -166,11 +167,8 @@ class Ends(Bridged):
         self.assertEqual(watcher.update(), {"ended": missing})
 
 
-# Whoever runs the tests may have interrupts ignored, as a shell does for what it starts in the background.
 PROGRAM = """
-import signal
 import sys
-signal.signal(signal.SIGINT, signal.default_int_handler)
 sys.path.insert(0, {top!r})
 from shell.pages.live import OPENING, begun, serve
 
@@ -184,8 +182,8 @@ except KeyboardInterrupt:
 class Processes(unittest.TestCase):
     def serving(self, port: int = 0, before: str = "") -> "subprocess.Popen[str]":
         words = [sys.executable, "-c", before + PROGRAM.format(top=TOP, program=program(), port=port)]
-        it = subprocess.Popen(words, stdout=subprocess.PIPE, stderr=subprocess.PIPE, text=True)
-        self.addCleanup(it.communicate)
+        it = subprocess.Popen(words, stdout=subprocess.PIPE, stderr=subprocess.PIPE, text=True, preexec_fn=take_signals)
+        self.addCleanup(it.communicate, timeout=SECONDS)
         self.addCleanup(it.kill)
         return it
 
@@ -193,22 +191,24 @@ class Processes(unittest.TestCase):
         for end in (signal.SIGINT, signal.SIGTERM, signal.SIGHUP):
             its = self.serving()
             assert its.stdout
-            lines = [its.stdout.readline() for _ in range(2)]
+            with bounded(its):
+                lines = [its.stdout.readline() for _ in range(2)]
             self.assertRegex(lines[0], r"^http://127\.0\.0\.1:[0-9]+/[\w-]{22}/ for those who step$")
             self.assertRegex(lines[1], r"^http://127\.0\.0\.1:[0-9]+/[\w-]{22}/ for those who only watch$")
-            with urllib.request.urlopen(f"{lines[1].split()[0]}events?after=0") as events:
+            with urllib.request.urlopen(f"{lines[1].split()[0]}events?after=0", timeout=10) as events:
                 its.send_signal(end)
                 self.assertIn(b'data: {"ended":"the page is no longer served: its bridge was stopped"}', events.read())
-            self.assertEqual((its.wait(5), its.communicate()[1]), (130, ""), end)
+            self.assertEqual((its.wait(5), its.communicate(timeout=5)[1]), (130, ""), end)
 
     def test_a_crowd_takes_no_files_from_the_branches(self) -> None:
         its = self.serving(before="import resource as r\nr.setrlimit(r.RLIMIT_NOFILE, (64, r.getrlimit(r.RLIMIT_NOFILE)[1]))")
         assert its.stdout
-        address = its.stdout.readline().split()[0]
+        with bounded(its):
+            address = its.stdout.readline().split()[0]
         port = int(address.split(":")[2].split("/")[0])
         with contextlib.ExitStack() as ends:
             for _ in range(100):
-                ends.enter_context(socket.create_connection(("127.0.0.1", port)))
+                ends.enter_context(socket.create_connection(("127.0.0.1", port), 5))
             body, kind = b'{"line": "fork main 0 other"}', {"Content-Type": "application/json"}
             with urllib.request.urlopen(urllib.request.Request(f"{address}do", body, kind), timeout=5) as answer:
                 self.assertEqual(json.load(answer)["reply"], ["forked"])

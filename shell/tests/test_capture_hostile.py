@@ -107,7 +107,7 @@ class Hostile(CaptureCase):
         super().setUp()
         # (a new parser for each run would take most of the time)
         kept = parser("./lab")
-        patched = mock.patch(f"{parser.__module__.rpartition('.')[0]}.main.parser", lambda name: kept)
+        patched = mock.patch(f"{parser.__module__.rpartition('.')[0]}.main.parser", lambda *_: kept)
         patched.start()
         self.addCleanup(patched.stop)
 

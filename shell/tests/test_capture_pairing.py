@@ -376,10 +376,10 @@ class OtherCaptures(CaptureCase):
         path = str(self.room / "pipe")
         os.mkfifo(path)
         a, b = both(FIVE)
-        writer = threading.Thread(target=lambda: Path(path).write_bytes(a))
+        writer = threading.Thread(target=lambda: Path(path).write_bytes(a), daemon=True)
         writer.start()
         it = Overlay([path, self.file("B.pcap", b)])
-        writer.join()
+        writer.join(20)
         self.assertEqual(len([*it.sent()]), 6)
 
 

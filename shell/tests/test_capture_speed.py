@@ -30,7 +30,7 @@ class Speed(CaptureCase):
         with open(paths[0], "wb") as a, open(paths[1], "wb") as b:
             lost = write_two((a, b), sizes, 1)
         begun, before = time.monotonic(), resource.getrusage(resource.RUSAGE_CHILDREN)
-        ran = subprocess.run([sys.executable, f"{TOP}/lab", "capture", *paths], capture_output=True, text=True, check=False)
+        ran = subprocess.run([sys.executable, f"{TOP}/lab", "capture", *paths], capture_output=True, text=True, check=False, timeout=600)
         took, after = time.monotonic() - begun, resource.getrusage(resource.RUSAGE_CHILDREN)
         self.assertEqual((ran.returncode, ran.stderr), (1, ""))
         frames = f"{lost} frame{'s' * (lost != 1)} not in the other capture"

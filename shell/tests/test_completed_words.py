@@ -4,13 +4,13 @@ from __future__ import annotations
 import argparse
 import os
 import re
-import shutil
 import subprocess
 import unittest
 from typing import Dict, List, Set
 
 from ..arguments import parser
 from . import TOP
+from .children import needs
 
 COMPLETIONS = f"{TOP}/installing/completions"
 OPTION = re.compile(r"--[a-z]+(?:-[a-z]+)*")
@@ -64,7 +64,7 @@ class Words(unittest.TestCase):
 
     def test_there_are_words(self) -> None:
         self.assertEqual({*OPTIONS["pfl_lab"]}, {"run", "check", "serve"})
-        words = {"shell", "verify", "annotate", "chart", "page", "frames", "whatif", "depends", "compare", "capture", "import"}
+        words = {"shell", "verify", "annotate", "chart", "page", "sheet", "frames", "whatif", "depends", "compare", "capture", "import"}
         self.assertEqual({*OPTIONS["pfl_shell"]}, words)
         self.assertIn("--port", OPTIONS["pfl_lab"]["serve"])
         self.assertIn("--strict", OPTIONS["pfl_shell"]["shell"])
@@ -95,9 +95,8 @@ class Completed(unittest.TestCase):
         self.assertEqual(ran.stderr, "")
         return [it for it in ran.stdout.splitlines() if it]
 
+    @needs("bash")
     def test_bash_completes_words_and_options(self) -> None:
-        if not shutil.which("bash"):
-            return
         for command, options in OPTIONS.items():
             self.assertEqual({*self.completed(command, "")}, {*OWN[command], *options})
             for word, its in options.items():
@@ -105,9 +104,8 @@ class Completed(unittest.TestCase):
         self.assertEqual(self.completed("pfl_lab", "serve", "--sessions", ""), [*"12345678"])
         self.assertEqual(self.completed("pfl_lab", "serve", "--port", ""), [])
 
+    @needs("bash")
     def test_bash_completes_scripts_and_pictures(self) -> None:
-        if not shutil.which("bash"):
-            return
         scripts = sorted(it for it in os.listdir(f"{TOP}/examples") if it.endswith(".pfl"))
         pictures = sorted(it for it in os.listdir(f"{TOP}/examples") if it.endswith(".svg"))
         for words in (("pfl_lab", "run", "<"), ("pfl_shell", "shell"), ("pfl_shell", "verify", "a.pfl"), ("pfl_shell", "chart")):
@@ -116,11 +114,18 @@ class Completed(unittest.TestCase):
         self.assertEqual(self.completed("pfl_shell", "annotate", "conn"), ["connection.pfl"])
         self.assertEqual(sorted(self.completed("pfl_shell", "compare", "README.md", "")), sorted(os.listdir(f"{TOP}/examples")))
 
-    def test_the_shells_read_their_files(self) -> None:
-        for shell, mark in (("bash", ""), ("zsh", "_")):
-            for command in OPTIONS if shutil.which(shell) else ():
-                ran = subprocess.run((shell, "-n", f"{COMPLETIONS}/{shell}/{mark}{command}"), capture_output=True, text=True)
-                self.assertEqual((ran.returncode, ran.stderr), (0, ""))
+    @needs("bash")
+    def test_bash_reads_its_files(self) -> None:
+        self.assert_read("bash", "")
+
+    @needs("zsh")
+    def test_zsh_reads_its_files(self) -> None:
+        self.assert_read("zsh", "_")
+
+    def assert_read(self, shell: str, mark: str) -> None:
+        for command in OPTIONS:
+            ran = subprocess.run((shell, "-n", f"{COMPLETIONS}/{shell}/{mark}{command}"), capture_output=True, text=True, timeout=20)
+            self.assertEqual((ran.returncode, ran.stderr), (0, ""))
 
 
 if __name__ == "__main__":

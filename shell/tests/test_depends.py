@@ -296,7 +296,7 @@ class Command(unittest.TestCase):
         path = "crates/test_cases/data/cases/setup-kernel-alone.pfl"
         status, lines, told = said_by(path, "examples/one-packet.pfl")
         self.assertEqual((status, len(lines)), (2, 3))
-        self.assertRegex(told, rf"\Alab: {path}:\d+: bad \d+ Missing\n\Z")
+        self.assertRegex(told, rf"\Alab: {path}: line 2: the rule of the kernel is missing: .*\n\Z")
 
     def test_what_the_pages_print_is_what_comes(self) -> None:
         found = {}

@@ -375,4 +375,4 @@ class Options(OpeningCase):
         environment = {**os.environ, "PFL_LAB": "/nowhere/pfl_lab"}
         words = [sys.executable, f"{TOP}/lab", "compare", self.file("a", WEB), self.file("b", WEB)]
         for more, status in (((), 0), (("--out", str(self.room / SCRIPT)), 125)):
-            self.assertEqual(subprocess.run([*words, *more], env=environment, capture_output=True).returncode, status)
+            self.assertEqual(subprocess.run([*words, *more], env=environment, capture_output=True, timeout=60).returncode, status)

@@ -184,7 +184,7 @@ class Faults(Room):
         script = self.script([*SETUP, "step main packet", "what"])
         said = self.fault(script, "a.pcap", "b.pcap")
         self.assertEqual(said, self.lab("chart", script)[2])
-        self.assertRegex(said, r"^lab: script.pfl:6: bad .*\nlab: script.pfl:7: bad .*\n$")
+        self.assertRegex(said, r"^lab: script.pfl: line 6: .*\nlab: script.pfl: line 7: .*\n$")
         self.assertEqual(os.listdir(self.room), ["script.pfl"])
 
     def test_files_are_not_written_over_one_another(self) -> None:
@@ -291,7 +291,7 @@ class Dissection(Room):
         script = self.script([*SETUP, QUERY, "step main flush a"])
         self.frames(script, "--pfsync")
         overwriting = "printf '\\223' | dd of=a.pcap bs=1 seek=20 conv=notrunc"
-        subprocess.run(overwriting, shell=True, cwd=self.room, capture_output=True, check=True)
+        subprocess.run(overwriting, shell=True, cwd=self.room, capture_output=True, check=True, timeout=60)
         option = 'uat:user_dlts:"User 0 (DLT=147)","pfsync","0","","0",""'
         self.assertEqual(shark(self.path("a.pcap"), "-o", option, "-T", "fields", "-e", "_ws.col.Info").stdout, "INS 1\n")
 

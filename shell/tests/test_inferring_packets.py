@@ -2,7 +2,6 @@
 from __future__ import annotations
 
 import os
-import shutil
 import struct
 import subprocess
 import tempfile
@@ -13,6 +12,7 @@ from ..captures.carried import Carried, IpPacket, Unread, carried, ip_packet
 from ..captures.files import BadCapture, Packet
 from ..captures.pflog import HEADER, Logged, Passed, logged
 from ..language.packets import PacketEvent
+from .children import needs
 from .nights import Captured, logged as logged_bytes, on_ethernet, pcap
 
 # A SYN of 198.51.100.7:40000 to 192.0.2.80:443 with the number 1000, a window of 64240, and options: MSS 1460, NOP, scale 7.
@@ -128,7 +128,7 @@ class Logs(unittest.TestCase):
         said = "ext.pcap: its link type is 1, and that of a capture of pflog0 is 117; "
         self.assertEqual(f"{said}one of another interface goes with --data-a or --data-b", str(fault.exception))
 
-    @unittest.skipUnless(shutil.which("tcpdump"), "tcpdump is not installed")
+    @needs("tcpdump")
     def test_tcpdump(self) -> None:
         """tcpdump reads the same from the same bytes."""
         event = PacketEvent("b", "in", "tcp", "198.51.100.7:40000", "192.0.2.80:443", 0, "S", 1000, 0, 64240, 7)
@@ -136,5 +136,5 @@ class Logs(unittest.TestCase):
             path = os.path.join(folder, "log.pcap")
             with open(path, "wb") as it:
                 it.write(pcap([Captured(0, logged_bytes(event, 0, 3))], 117))
-            said = subprocess.run(["tcpdump", "-nettr", path], capture_output=True, text=True, check=False).stdout
+            said = subprocess.run(["tcpdump", "-nettr", path], capture_output=True, text=True, check=False, timeout=60).stdout
         self.assertIn("rule 3/0(match): block in on em0: 198.51.100.7.40000 > 192.0.2.80.443: Flags [S]", said)

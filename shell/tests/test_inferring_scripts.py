@@ -369,7 +369,7 @@ class Scripts(Nights):
         self.assertIn("it is a capture of pflog0, which goes with --log-a or --log-b", made.said[0])
 
     def test_words_that_go_with_a_script(self) -> None:
-        ran = subprocess.run([f"{TOP}/lab", "capture", "a.pcap", "--log-b", "x"], capture_output=True, text=True, check=False)
+        ran = subprocess.run([f"{TOP}/lab", "capture", "a.pcap", "--log-b", "x"], capture_output=True, text=True, check=False, timeout=60)
         self.assertEqual((2, "--log-b goes with --script"), (ran.returncode, ran.stderr.strip().splitlines()[-1].split("error: ")[-1]))
 
     def test_other_words_take_it(self) -> None:
@@ -381,12 +381,12 @@ class Scripts(Nights):
         for words in (["annotate", path], ["verify", path], ["page", path, page], ["whatif", path], ["chart", path]):
             ran = self.lab(*words)
             self.assertEqual(0, ran.returncode, f"{words}: {ran.stdout}{ran.stderr}")
-        checked = subprocess.run([program(), "check"], input=made.text, capture_output=True, text=True, check=False)
+        checked = subprocess.run([program(), "check"], input=made.text, capture_output=True, text=True, check=False, timeout=60)
         self.assertEqual((0, f"good {len(made.events)}\n"), (checked.returncode, checked.stdout))
 
     def lab(self, *words: str) -> "subprocess.CompletedProcess[str]":
         environment = {**os.environ, "PFL_LAB": program()}
-        return subprocess.run([sys.executable, f"{TOP}/lab", *words], capture_output=True, text=True, check=False, env=environment)
+        return subprocess.run([sys.executable, f"{TOP}/lab", *words], capture_output=True, text=True, check=False, env=environment, timeout=60)
 
     def test_again(self) -> None:
         """The same captures give the same script."""

@@ -23,6 +23,7 @@ from installing.lists import NotInstalled
 from installing.lists import NAME as LIST
 
 from . import TOP, program
+from .children import take_interrupts
 
 # What stands for the program where what it does is no matter.
 STAND_IN = "#!/bin/sh\necho 'stand-in' \"$@\"\n"
@@ -260,8 +261,7 @@ class Interrupted(Room):
                 self.assertEqual(tree(self.room), before)
 
     def test_a_signal_just_when_a_file_is_made_leaves_no_file(self) -> None:
-        before = signal.signal(signal.SIGINT, signal.default_int_handler)
-        self.addCleanup(signal.signal, signal.SIGINT, before)
+        take_interrupts(self)
         for name in ("tempfile.mkstemp", "os.mkdir"):
             with mock.patch(name, interrupting(name)), self.assertRaises(KeyboardInterrupt):
                 self.install()
@@ -338,8 +338,8 @@ class Command(Room):
         return ran.stderr or ran.stdout
 
     def run_in(self, folder: Path, *words: str, given: str = "", **env: str) -> "subprocess.CompletedProcess[str]":
-        """Runs a command where the environment has nothing but the way to Python, and a home folder."""
-        its = {"PATH": f"{os.path.dirname(sys.executable)}:/usr/bin:/bin", "HOME": str(self.room / "home"), **env}
+        """Runs a command where the environment has nothing but the way to Python, and a home folder, in which it keeps no modules."""
+        its = {"PATH": f"{os.path.dirname(sys.executable)}:/usr/bin:/bin", "HOME": str(self.room / "home"), "PYTHONDONTWRITEBYTECODE": "1", **env}
         return subprocess.run(words, cwd=folder, env=its, input=given, capture_output=True, text=True, timeout=60)
 
     def test_the_shell_needs_no_checkout(self) -> None:

@@ -13,16 +13,20 @@ import unittest
 from typing import Optional
 
 from . import TOP
+from .children import SECONDS, take_interrupts, take_signals
 from .standins import NONE, SETUP, Dialogue, once_it_waits, standin
 
 
 class Interrupts(Dialogue):
+    def setUp(self) -> None:
+        take_interrupts(self)
+
     def test_an_interrupt_ends_the_search_and_not_the_pair(self) -> None:
         path = standin(self, {0: ["none 0 1 1"], 1: ["none 1 3 2"]})
         shell = self.shell(path, is_typed=True)
         thread = once_it_waits(path, lambda: os.kill(os.getpid(), signal.SIGINT))
         said = self.said(shell, "search apart", "names", "take", "flush a")
-        thread.join()
+        thread.join(SECONDS)
         # (the line that was answered last is kept, as every other search)
         self.assertEqual(said[0], "> search main 1 1000000 quiet apart; 8 any deliver; 8 flush a; 8 flush b")
         self.assertEqual(said[1], "interrupted at depth 2; up to depth 1 there is none")
@@ -37,7 +41,7 @@ class Interrupts(Dialogue):
         thread = once_it_waits(path, lambda: os.kill(os.getpid(), signal.SIGINT))
         with self.assertRaises(KeyboardInterrupt):
             self.said(shell, "search main 3 9 apart")
-        thread.join()
+        thread.join(SECONDS)
         self.assertEqual(self.said(shell, "names", "flush a"), ["names main other", "step sent 1 148 dropped 0"])
 
 
@@ -47,7 +51,9 @@ class Command(unittest.TestCase):
     def start(self, path: str, stdin: int, stdout: int, stderr: Optional[int] = None) -> "subprocess.Popen[bytes]":
         env = {**os.environ, "PFL_LAB": path, "PFL_LAB_HISTORY": "", "TERM": "dumb", "NO_COLOR": "1"}
         command = (sys.executable, f"{TOP}/lab", "shell")
-        return subprocess.Popen(command, env=env, start_new_session=True, stdin=stdin, stdout=stdout, stderr=stderr)
+        return subprocess.Popen(
+            command, env=env, start_new_session=True, preexec_fn=take_signals, stdin=stdin, stdout=stdout, stderr=stderr
+        )
 
     def test_on_a_pipe_the_result_alone_is_told(self) -> None:
         given = "\n".join([*SETUP, "search apart", "names"])

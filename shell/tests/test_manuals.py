@@ -2,7 +2,6 @@
 from __future__ import annotations
 
 import re
-import shutil
 import subprocess
 import unittest
 from glob import glob
@@ -10,11 +9,11 @@ from typing import List
 
 from .. import helps, scripts
 from ..installed import NO_PROGRAM_STATUS
-from ..main import INTERRUPTED_STATUS
+from ..endings import INTERRUPTED_STATUS, STRICT_STATUS
 from ..language.faults import LIMIT_FAULTS, LINE_FAULTS, RULE_FAULTS
 from ..language.setups import CLASSES, LIMITS
-from ..shell import STRICT_STATUS
 from . import TOP, program
+from .children import needs
 from .dialogues import printed, typed
 from .test_completed_words import OPTIONS, long_options
 
@@ -163,9 +162,8 @@ class Macros(unittest.TestCase):
             for line in source(page).splitlines():
                 self.assertRegex(line, r"\S$")
 
-    def test_mandoc_warns_of_nothing_where_it_is_there(self) -> None:
-        if not shutil.which("mandoc"):
-            return
+    @needs("mandoc")
+    def test_mandoc_warns_of_nothing(self) -> None:
         for page in PAGES:
             ran = subprocess.run(("mandoc", "-T", "lint", f"{TOP}/docs/man/{page}.1"), capture_output=True, text=True, timeout=20)
             self.assertEqual([it for it in ran.stdout.splitlines() if MISSING not in it], [])

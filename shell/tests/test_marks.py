@@ -35,6 +35,18 @@ class Places(unittest.TestCase):
         self.assertEqual(self.said("back to 4"), ["main has 3 events, so it has no place 4"])
         self.assertEqual(self.said("back to 99999999999"), ["there is no mark 99999999999; `mark` lists them"])
 
+    def test_a_command_without_its_branch_means_the_one_in_use(self) -> None:
+        self.assertEqual(self.said("back 1", "forward 1"), ["> back main 1", "at 2", "> forward main 1", "at 3"])
+        self.assertEqual(self.said("fork 2 two", "use two"), ["> fork main 2 two", "forked"])
+        self.assertEqual(self.said("excise 1", "restore"), ["> excise two 1", "excised", "> restore two", "restored 2"])
+        self.assertEqual(self.said("show")[:2], ["> show two", "branch two events 2 cursor 2"])
+        self.assertEqual(self.said("past 1")[:2], ["> past two 1", "branch two events 2 cursor 1"])
+        self.assertEqual(self.said("back 3"), ["> back two 3", "refused 4 TooFarBack"])
+
+    def test_a_command_of_another_form_is_answered_as_it_is(self) -> None:
+        self.assertEqual(self.said("back main", "drop", "fork main 1"), ["bad 4 Missing"] * 3)
+        self.assertEqual(self.said("back main 1"), ["at 2"])
+
     def test_a_mark_is_found_by_its_name(self) -> None:
         self.assertEqual(self.said("mark"), ["there are no marks; `mark NAME` sets one"])
         self.assertEqual(self.said("mark end", "back main 2", "mark one"), ["end: main, after 3 events", "at 1", "one: main, after 1 event"])

@@ -6,6 +6,7 @@ import threading
 import unittest
 from typing import List
 
+from .children import SECONDS
 from .followers import QUERY, STEP, Followers, ProvedFollowers, shared
 from .servers import LONGEST, MANY, RULES, TOO_LONG_BY_ONE, standin_server
 from ..colours import PLAIN
@@ -57,11 +58,11 @@ class Mirrored(Followers):
                 if at % 5 == 0:
                     lab.show("main")
 
-        threads = [threading.Thread(target=steps, args=(lab, number)) for number, lab in enumerate(labs)]
+        threads = [threading.Thread(target=steps, args=(lab, number), daemon=True) for number, lab in enumerate(labs)]
         for one in threads:
             one.start()
         for one in threads:
-            one.join()
+            one.join(SECONDS)
         shown = [it.ask("show main") for it in labs]
         self.assertEqual(shown, [shown[0]] * 4)
         self.assertEqual(shared(labs[0]).client.ask("show main"), shown[0])

@@ -41,7 +41,7 @@ class Broken(Followers):
         mirror = shared(lab)._mirror
         assert mirror
         mirror.process.kill()
-        mirror.process.wait()
+        mirror.process.wait(10)
 
     def test_one_whose_program_ended(self) -> None:
         lab, said = self.joined(), self.complaints

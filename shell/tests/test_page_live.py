@@ -17,6 +17,7 @@ from typing import Any, List
 from . import TOP, page_cases, program
 from .access_rules import CONTROLS, controls_have_names, tree
 from .browsers import FLAT, Browser
+from .children import bounded, take_signals
 from .page_cases import PLACE, QUERY, RULES, desk_folder
 from .page_probes import FAINT_TEXTS, FOCUSED, LISTEN, PIECES, REACHABLE, SEES_FOCUS
 from .test_page_looks import OVERFLOW, clashes
@@ -50,9 +51,11 @@ class Served:
         with open(path, "w", encoding="utf-8") as file:
             file.write(script)
         command = (sys.executable, f"{TOP}/lab", "page", "--serve", str(port), path)
-        self.process = subprocess.Popen(command, env={**os.environ, "PFL_LAB": program()}, stdout=subprocess.PIPE, text=True)
+        environment = {**os.environ, "PFL_LAB": program()}
+        self.process = subprocess.Popen(command, env=environment, stdout=subprocess.PIPE, text=True, preexec_fn=take_signals)
         assert self.process.stdout
-        self.steps, self.watches = (self.process.stdout.readline().split()[0] for _ in range(2))
+        with bounded(self.process):
+            self.steps, self.watches = (self.process.stdout.readline().split()[0] for _ in range(2))
 
     def begin_again(self) -> None:
         """Has main be what the script made of it, and the branch that a test makes be gone."""

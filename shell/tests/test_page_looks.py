@@ -16,6 +16,7 @@ from .page_probes import CHART_TEXTS, FAINT_TEXTS, PIECES
 
 __all__ = ["setUpModule"]
 
+NO_PDFTOTEXT = "there is no pdftotext on the path: apt-get install poppler-utils"
 WIDTHS = (1440, 1024, 390)
 OVERFLOW = "document.documentElement.scrollWidth - document.documentElement.clientWidth"
 
@@ -140,22 +141,22 @@ class Paper(PageCase):
         self.assertEqual(paper[:5], b"%PDF-")
         self.assertTrue(re.search(rb"/Type\s*/Page\b", paper))
         if not shutil.which("pdftotext"):
-            return
+            self.skipTest(NO_PDFTOTEXT)
         path = f"{desk_folder()}/paper.pdf"
         with open(path, "wb") as it:
             it.write(paper)
-        text = " ".join(subprocess.run(("pdftotext", path, "-"), capture_output=True, text=True, check=True).stdout.split())
+        text = " ".join(subprocess.run(("pdftotext", path, "-"), capture_output=True, text=True, check=True, timeout=60).stdout.split())
         for words in ("A query and its answer", "The second paragraph of what stands before the setup.", "What if the frame is lost?"):
             self.assertIn(words, text)
 
     def pages(self, height: float = 11) -> List[str]:
         """The text of each page as it is laid out, on paper of this height in inches."""
         if not shutil.which("pdftotext"):
-            self.skipTest("there is no pdftotext on the path: apt-get install poppler-utils")
+            self.skipTest(NO_PDFTOTEXT)
         path = f"{desk_folder()}/paper.pdf"
         with open(path, "wb") as it:
             it.write(base64.b64decode(self.browser.cdp("Page.printToPDF", printBackground=False, paperHeight=height)["data"]))
-        return subprocess.run(("pdftotext", "-layout", path, "-"), capture_output=True, text=True, check=True).stdout.split("\f")[:-1]
+        return subprocess.run(("pdftotext", "-layout", path, "-"), capture_output=True, text=True, check=True, timeout=60).stdout.split("\f")[:-1]
 
     def test_prints_all_branches_and_each_event_once(self) -> None:
         self.open(RUN, "#later/2")

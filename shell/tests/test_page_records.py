@@ -10,7 +10,7 @@ from ..branches import Branch
 from ..colours import PLAIN
 from ..diffs import between_nodes
 from ..language.lines import lines_of
-from ..main import faulty_lines
+from ..proofreading import faulty
 from ..pages import record as records
 from ..pages.facts import Facts, Looker
 from ..pages.record import Record
@@ -46,7 +46,7 @@ def whole(record: Record, number: int) -> Facts:
 def scripts_without_faults(pattern: str, each: int) -> List[str]:
     """Every so-many-th of these scripts, if it has no fault."""
     paths = sorted(glob(f"{TOP}/{pattern}"))[::each]
-    return [it for it in paths if not list(faulty_lines(program(), lines_of(read(it))))]
+    return [it for it in paths if not faulty(program(), lines_of(read(it)))]
 
 
 class OfRecords(unittest.TestCase):

@@ -55,12 +55,12 @@ class Shown(unittest.TestCase):
         it.wait_for("setup>")
         it.type("help\r")
         rows = it.wait(lambda rows: rows[-1] == "setup>" and len(rows) > 2)
-        self.assertEqual(rows[1], "Setup, up to `open`")
-        self.assertEqual(rows[4:], ["FRX", "setup>"])
+        self.assertEqual(rows[2], "Setup, up to `open`")
+        self.assertEqual(rows[5:], ["FRX", "setup>"])
         # What fits is printed.
         it.type("help quit\r")
-        rows = it.wait(lambda rows: rows[-1] == "setup>" and len(rows) > 7)
-        self.assertEqual(rows[6:], ["quit", "  ends the shell, as the end of input does", "setup>"])
+        rows = it.wait(lambda rows: rows[-1] == "setup>" and len(rows) > 8)
+        self.assertEqual(rows[7:], ["quit", "  ends the shell, as the end of input does", "setup>"])
 
     def test_less_has_its_options(self) -> None:
         with mock.patch.dict(os.environ):

@@ -76,7 +76,7 @@ class Quotes(unittest.TestCase):
             shutil.copy(f"{TOP}/docs/{it}", self.top / "docs")
 
     def run_it(self, *words: str) -> Tuple[int, str]:
-        ran = subprocess.run((sys.executable, "docs/reading.py", *words), cwd=self.top, capture_output=True, text=True, check=False)
+        ran = subprocess.run((sys.executable, "docs/reading.py", *words), cwd=self.top, capture_output=True, text=True, check=False, timeout=60)
         return ran.returncode, ran.stderr
 
     def change(self, path: str, old: str, new: str) -> None:

@@ -8,6 +8,7 @@ from unittest import mock
 from . import laboratory, reasons
 from ..colours import PLAIN
 from ..laboratory import Unknown
+from ..language.events import read_packet
 from ..reasons.why import why_event, why_last
 
 WALLS = "rule a block any\nrule a pass out\nrule b block any\nrule b pass out\nopen\n"
@@ -655,6 +656,16 @@ class Reasons(unittest.TestCase):
 
     def test_nothing_was_asked(self) -> None:
         self.assertRaises(Unknown, why_last, laboratory("open"), PLAIN)
+
+
+class Many(unittest.TestCase):
+    """A packet after many others."""
+
+    def test_packets_of_other_flows_to_the_same_far_end_are_not_read(self) -> None:
+        others = "".join(QUERY.replace(":1000", f":{port}") for port in range(2000, 2050))
+        with mock.patch("shell.reasons.absence.read_packet", side_effect=read_packet) as reads:
+            its = reasons(WALLS + others + QUERY)
+        self.assertEqual((its[0], reads.call_count), ("no state matched; rule 1 of a (pass out) passed it, and made state 1.51", 0))
 
 
 if __name__ == "__main__":

@@ -21,7 +21,7 @@ NO_CHECKER = ""
 
 def said(*words: str) -> str:
     """The first line that a command writes."""
-    return subprocess.run(words, check=True, capture_output=True, text=True).stdout.partition("\n")[0]
+    return subprocess.run(words, check=True, capture_output=True, text=True, timeout=60).stdout.partition("\n")[0]
 
 
 class Releases(SmallTree):

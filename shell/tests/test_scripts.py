@@ -1,4 +1,4 @@
-"""Scripts beside their replies: what verify tells, and what annotate writes."""
+"""Scripts beside their replies: what verify reports, and what annotate writes and reports."""
 from __future__ import annotations
 
 import os
@@ -6,8 +6,9 @@ import stat
 import tempfile
 import unittest
 from glob import glob
+from typing import List
 
-from .. import scripts
+from .. import annotating, scripts
 from . import TOP, program
 
 RIGHT = """# A story.
@@ -64,7 +65,7 @@ class Verify(unittest.TestCase):
 
     def test_a_script_that_is_not_there_hides_no_other(self) -> None:
         found = scripts.verified(program(), [f"{TOP}/examples/one-packet.pfl", "nowhere.pfl"])
-        self.assertEqual(found.lines, ["nowhere.pfl: No such file or directory", "2 scripts: 1 differs"])
+        self.assertEqual(found.lines, ["nowhere.pfl: No such file or directory", "2 scripts: 1 could not be read"])
 
     def test_lines_of_check_are_compared(self) -> None:
         text = "open\nback main\n#> bad 4 Missing\n#? line 2 bad 4 Missing\n#? good 0\n#= 1\n"
@@ -85,21 +86,25 @@ class Verify(unittest.TestCase):
 
 
 class Annotate(unittest.TestCase):
+    def said(self, *paths: str) -> List[str]:
+        """What a dry run says."""
+        return [line for it in annotating.annotate(program(), paths, is_dry=True) for line in it.lines]
+
     def test_it_writes_what_comes_and_keeps_the_rest(self) -> None:
         bare = "".join(line for line in RIGHT.splitlines(keepends=True) if not line.startswith("#>"))
-        self.assertEqual(scripts.annotated(program(), bare), RIGHT)
-        self.assertEqual(scripts.annotated(program(), RIGHT.replace("1.1", "1.2")), RIGHT)
+        self.assertEqual(annotating.annotated(program(), bare).text, RIGHT)
+        self.assertEqual(annotating.annotated(program(), RIGHT.replace("1.1", "1.2")).text, RIGHT)
 
     def test_it_writes_faults_and_the_status(self) -> None:
         text = "open\nback main\n"
-        self.assertEqual(scripts.annotated(program(), text), "open\nback main\n#> bad 4 Missing\n#= 1\n")
-        self.assertEqual(scripts.annotated(program(), "rule a\n"), "rule a\n#! pfl_lab: setup line 1: line 4\n#= 1\n")
+        self.assertEqual(annotating.annotated(program(), text).text, "open\nback main\n#> bad 4 Missing\n#= 1\n")
+        self.assertEqual(annotating.annotated(program(), "rule a\n").text, "rule a\n#! pfl_lab: setup line 1: line 4\n#= 1\n")
 
     def test_a_run_that_fails_costs_no_replies(self) -> None:
-        with self.assertRaisesRegex(scripts.NotWritten, "setup line 2: line 3"):
-            scripts.annotated(program(), RIGHT.replace("rule a", "rul a"))
+        with self.assertRaisesRegex(scripts.NotWritten, "^line 2: `rul` is no line of a setup .*: the replies that the script has are kept$"):
+            annotating.annotated(program(), RIGHT.replace("rule a", "rul a"))
         with self.assertRaises(scripts.NotWritten):
-            scripts.annotated("/bin/true", RIGHT)
+            annotating.annotated("/bin/true", RIGHT)
 
     def test_a_dry_run_shows_what_would_change_and_writes_nothing(self) -> None:
         with tempfile.TemporaryDirectory() as folder:
@@ -108,15 +113,15 @@ class Annotate(unittest.TestCase):
             scripts.write(path, text)
             scripts.write(right, RIGHT)
             lines = ["@@ -1,3 +1,3 @@", " open", " names", "-#> names other", "\\ No newline at end of file", "+#> names main"]
-            said = [*scripts.annotated_all(program(), [path, right], is_dry=True)]
+            said = self.said(path, right)
             self.assertEqual(said, [f"--- {path}", f"+++ {path}", *lines, f"{path}: replies would be written", f"{right}: as it was"])
             self.assertEqual((scripts.read(path), sorted(os.listdir(folder))), (text, ["case.pfl", "right.pfl"]))
             scripts.write(path, "open\nnames")
-            said = [*scripts.annotated_all(program(), [path], is_dry=True)]
+            said = self.said(path)
             self.assertEqual(said[-4:-1], ["\\ No newline at end of file", "+names", "+#> names main"])
             scripts.write(path, "rule a\nopen\nnames\n")
-            with self.assertRaisesRegex(scripts.NotWritten, "case.pfl: pfl_lab: setup line 1: line 4: nothing is written"):
-                list(scripts.annotated_all(program(), [path], is_dry=True))
+            with self.assertRaisesRegex(scripts.NotWritten, "case.pfl: line 1: expected `pass` or `block`, found nothing: nothing is written"):
+                self.said(path)
 
     def test_the_file_keeps_its_mode_and_nothing_else_is_left(self) -> None:
         with tempfile.TemporaryDirectory() as folder:
@@ -124,10 +129,52 @@ class Annotate(unittest.TestCase):
             with open(path, "w", encoding="utf-8") as it:
                 it.write("open\nnames\n")
             os.chmod(path, 0o640)
-            self.assertTrue(scripts.annotate(program(), path))
-            self.assertFalse(scripts.annotate(program(), path))
+            said = [line for _ in range(2) for it in annotating.annotate(program(), [path]) for line in it.lines]
+            self.assertEqual(said, [f"{path}: replies written", f"{path}: as it was"])
             self.assertEqual(scripts.read(path), "open\nnames\n#> names main\n")
             self.assertEqual((stat.S_IMODE(os.stat(path).st_mode), os.listdir(folder)), (0o640, ["case.pfl"]))
+
+
+class Slips(unittest.TestCase):
+    """Lines that are faulty or refused, and were not before."""
+
+    def slips(self, text: str) -> List[str]:
+        return [str(it) for it in annotating.annotated(program(), text).slips()]
+
+    def test_a_right_script_has_none(self) -> None:
+        self.assertEqual(self.slips(RIGHT), [])
+
+    def test_a_faulty_line_and_a_refused_one_are_reported_with_the_reason(self) -> None:
+        text = "# A story.\nopen\n\nstep main flsh a\nnames\nstep main flush a\nback main 3\nstep main deliver 2\n"
+        self.assertEqual(
+            self.slips(text),
+            [
+                "line 4: `flsh` is no event (did you mean `flush`?)",
+                "line 6: node a has nothing to send: no state is queued, and no request, bulk status or clear is listed",
+                "line 7: 3 events cannot be undone: main has 0 events before the cursor",
+                "line 8: no frame in flight has the ticket 2; in flight: none",
+            ],
+        )
+
+    def test_a_line_that_was_so_before_is_not_reported(self) -> None:
+        text = "open\nstep main flush a\n#> refused 8 Event 2 NothingPending\nstp\n#> bad 3 Unknown\n#= 1\n"
+        self.assertEqual(self.slips(text), [])
+        # (what was refused is faulty now, and another line is refused)
+        slips = self.slips(text.replace("main flush", "main flsh").replace("#= 1\n", "back main 1\n#> at 0\n#= 1\n"))
+        self.assertEqual([it.split(":")[0] for it in slips], ["line 2", "line 6"])
+        self.assertEqual(self.slips(annotating.annotated(program(), "open\nstp\n").text), [])
+
+    def test_a_fault_of_the_setup_is_reported_once(self) -> None:
+        text = "rule a pass any\nrule b pss any\nopen\n"
+        self.assertEqual(self.slips(text), ["line 2: expected `pass` or `block`, found `pss` (did you mean `pass`?)"])
+        self.assertEqual(self.slips(annotating.annotated(program(), text).text), [])
+
+    def test_lines_that_end_with_a_carriage_return(self) -> None:
+        self.assertEqual(self.slips("open\r\nback main 1\r\n"), ["line 2: 1 event cannot be undone: main has 0 events before the cursor"])
+
+    def test_what_is_said_below_them(self) -> None:
+        self.assertEqual(annotating.about_slips(1), "1 line is faulty or refused, and had no such reply before")
+        self.assertEqual(annotating.about_slips(2), "2 lines are faulty or refused, and had no such reply before")
 
 
 if __name__ == "__main__":

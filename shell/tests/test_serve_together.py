@@ -9,6 +9,7 @@ import unittest
 from typing import Collection, Dict, List, Sequence
 
 from . import program
+from .children import SECONDS
 from .followers import STEP
 from .served import End, Served
 from .servers import Server
@@ -193,11 +194,11 @@ class AtOnce(Served):
     def test_one_journal_gives_all_that_each_was_answered(self) -> None:
         port = self.serve(SESSIONS, FEW)
         players = [Player(self.client(port), seed) for seed in range(1, SESSIONS + 1)]
-        threads = [threading.Thread(target=it.play) for it in players]
+        threads = [threading.Thread(target=it.play, daemon=True) for it in players]
         for one in threads:
             one.start()
         for one in threads:
-            one.join()
+            one.join(SECONDS)
         last = players[0].session
         shown, entries = last.ask("show main"), journal(last, SESSIONS * COMMANDS)
         replay = Replay(entries, {commands_of(view) for it in players for view in it.views})

@@ -20,6 +20,7 @@ from ..programs import Ended
 from ..setups import Setup
 from ..shell import Shell, Stopped
 from . import TOP, program
+from .children import bounded, take_signals
 
 SETUP = ["rule a pass out", "rule b pass out", "open"]
 QUERY = "packet a out udp 10.0.0.1:1000 192.0.2.9:53 40"
@@ -297,6 +298,16 @@ class Files(Dialogue):
         for word in ("read", "save", "verify", "annotate", "use"):
             self.assertRegex(self.said(self.shell(), word)[0], f"^usage: {word}")
 
+    def test_a_name_that_no_file_can_have_is_told(self) -> None:
+        told = "'a\\x00b': no file can have this name"
+        for word in ("read", "annotate"):
+            self.assertEqual(self.said(self.shell(), f"{word} a\0b"), [told])
+        self.assertEqual(self.said(self.shell(), "verify a\0b"), [told, "1 script: 1 could not be read"])
+        self.assertEqual(self.said(self.shell(), "open", "save a\0b"), [told])
+
+    def test_a_picture_that_is_none_is_told(self) -> None:
+        self.assertEqual(self.said(self.shell(), "open", "chart out.png"), ["out.png: the name of a picture must end in .svg"])
+
     def test_a_dry_run_of_annotate_writes_nothing(self) -> None:
         shell = self.shell()
         with tempfile.TemporaryDirectory() as folder:
@@ -310,6 +321,22 @@ class Files(Dialogue):
             self.assertEqual(self.said(shell, f"annotate {path}"), [f"{path}: replies written"])
             self.assertEqual(self.said(shell, f"annotate -n {path}"), [f"{path}: as it was"])
         self.assertEqual(self.said(shell, "annotate -n"), ["usage: annotate [--dry-run] FILE.."])
+
+    def test_annotate_reports_slips(self) -> None:
+        shell = self.shell()
+        with tempfile.TemporaryDirectory() as folder:
+            path = f"{folder}/case.pfl"
+            with open(path, "w", encoding="utf-8") as it:
+                it.write("open\nback main 1\n")
+            self.assertEqual(
+                self.said(shell, f"annotate {path}"),
+                [
+                    f"{path}: replies written",
+                    f"{path}: line 2: 1 event cannot be undone: main has 0 events before the cursor",
+                    "1 line is faulty or refused, and had no such reply before",
+                ],
+            )
+        self.assertTrue(shell.has_faults)
 
     def test_a_file_that_reads_itself_is_read_once(self) -> None:
         with tempfile.TemporaryDirectory() as folder:
@@ -325,6 +352,117 @@ class Files(Dialogue):
             path = f"{folder}/saved.pfl"
             self.said(shell, *SETUP, "flsh a", QUERY, "# \udcff", f"save {path}")
             self.assertEqual(self.said(shell, f"verify {path}"), ["1 script: all replies as they say"])
+
+
+class Foreign(Dialogue):
+    """Lines in another form than the program's, and characters that are none for a terminal."""
+
+    def test_ipv6_addresses_are_written_out(self) -> None:
+        one, two = "2001:0db8:0000:0000:0000:0000:0000:0001", "2001:0db8:0000:0000:0000:0000:0000:00ff"
+        shell = self.shell()
+        self.assertEqual(
+            self.said(shell, "rule a pass out from 2001:DB8::/32", "open"),
+            ["> rule a pass out from 2001:0db8:0000:0000:0000:0000:0000:0000/32"],
+        )
+        whole = f"packet a out udp [{one}]:1000 [{two}]:53 60"
+        self.assertEqual(
+            self.said(shell, "packet a out udp [2001:db8::1]:1000 [2001:DB8::FF]:53 60"), [f"> {whole}", "step pass 1.1 dropped 0"]
+        )
+        self.assertEqual(self.said(shell, f"why {whole}")[0], f"{whole}: pass 1.1")
+        self.assertEqual(self.said(shell, "packet a out udp [2001:db8::1::]:1 [::]:5 60")[-1], "bad 5 Number")
+        self.assertEqual(self.said(shell, "# [::1]"), [])
+
+    def test_control_characters_do_not_reach_a_terminal(self) -> None:
+        shell = self.shell()
+        with mock.patch.object(Shell, "columns", 80):
+            self.said(shell, "open")
+            shell.out = io.StringIO()
+            shell.take(["# \x1b[2J\x9b\udc9b\r", "names\r"], echo=True)
+            self.assertEqual(shell.out.getvalue(), "> # \ufffd[2J\ufffd\ufffd\n> names\nnames main\n")
+            self.assertNotIn("\x1b", "".join(self.said(shell, "use \x1b[2J", "frob\x1b[2J", "help \x1b")))
+
+    def test_the_mark_of_utf_8_is_not_read(self) -> None:
+        with tempfile.TemporaryDirectory() as folder:
+            with open(f"{folder}/marked.pfl", "w", encoding="utf-8-sig") as it:
+                it.write("open\nnames\n")
+            self.assertEqual(self.said(self.shell(), f"read {folder}/marked.pfl"), ["> open", "> names", "names main"])
+
+
+class Typed(Dialogue):
+    """What a dialogue at a terminal has besides."""
+
+    def typed(self) -> Shell:
+        shell = self.shell()
+        shell.is_typed = True
+        return shell
+
+    def read(self, text: str, *before: str) -> List[str]:
+        """What is said to a file that is read."""
+        shell = self.typed()
+        self.said(shell, *before)
+        with tempfile.TemporaryDirectory() as folder:
+            with open(f"{folder}/case.pfl", "w", encoding="utf-8") as it:
+                it.write(text)
+            return self.said(shell, f"read {folder}/case.pfl")
+
+    def test_a_reply_that_the_script_repeats_is_shown_once(self) -> None:
+        script = f"# A story.\nstep main {QUERY}\n#> step pass 1.1 dropped 0\nnames\n#> names other\nnames\n#> names main\n#> end\n"
+        self.assertEqual(
+            self.read(script, *SETUP),
+            [
+                *("> # A story.", f"> step main {QUERY}", "step pass 1.1 dropped 0"),
+                *("> names", "names main", "> #> names other", "> names", "names main", "> #> end"),
+                "1 event; try: view, diff, why 1, chart",
+            ],
+        )
+
+    def test_outside_a_dialogue_a_script_is_shown_as_it_is(self) -> None:
+        shell = self.shell()
+        with tempfile.TemporaryDirectory() as folder:
+            with open(f"{folder}/case.pfl", "w", encoding="utf-8") as it:
+                it.write("open\nnames\n#> names main\n")
+            said = self.said(shell, f"read {folder}/case.pfl")
+        self.assertEqual(said, ["> open", "> names", "names main", "> #> names main"])
+
+    def test_a_comment_is_folded(self) -> None:
+        shell = self.typed()
+        with mock.patch.object(Shell, "columns", 24):
+            shell.out = io.StringIO()
+            shell.echo("# One two three four five six.")
+            shell.echo(f"step main {QUERY}")
+        self.assertEqual(
+            shell.out.getvalue().splitlines(), ["> # One two three four", "    five six.", f"> step main {QUERY}"]
+        )
+
+    def test_what_to_ask_after_a_file(self) -> None:
+        self.assertEqual(self.read("names\n", "open")[-1], "names main")
+        self.assertEqual(self.read("back main 1\n", *SETUP, QUERY)[-1], "1 event; try: view, diff, why 1, chart")
+        self.assertEqual(self.read("rule a pass out\n")[-1], "> rule a pass out")
+
+    def test_how_to_begin(self) -> None:
+        shell = self.typed()
+        for folder, wanted in ((TOP, "`read examples/lost-insertion.pfl` shows one; "), (f"{TOP}/docs", "")):
+            before, shell.out = os.getcwd(), io.StringIO()
+            os.chdir(folder)
+            try:
+                shell.greet()
+            finally:
+                os.chdir(before)
+            self.assertEqual(shell.out.getvalue(), f"enter rules, then `open`; {wanted}`help`\n")
+        self.said(shell, "open")
+        shell.out = io.StringIO()
+        shell.greet()
+        self.assertEqual(shell.out.getvalue(), "")
+
+    def test_a_refusal_says_why_at_once(self) -> None:
+        shell = self.typed()
+        self.said(shell, *SETUP)
+        none = "no frame in flight has the ticket 9; in flight: none"
+        self.assertEqual(self.said(shell, "lose 9"), ["refused 8 Event 1 NoSuchFrame", f"  {none}"])
+        self.assertEqual(
+            self.said(shell, "back main 2"), ["refused 4 TooFarBack", "  2 events cannot be undone: main has 0 events before the cursor"]
+        )
+        self.assertEqual(self.said(self.shell(), *SETUP, "lose 9"), ["refused 8 Event 1 NoSuchFrame"])
 
 
 class Strict(Dialogue):
@@ -373,19 +511,41 @@ class Command(unittest.TestCase):
             with open(f"{folder}/setup", "w", encoding="utf-8") as it:
                 it.write("rule c pass\n")
             ran = self.ran("shell", "--port", "9", "--setup", f"{folder}/setup")
-        self.assertEqual((ran.returncode, ran.stderr), (1, "lab: setup line 1: bad 5 Number\n"))
+            self.assertEqual((ran.returncode, ran.stderr), (1, f"lab: {folder}/setup: line 1: expected `a` or `b`, found `c`\n"))
 
     def test_a_picture_has_a_name_of_its_own(self) -> None:
         ran = self.ran("chart", f"{TOP}/examples/one-packet.pfl", f"{TOP}/examples/restart.pfl")
         self.assertEqual(ran.returncode, 2)
         self.assertIn("must end in .svg", ran.stderr)
 
+    def test_options_may_be_between_other_words(self) -> None:
+        with tempfile.TemporaryDirectory() as folder:
+            ran = self.ran("chart", f"{TOP}/examples/two-orders.pfl", "--branch", "other", f"{folder}/other.svg")
+            self.assertEqual((ran.returncode, ran.stderr, os.listdir(folder)), (0, "", ["other.svg"]))
+        ran = self.ran("compare", "nowhere.txt", "--all", "nowhere-too.txt")
+        self.assertEqual((ran.returncode, ran.stderr), (2, "lab: nowhere.txt: No such file or directory\n"))
+
+    def test_a_fault_is_answered_with_the_usage_of_its_own_word(self) -> None:
+        for words, wanted in (
+            (["shell", "--prt", "4000"], "unrecognized arguments: --prt"),
+            (["chart", "one.pfl", "--nots", "one.svg"], "unrecognized arguments: --nots"),
+            (["compare", "one.txt", "--all"], "the following arguments are required: FILE"),
+            (["compare", "one.txt", "two.txt", "--rules", "x"], "--rules and --flow say what the script of --out has, and need --out"),
+            (["page", "one.pfl"], "a page needs SCRIPT and OUT.html, or --serve PORT"),
+            (["shell", "--name", "Ann"], "--name is for the others at a pair, and needs --port or --page"),
+        ):
+            with self.subTest(words):
+                ran = self.ran(*words)
+                self.assertEqual(ran.returncode, 2)
+                self.assertRegex(ran.stderr, f"^usage: .*lab {words[0]} ")
+                self.assertEqual(ran.stderr.splitlines()[-1].partition("error: ")[2], wanted)
+
     def test_a_script_with_faulty_lines_is_not_drawn(self) -> None:
         with tempfile.TemporaryDirectory() as folder:
             with open(f"{folder}/wrong.pfl", "w", encoding="utf-8") as it:
                 it.write("open\n\nstp main flush a\n")
             ran = self.ran("chart", f"{folder}/wrong.pfl")
-            self.assertEqual((ran.returncode, ran.stdout, ran.stderr), (1, "", f"lab: {folder}/wrong.pfl:3: bad 3 Unknown\n"))
+            self.assertEqual((ran.returncode, ran.stdout, ran.stderr), (1, "", f"lab: {folder}/wrong.pfl: line 3: `stp` is no command (did you mean `step`?)\n"))
 
     def test_bytes_that_are_no_text_are_for_the_program_to_judge(self) -> None:
         command = (sys.executable, f"{TOP}/lab", "shell")
@@ -403,7 +563,7 @@ class Command(unittest.TestCase):
     def test_an_interrupt_outside_a_dialogue_ends_it_quietly(self) -> None:
         command = (sys.executable, f"{TOP}/lab", "shell", "--echo")
         environment, pipe = {**os.environ, "PFL_LAB": program()}, subprocess.PIPE
-        with subprocess.Popen(command, env=environment, stdin=pipe, stdout=pipe, stderr=pipe) as ran:
+        with subprocess.Popen(command, env=environment, stdin=pipe, stdout=pipe, stderr=pipe, preexec_fn=take_signals) as ran, bounded(ran):
             assert ran.stdin and ran.stdout and ran.stderr
             ran.stdin.write(b"open\nnames\n" * 3000)
             ran.stdin.flush()
@@ -432,6 +592,20 @@ class Command(unittest.TestCase):
                 ran = self.ran("annotate", option, f"{folder}/bare.pfl")
                 self.assertEqual(ran.stdout.splitlines()[-2:], ["+#> names main", f"{folder}/bare.pfl: replies would be written"])
                 self.assertEqual((ran.stderr, ran.returncode), ("", 0))
+
+    def test_annotate_reports_slips_by_its_status(self) -> None:
+        with tempfile.TemporaryDirectory() as folder:
+            path = f"{folder}/slip.pfl"
+            with open(path, "w", encoding="utf-8") as it:
+                it.write("open\nstep main flsh a\n")
+            said = (
+                f"lab: {path}: line 2: `flsh` is no event (did you mean `flush`?)\n"
+                "lab: 1 line is faulty or refused, and had no such reply before\n"
+            )
+            ran = self.ran("annotate", path)
+            self.assertEqual((ran.stdout, ran.stderr, ran.returncode), (f"{path}: replies written\n", said, 1))
+            ran = self.ran("annotate", path)
+            self.assertEqual((ran.stdout, ran.stderr, ran.returncode), (f"{path}: as it was\n", "", 0))
 
     def ran_by(self, named: str, *words: str) -> "subprocess.CompletedProcess[str]":
         """What `./lab` does where PFL_LAB names this."""
@@ -481,7 +655,8 @@ class Server(Dialogue):
         assert self.server.stdin and self.server.stdout
         self.server.stdin.write("".join(f"{line}\n" for line in SETUP))
         self.server.stdin.close()
-        self.server.stdout.readline()
+        with bounded(self.server):
+            self.server.stdout.readline()
         self.shells = [Shell(Laboratory(program(), self.port), io.StringIO(), PLAIN) for _ in range(2)]
 
     def tearDown(self) -> None:
@@ -527,7 +702,7 @@ class Server(Dialogue):
 
     def test_a_server_that_has_ended_is_told(self) -> None:
         self.server.kill()
-        self.server.wait()
+        self.server.wait(timeout=20)
         with self.assertRaisesRegex(Ended, "the server has ended"):
             self.said(self.shells[0], "names")
 

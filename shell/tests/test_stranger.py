@@ -19,6 +19,7 @@ from typing import Dict, Iterator, List, NamedTuple
 
 from ..pages.server import free_port
 from . import TOP, program
+from .children import SECONDS, bounded, take_signals
 from .dialogues import PROMPT, typed
 
 PAGES = ("README.md", "docs/TUTORIAL.md")
@@ -82,12 +83,12 @@ def played(folder: str) -> str:
     more = {"PFL_LAB": os.path.abspath(program()), "PYTHONPATH": TOP, "PYTHONIOENCODING": "utf-8", "PYTHONDONTWRITEBYTECODE": "1"}
     lines = "".join(f"{it}\n" for it in session())
     words = (sys.executable, "-c", PLAY)
-    return subprocess.run(words, input=lines, cwd=folder, env={**os.environ, **more}, stdout=subprocess.PIPE, encoding="utf-8", check=True).stdout
+    return subprocess.run(words, input=lines, cwd=folder, env={**os.environ, **more}, stdout=subprocess.PIPE, encoding="utf-8", check=True, timeout=SECONDS).stdout
 
 
 def copied(folder: str) -> None:
     """Copies what a clone of the repository has."""
-    found = subprocess.run(("git", "ls-files", "-z"), cwd=TOP, capture_output=True, text=True, check=False)
+    found = subprocess.run(("git", "ls-files", "-z"), cwd=TOP, capture_output=True, text=True, check=False, timeout=SECONDS)
     if found.returncode:
         raise unittest.SkipTest(f"git does not say what a clone has: {found.stderr.strip()}")
     for name in filter(os.path.lexists, (f"{TOP}/{it}" for it in found.stdout.split("\0") if it)):
@@ -114,7 +115,7 @@ class Clone(unittest.TestCase):
 
     def environment(self) -> Dict[str, str]:
         """An environment without the kit, and without a program."""
-        kept = {it: text for it, text in os.environ.items() if not it.startswith("PFL_LAB")}
+        kept = {it: text for it, text in os.environ.items() if not it.startswith(("PFL_LAB", "XDG_"))}
         folders = [it for it in kept["PATH"].split(":") if not os.path.exists(f"{it}/rt")]
         return {**kept, "HOME": self.home, "PATH": ":".join([f"{self.home}/bin", *folders])}
 
@@ -129,8 +130,7 @@ class Clone(unittest.TestCase):
             stderr=subprocess.STDOUT,
             encoding="utf-8",
             start_new_session=True,
-            # (whoever runs the tests in the background has interrupts ignored)
-            preexec_fn=lambda: signal.signal(signal.SIGINT, signal.SIG_DFL),
+            preexec_fn=take_signals,
         )
 
 
@@ -162,7 +162,8 @@ class Stranger(Clone):
         ran = self.start(f"exec {command.line.replace(PORT, str(free_port()))}")
         assert ran.stdout
         try:
-            address = ran.stdout.readline().split()[0]
+            with bounded(ran, PATIENCE):
+                address = ran.stdout.readline().split()[0]
             with urllib.request.urlopen(address, timeout=PATIENCE) as it:
                 self.assertIn(b"<html", it.read())
             os.killpg(ran.pid, signal.SIGINT)
@@ -175,7 +176,7 @@ class Stranger(Clone):
         """Ends what has not ended by itself, with all that it started."""
         if ran.poll() is None:
             os.killpg(ran.pid, signal.SIGKILL)
-            ran.communicate()
+            ran.communicate(timeout=PATIENCE)
 
 
 class Screens(unittest.TestCase):
@@ -189,7 +190,7 @@ class Screens(unittest.TestCase):
         with tempfile.TemporaryDirectory() as folder:
             Path(folder, "night.pfl").write_text(read(f"{TOP}/{PICTURED}").partition(TAKEN_BACK)[0])
             words = (sys.executable, f"{TOP}/lab", "chart", "night.pfl", "night.svg")
-            subprocess.run(words, cwd=folder, env={**os.environ, "PFL_LAB": os.path.abspath(program())}, check=True)
+            subprocess.run(words, cwd=folder, env={**os.environ, "PFL_LAB": os.path.abspath(program())}, check=True, timeout=SECONDS)
             self.assertEqual(read(f"{folder}/night.svg"), read(f"{TOP}/{PICTURE}"))
 
 

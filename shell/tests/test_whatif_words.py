@@ -24,6 +24,7 @@ from ..laboratory import Laboratory
 from ..main import main
 from ..shell import Shell
 from . import TOP, program
+from .children import take_signals
 from .standins import ANSWER, QUERY, SETUP, Dialogue
 
 SCRIPT = "\n".join([*SETUP, *(f"step main {it}" for it in (QUERY, "flush a", "deliver 1", ANSWER)), ""])
@@ -71,14 +72,14 @@ class Command(Written):
 
     def test_what_cannot_be_read_is_named(self) -> None:
         faulty = self.file("faulty.pfl", f"{SCRIPT}step main flsh a\n")
-        self.assertEqual(said_by(faulty), (1, [], f"lab: {faulty}:10: bad 3 Unknown\n"))
-        self.assertEqual(said_by(self.file("empty.pfl", ""))[::2], (1, f"lab: {self.folder}/empty.pfl:0: no open\n"))
+        self.assertEqual(said_by(faulty), (1, [], f"lab: {faulty}: line 10: `flsh` is no event (did you mean `flush`?)\n"))
+        self.assertEqual(said_by(self.file("empty.pfl", ""))[::2], (1, f"lab: {self.folder}/empty.pfl: line 0: the setup ends without a line `open`\n"))
         self.assertEqual(said_by(self.file("none.pfl", "open\n")), (1, [], "lab: main has no events that stand, and so no faults to try\n"))
         self.assertEqual(said_by(f"{self.folder}/no.pfl")[2], f"lab: {self.folder}/no.pfl: No such file or directory\n")
         self.assertEqual(said_by(self.folder)[2], f"lab: {self.folder}: Is a directory\n")
         with open(f"{self.folder}/bytes.pfl", "wb") as it:
             it.write(b"\xff\x00\n")
-        self.assertEqual(said_by(f"{self.folder}/bytes.pfl")[2].split(": ")[-1], "bad 2 NotAscii\n")
+        self.assertRegex(said_by(f"{self.folder}/bytes.pfl")[2], "character 1, .* is neither a tab nor printable ASCII\n$")
 
     def test_a_wrong_option_is_named(self) -> None:
         status, _, told = said_by(self.script, "--faults", "loose")
@@ -93,7 +94,9 @@ class Command(Written):
         ours, its = pty.openpty()
         self.addCleanup(os.close, ours)
         # 50 packets and 50 flushes are left out, two at a time: 100 * 99 / 2 pairs.
-        with subprocess.Popen(command, env=env, stdout=subprocess.PIPE, stderr=its, text=True, start_new_session=True) as ran:
+        with subprocess.Popen(
+            command, env=env, stdout=subprocess.PIPE, stderr=its, text=True, start_new_session=True, preexec_fn=take_signals
+        ) as ran:
             os.close(its)
             shown = ""
             while not re.search(r"[1-9]\d* of 4,950 tried", shown):
@@ -216,7 +219,7 @@ class Word(Dialogue):
                 raise KeyboardInterrupt
 
         shell = self.ready()
-        with patch("shell.shell.Counter", return_value=Mock(side_effect=stop)):
+        with patch("shell.whatif.answers.Counter", return_value=Mock(side_effect=stop)):
             shell.is_typed = True
             said = self.said(shell, "whatif", "names")
             self.assertEqual((said[2], said[-1]), ("interrupted: 2 of 22 were tried", "names main"))

@@ -55,7 +55,8 @@ class SmallTree(unittest.TestCase):
             path.write_text(checker)
             path.chmod(0o755)
         folders = [it for it in env["PATH"].split(":") if not os.path.exists(f"{it}/rt")]
-        return {**env, "PATH": ":".join([str(path.parent), *folders]), "NOTES": str(self.top / "notes")}
+        more = {"NOTES": str(self.top / "notes"), "XDG_CACHE_HOME": str(self.top / "cache")}
+        return {**env, "PATH": ":".join([str(path.parent), *folders]), **more}
 
     def start(self, checker: str, *words: str) -> "subprocess.Popen[str]":
         """Begins one of the repository's own commands."""

@@ -4,10 +4,10 @@ from __future__ import annotations
 import textwrap
 from typing import Iterator, List, NamedTuple, Sequence, Set
 
+from ..annotating import annotated
 from ..colours import PLAIN
 from ..laboratory import Unknown
 from ..language.commands import FORK, MOST_BRANCHES, SHOW, STEP
-from ..scripts import annotated
 from .groups import Group
 from .report import Numbered, change, text_of
 from .tries import Tried
@@ -41,7 +41,7 @@ def with_variants(it: Tried, text: str, taken: Sequence[str], shown: Sequence[Nu
         written.names.append(_name(number, names))
         names.add(written.names[-1])
         lines += [f"{line}\n" for line in _branch(it, written.names[-1], group)]
-    return written._replace(text=annotated(it.player.lab.program, "".join(lines)))
+    return written._replace(text=annotated(it.player.lab.program, "".join(lines)).text)
 
 
 def _name(number: int, taken: Set[str]) -> str:
