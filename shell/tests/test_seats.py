@@ -11,7 +11,7 @@ import sys
 import threading
 import time
 import unittest
-from typing import Iterator, List, Optional
+from typing import Iterator, List, Optional, Tuple
 from unittest import mock
 
 from . import TOP, program
@@ -202,7 +202,8 @@ class Named(AtPage):
     def joining(self, port: int) -> Door:
         return self.served(joined(program(), port, None, io.StringIO()))
 
-    def test_names_come_to_shells_and_to_the_page(self) -> None:
+    def introduced_two(self) -> Tuple[Door, Shell, Shell]:
+        """A page of a server, and the shells of Ann and Bob there, whose names it knows."""
         port = self.join(3)
         clients = [Laboratory(program(), port) for _ in range(2)]
         door = self.joining(port)
@@ -212,7 +213,10 @@ class Named(AtPage):
             lab.join()
             self.assertEqual(introduced(lab, Page(self.address(door)), name, "./lab"), "")
             shells.append(Shell(lab, io.StringIO(), PLAIN, is_typed=True))
-        ann, bob = shells
+        return door, shells[0], shells[1]
+
+    def test_names_come_to_shells_and_to_the_page(self) -> None:
+        door, ann, bob = self.introduced_two()
         watcher = self.watcher(door)
         self.said(ann, QUERY)
         self.assertEqual(watcher.update()["who"], "Ann")
@@ -282,16 +286,7 @@ class Named(AtPage):
         self.assertEqual([introduced(labs[0], None, it, "./lab") for it in ("Ann", "")], [wanted, ""])
 
     def test_names_are_kept_by_those_who_heard_them_when_the_page_has_ended(self) -> None:
-        port = self.join(3)
-        clients = [Laboratory(program(), port) for _ in range(2)]
-        door = self.joining(port)
-        shells = []
-        for name, lab in zip(("Ann", "Bob"), clients):
-            self.ends.callback(lab.close)
-            lab.join()
-            introduced(lab, Page(self.address(door)), name, "./lab")
-            shells.append(Shell(lab, io.StringIO(), PLAIN, is_typed=True))
-        ann, bob = shells
+        door, ann, bob = self.introduced_two()
         self.said(ann, QUERY)
         self.said(bob, "names")
         door.bridge.end("it is over")
