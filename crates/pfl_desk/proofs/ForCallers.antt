@@ -6,7 +6,7 @@ pub use Rattle.pfl_desk.proofs.Lasting.{left-same}
 pub use Rattle.pfl_desk.proofs.NewNodes.{new_node-counts, new_node-is}
 pub use Rattle.pfl_desk.proofs.Putting.{put-node, told-may}
 pub use Rattle.pfl_desk.proofs.Recording.{writes-more, writes-none, writes-then}
-pub use Rattle.pfl_desk.proofs.Settling.{leads_through, settled-answer, went-counted, went-refusal}
+pub use Rattle.pfl_desk.proofs.Settling.{leads_through, went-counted, went-refusal}
 pub use Rattle.pfl_desk.proofs.Taking.{frame_entries, left-next}
 pub use Rattle.pfl_table.proofs.ForCallers as table
 pub use Rattle.pfl_queue.proofs.ForCallers as queue

@@ -1,8 +1,7 @@
 -- What was carried out and is not refused leads back through nodes; what is refused is refused for its points.
-use Rattle.std.specs.Prelude.{◌≡◌, ◌≤◌, ℕ, Bool, true, false, List, [], ◌∷◌, Some, None, Result, Ok, Err, IfOk, OnOk, if◌then◌else◌, refl}
+use Rattle.std.specs.Prelude.{◌≡◌, ◌≤◌, ℕ, Bool, true, false, List, [], ◌∷◌, Some, None, Result, Ok, Err, if◌then◌else◌, refl}
 use Rattle.std.specs.List.{list_any}
 use Rattle.std.proofs.Common.{◌∙◌, ap, sym, subst}
-use Rattle.pfl_base.specs.declared.refusal.Refusal.{Refusal}
 use Rattle.pfl_base.specs.declared.refusal.Refusal.TheVariants.{QueueFull, CountFull}
 use Rattle.pfl_base.specs.Numbers.{greatest}
 use Rattle.pfl_edits.specs.Changes.{Fits, LeadsBack, back}
@@ -80,12 +79,3 @@ went-refusal (Err e) points w =
 pub went-counted : {T : Type 0} (r : Result (T × Bool) Overfull) (t : T) (points : List Node) → Went r points → r ≡ Ok (t, false)
     → list_any is_overcounted points ≡ false
 went-counted {T} r t points w e = let all = subst (λ (q : Result (T × Bool) Overfull). Went q points) e w in sym all.1
-
--- ---- what stands, or was taken back
-
--- what was returned of the node that stands
-pub settled-answer : {T : Type 0} (b m : Node) (tried : Result (T × Bool) Overfull) (P : T → Node → Type 0) → IfOk tried (λ r. P r.0 b)
-    → (result : Result T Refusal) → IfOk result (λ t. tried ≡ Ok (t, false)) → OnOk result (m ≡ b) → IfOk result (λ t. P t m)
-settled-answer b m tried P answer (Ok t) stands kept = let here = subst (λ (q : Result _ Overfull). IfOk q (λ r. P r.0 b)) stands answer
-    in subst (P t) (sym kept) here
-settled-answer b m tried P answer (Err e) stands kept = tt

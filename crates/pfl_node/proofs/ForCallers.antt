@@ -1,4 +1,5 @@
 -- What proofs of other crates may cite of this crate's proofs; the rest of proofs/ is its own.
+pub use Rattle.pfl_node.proofs.Light.{events-light}
 pub use Rattle.pfl_node.proofs.Matched.{judged-fits}
 pub use Rattle.pfl_node.proofs.OneState.{handled-apart, taken-apart}
 pub use Rattle.pfl_track.proofs.ForCallers as track

@@ -11,7 +11,8 @@ pub mod Started
 pub mod Grouped
 pub mod Sent
 pub mod Ready
-pub mod OnePoint
+pub mod Judged
+pub mod Light
 pub mod Cleared
 pub mod Risen
 pub mod Turned

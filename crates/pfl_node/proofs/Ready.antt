@@ -1,7 +1,6 @@
 -- From a node that is ready to one that is ready again: what an event recorded stands, or is taken back.
-use Rattle.std.specs.Prelude.{◌≡◌, ◌≤◌, ℕ, ◌+◌, ◌*◌, Bool, false, List, [], ◌∷◌, ◌++◌, length, map, Option, None, Result, Ok, Err, IfOk, IfErr, OnOk}
+use Rattle.std.specs.Prelude.{◌≡◌, ◌≤◌, ℕ, ◌+◌, ◌*◌, false, List, [], ◌∷◌, ◌++◌, length, map, Result, Ok, Err, IfOk, OnOk}
 use Rattle.std.specs.Prelude.{OnErr, refl}
-use Rattle.std.specs.List.{list_any}
 use Rattle.std.proofs.Common.{◌∙◌, ap, sym, subst, arith}
 use Rattle.pfl_base.specs.declared.refusal.Refusal.{Refusal}
 use Rattle.pfl_edits.specs.Changes.{LeadsBack, back}
@@ -9,14 +8,11 @@ use Rattle.pfl_language.specs.declared.limits.Limits.{Limits}
 use Rattle.pfl_language.specs.Limits.{AreLimits}
 use Rattle.pfl_receive.specs.desk.declared.edit.NodeEdit.{NodeEdit}
 use Rattle.pfl_receive.specs.desk.declared.edit.NodeEdit.TheVariants.{OfState, Moved, OfQueue, OfHeld, Server, Client, Clock, NextId, Push, Count}
-use Rattle.pfl_receive.specs.desk.declared.parts.judge.Overfull.{Overfull}
 use Rattle.pfl_receive.specs.desk.Drafts.{Draft, Writes, AllRecorded, began}
 use Rattle.pfl_receive.specs.desk.Edits.{Finds, put_back, NodeLeadsBack, NodeRecorded}
 use Rattle.pfl_receive.specs.desk.inner.Drafting.{most_room}
-use Rattle.pfl_receive.specs.desk.inner.Judging.{Went, judgement}
-use Rattle.pfl_receive.specs.desk.Nodes.{Node, AreParts, IsNode, IsRefusal, is_overcounted, points_refusal}
-use Rattle.pfl_receive.proofs.ForCallers.desk.{leads_through, went-refusal, went-counted}
-pub use Rattle.pfl_receive.proofs.ForCallers.desk.{settled-answer}
+use Rattle.pfl_receive.specs.desk.Nodes.{Node, AreParts, IsNode, is_overcounted}
+use Rattle.pfl_receive.proofs.ForCallers.desk.{leads_through}
 use Rattle.pfl_receive.specs.inner.Delivering.{frame_room}
 use Rattle.pfl_node.specs.Weights.{packet_edits}
 use Rattle.pfl_node.specs.inner.Room.{IsReady, most_edits}
@@ -130,56 +126,6 @@ module _ {T W : Type 0} (of : NodeEdit → W) (before after : List W) (k : ℕ) 
         unchanged = same;
         recorded = tt;
       }
-
--- the same of an event that went through these points
-pub record Settled {T W : Type 0} (of : NodeEdit → W) (k : ℕ) (n : Node) (d : Draft) (points : List Node) (before after : List W)
-    (result : Result T Refusal) : Type 0 where
-  pub node : IsNode d.node
-  pub ready : IsReady d.node.limits d.edits
-  pub refused : IfErr result (IsRefusal (points_refusal points))
-  pub unchanged : OnErr result (d.node ≡ n)
-  pub not_refused : OnOk result (points_refusal points ≡ None)
-  pub recorded : OnOk result (NodeRecorded of k n d.node before after)
-
--- an event that was carried out to the node n may be judged: where it says that no number was too high, none is in the end
-pub may-settle : {T : Type 0} (n : Node) (tried : Result (T × Bool) Overfull) (points : List Node) → Went tried points
-    → ((t : T) → tried ≡ Ok (t, false) → list_any is_overcounted points ≡ false → is_overcounted n ≡ false)
-    → IfOk tried (λ r. r.1 ≡ false → is_overcounted n ≡ false)
-may-settle n (Ok r) points went counted = λ low. counted r.0 (λ i. Ok (r.0, low i)) (went-counted (Ok r) r.0 points went (λ i. Ok (r.0, low i)))
-may-settle n (Err e) points went counted = tt
-
-module _ {T W : Type 0} (of : NodeEdit → W) (before after : List W) (k : ℕ) (a b d : Draft) (tried : Result (T × Bool) Overfull) (points : List Node)
-    (is : IsNode a.node) (ready : IsReady a.node.limits a.edits) (writes : Writes k a b) (went : Went tried points) (counted : (t : T)
-    → tried ≡ Ok (t, false) → list_any is_overcounted points ≡ false → is_overcounted b.node ≡ false)
-    (none : d.edits.list ≡ []) (room : d.edits.spare ≡ b.edits.spare + length b.edits.list) where
-  why : (result : Result T Refusal) → IfErr result (IsRefusal (judgement tried)) → IfErr result (IsRefusal (points_refusal points))
-  why (Ok t) refused = tt
-  why (Err e) refused = subst (λ (o : Option Refusal). IsRefusal o e) (sym (went-refusal tried points went)) refused
-
-  free : (result : Result T Refusal) → IfOk result (λ t. tried ≡ Ok (t, false)) → OnOk result (points_refusal points ≡ None)
-  free (Ok t) stands = went-refusal tried points went ∙ ap (λ (q : Result (T × Bool) Overfull). judgement q) stands
-  free (Err e) stands = tt
-
-  pub settled : (result : Result T Refusal) → IfErr result (IsRefusal (judgement tried)) → OnErr result (d.node ≡ began b)
-      → IfOk result (λ t. tried ≡ Ok (t, false)) → OnOk result (d.node ≡ b.node) → OnOk result (AreParts d.node)
-      → OnOk result (AllRecorded of b d.node before after) → Settled of k a.node d points before after result
-  settled result refused undone stands kept parts recorded =
-      let all = concluded of before after k a b d (λ t. tried ≡ Ok (t, false)) is ready writes
-      (λ t stood. counted t stood (went-counted tried t points went stood)) none room result undone stands kept parts recorded in
-      record {
-        node = all.node;
-        ready = all.ready;
-        refused = why result refused;
-        unchanged = all.unchanged;
-        not_refused = free result stands;
-        recorded = all.recorded;
-      }
-
--- what was recorded is no more than any larger number either
-pub wider : {W : Type 0} (of : NodeEdit → W) (j k : ℕ) (m n : Node) (before after : List W) → NodeRecorded of j m n before after → j ≤ k
-    → NodeRecorded of k m n before after
-wider of j k m n before after r less = let few =
-    r.few in record { edits = r.edits; appended = r.appended; leads_back = r.leads_back; few = omega (arith, few, less) }
 
 -- ---- an event whose edits are recorded alone
 

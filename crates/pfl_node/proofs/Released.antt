@@ -1,12 +1,11 @@
 -- A release lets the oldest packet go that is due, and then releases.
 use Rattle.std.specs.Prelude.{◌≡◌, ◌≤◌, ◌<◌, ℕ, ◌+◌, ◌*◌, length, map, filter, not, nat_le, Bool, true, false, List, [], ◌∷◌, Option, Some, None}
-use Rattle.std.specs.Prelude.{is_some, if◌then◌else◌, Result, Ok, Err, IfOk, OnOk, refl}
+use Rattle.std.specs.Prelude.{is_some, if◌then◌else◌, refl}
 use Rattle.std.specs.List.{AllByRecursion, IsDistinct, fold, slice_get}
 use Rattle.std.specs.Option.{option_map_or}
 use Rattle.std.proofs.Common.{cond, ◌∙◌, ap, sym, subst, arith}
 use Rattle.std.proofs.lemmas.List.{length-map}
 use Rattle.std.proofs.lemmas.Map.Keys.{IsDistinct-head, IsDistinct-tail}
-use Rattle.pfl_base.specs.declared.refusal.Refusal.{Refusal}
 use Rattle.pfl_base.specs.declared.state_name.StateName.{StateName}
 use Rattle.pfl_base.specs.Names.{is_name}
 use Rattle.pfl_base.proofs.ForCallers.{is_name-itself}
@@ -18,8 +17,7 @@ use Rattle.pfl_track.specs.declared.state.State.{State}
 use Rattle.pfl_language.specs.declared.limits.Limits.{Limits}
 use Rattle.pfl_receive.specs.desk.Changes.{count_freed, without_held, freed, not_waiting, put_state, released}
 use Rattle.pfl_receive.specs.desk.Drafts.{Draft, Writes}
-use Rattle.pfl_receive.specs.desk.inner.Judging.{judged_as}
-use Rattle.pfl_receive.specs.desk.Nodes.{Node, AreParts, is_overcounted}
+use Rattle.pfl_receive.specs.desk.Nodes.{Node, AreParts}
 use Rattle.pfl_receive.proofs.ForCallers.desk.{writes-none, writes-then, writes-more}
 use Rattle.pfl_node.specs.Releasing.{due_names, released_due}
 
@@ -197,12 +195,3 @@ released-done a b count so none =
     }
 
 -- ---- how a release is judged
-
--- what stands counts nothing too high
-pub judged-low : (m : Node) (judged : Result ℕ Refusal) → OnOk judged (is_overcounted m ≡ false) → (count : ℕ) → judged ≡ Ok count → is_overcounted m ≡ false
-judged-low m judged low count stands = subst (λ (q : Result ℕ Refusal). OnOk q (is_overcounted m ≡ false)) stands low
-
--- and is not refused
-pub judged-none : (judged : Result ℕ Refusal) (result : Result ℕ Refusal) → IfOk result (λ k. judged ≡ Ok k) → OnOk result (judged_as judged ≡ None)
-judged-none judged (Ok r) stands = ap (λ (q : Result ℕ Refusal). judged_as q) stands
-judged-none judged (Err e) stands = tt

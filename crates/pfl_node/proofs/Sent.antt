@@ -22,9 +22,9 @@ use Rattle.pfl_receive.specs.queue.Taking.{in_turn, gone, left_by, next_frame}
 use Rattle.pfl_receive.proofs.ForCallers.queue.{frame_carries, pending-in_turn, Stands, frame_stands, frame_begins, frame_fits}
 use Rattle.pfl_receive.specs.desk.Drafts.{Draft, Writes}
 use Rattle.pfl_receive.specs.desk.Nodes.{Node, AreParts, IsRefusal, is_overcounted}
-use Rattle.pfl_receive.specs.desk.inner.Judging.{judged_as}
 use Rattle.pfl_receive.specs.desk.Changes.{put_state}
 use Rattle.pfl_node.specs.Flushing.{frame_of, flushed, update_count_cleared, send_refusal}
+use Rattle.pfl_node.specs.inner.Carried.{Does}
 use Rattle.pfl_node.specs.inner.Sending.{IsTold, frame_with}
 use Rattle.pfl_receive.specs.desk.inner.Taking.{taken_from}
 use Rattle.pfl_receive.proofs.ForCallers.desk.{frame_entries, left-next, writes-none, writes-then, writes-more}
@@ -162,7 +162,7 @@ bare-all n [] = refl
 bare-all n (e ∷ es) = bare-all (update_count_cleared n e) es ∙ bare-cleared n e
 
 -- a frame counts nothing
-pub flushed-counted : (n m : Node) → m ≡ flushed n → is_overcounted n ≡ false → is_overcounted m ≡ false
+flushed-counted : (n m : Node) → m ≡ flushed n → is_overcounted n ≡ false → is_overcounted m ≡ false
 unfolding flushed
 flushed-counted n m same low =
     let q = left_by n.queue (frame_entries n) in
@@ -172,34 +172,26 @@ flushed-counted n m same low =
 
 -- ---- how a flush ends
 
-pub flushed-ends : {T : Type 0} (n m : Node) (sent : Result T Refusal) → is_overcounted n ≡ false → OnOk sent (m ≡ flushed n) → (t : T)
-    → sent ≡ Ok t → is_overcounted m ≡ false
-flushed-ends {T} n m sent low node t stands = let same = subst (λ (q : Result T Refusal). OnOk q (m ≡ flushed n)) stands node in flushed-counted n m same low
-
--- so what was sent may stand
-pub flushed-counts : {T : Type 0} (n m : Node) (sent : Result T Refusal) → is_overcounted n ≡ false → OnOk sent (m ≡ flushed n)
-    → OnOk sent (is_overcounted m ≡ false)
-flushed-counts n m (Ok t) low node = flushed-counted n m node low
-flushed-counts n m (Err e) low node = tt
-
--- only want of memory refuses it then
-pub wants-memory : {T U : Type 0} (sent : Result T Refusal) → IfErr sent (λ e. e ≡ NoMemory) → (result : Result U Refusal)
-    → IfErr result (IsRefusal (judged_as sent)) → IfErr result (IsRefusal None)
-wants-memory sent memory (Ok r) refused = tt
-wants-memory (Ok t) memory (Err e) refused = refused
-wants-memory (Err f) memory (Err e) refused = refused ∙ memory
-
--- what was returned stands
-pub sent-answer : {T : Type 0} (sent : Result T Refusal) (P : T → Type 0) → IfOk sent P → (result : Result T Refusal)
-    → IfOk result (λ t. sent ≡ Ok t) → IfOk result P
-sent-answer {T} sent P answer (Ok r) stands = subst (λ (q : Result T Refusal). IfOk q P) stands answer
-sent-answer sent P answer (Err e) stands = tt
-
--- and so does the node
-pub sent-node : {T : Type 0} (n b m : Node) (sent : Result T Refusal) → OnOk sent (b ≡ flushed n) → (result : Result T Refusal)
-    → IfOk result (λ t. sent ≡ Ok t) → OnOk result (m ≡ b) → OnOk result (m ≡ flushed n)
-sent-node {T} n b m sent node (Ok r) stands kept = let here = subst (λ (q : Result T Refusal). OnOk q (b ≡ flushed n)) stands node in kept ∙ here
-sent-node n b m sent node (Err e) stands kept = tt
+-- only want of memory refuses a frame that has something to carry
+pub sent-does : {T : Type 0} (a b : Draft) (sent : Result T Refusal) (k : ℕ) (IsAnswer : T → Type 0) → is_overcounted a.node ≡ false
+    → send_refusal a.node ≡ None → IfErr sent (λ e. e ≡ NoMemory) → OnOk sent (b.node ≡ flushed a.node) → IfOk sent IsAnswer → Writes k a b
+    → Does k (send_refusal a.node) (flushed a.node) IsAnswer sent a b
+sent-does a b (Ok t) k IsAnswer low free memory node answer writes = record {
+  refused = tt;
+  not_refused = free;
+  node = node;
+  answer = answer;
+  counted = flushed-counted a.node b.node node low;
+  writes = writes;
+}
+sent-does a b (Err e) k IsAnswer low free memory node answer writes = record {
+  refused = subst (λ (o : Option Refusal). IsRefusal o e) (sym free) memory;
+  not_refused = tt;
+  node = tt;
+  answer = tt;
+  counted = tt;
+  writes = writes;
+}
 
 pub where_ok : {P T : Type 0} (result : Result T Refusal) → P → OnOk result P
 where_ok (Ok r) p = p

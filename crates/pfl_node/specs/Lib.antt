@@ -11,6 +11,7 @@ pub mod Turning
 pub mod Retrying
 pub mod Delivering
 pub mod Stepping
+pub mod Calls
 pub mod Events
 pub mod Laws
 pub mod inner

@@ -6,16 +6,17 @@ use Rattle.pfl_language.specs.declared.node_event.NodeEvent.{NodeEvent}
 use Rattle.pfl_language.specs.declared.node_event.NodeEvent.TheVariants as event
 use Rattle.pfl_language.specs.declared.node_event.NodeOutcome.{NodeOutcome}
 use Rattle.pfl_receive.specs.desk.Nodes.{Node, unless_refused}
+use Rattle.pfl_receive.specs.desk.Weights.{deleted_edits}
 use Rattle.pfl_node.specs.Meanings.{NodeMeaning}
-use Rattle.pfl_node.specs.Clearing.{clear_meaning}
+use Rattle.pfl_node.specs.Clearing.{clear_edits, clear_meaning}
 use Rattle.pfl_node.specs.Killing.{kill_meaning}
 use Rattle.pfl_node.specs.Packets.{packet_meaning}
-use Rattle.pfl_node.specs.Purging.{purge_meaning}
-use Rattle.pfl_node.specs.Releasing.{release_meaning}
+use Rattle.pfl_node.specs.Purging.{purge_edits, purge_meaning}
+use Rattle.pfl_node.specs.Releasing.{release_edits, release_meaning}
 use Rattle.pfl_node.specs.Retrying.{retry_meaning}
 use Rattle.pfl_node.specs.Ticking.{tick_meaning}
-use Rattle.pfl_node.specs.Turning.{turn_meaning}
-use Rattle.pfl_node.specs.Weights.{edits_for}
+use Rattle.pfl_node.specs.Turning.{turn_edits, turn_meaning}
+use Rattle.pfl_node.specs.Weights.{edits_for, packet_edits, retried_edits, ticked_edits}
 
 -- what an event means
 abbrev pub node_meaning : Node → NodeEvent → NodeMeaning
@@ -56,3 +57,14 @@ node_work n e = (node_meaning n e).work
 -- an event takes at most this many edits
 abbrev pub node_weight : Node → NodeEvent → ℕ
 node_weight n e = edits_for (node_work n e)
+
+-- and each kind of event at most this many
+abbrev pub node_edits : Node → NodeEvent → ℕ
+node_edits n (event.Packet dir p) = packet_edits
+node_edits n (event.Tick ms) = ticked_edits
+node_edits n event.Purge = purge_edits n
+node_edits n event.Release = release_edits n
+node_edits n (event.Kill name) = deleted_edits
+node_edits n event.Clear = clear_edits n
+node_edits n event.BulkTurn = turn_edits n
+node_edits n event.BulkRetry = retried_edits

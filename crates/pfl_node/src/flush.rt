@@ -3,67 +3,37 @@
 mod frame;
 
 ghost use Rattle.std.specs.List.{fold};
-ghost use Rattle.std.specs.Prelude.{◌≡◌, ◌≤◌, ◌<◌, ◌+◌, ◌*◌, None, false, IfOk, IfErr, OnOk, OnErr, length};
+ghost use Rattle.std.specs.Prelude.{◌≡◌, ◌≤◌, ◌<◌, ◌+◌, ◌*◌, false, IfOk, IfErr, OnOk, length};
+ghost use Rattle.pfl_node.specs.Calls.{NodeGives};
+ghost use Rattle.pfl_node.specs.inner.Carried.{Does, IsIdle};
 ghost use Rattle.pfl_base.specs.declared.refusal.Refusal.TheVariants as refusal;
 ghost use Rattle.pfl_receive.specs.desk.Drafts.{Writes};
-ghost use Rattle.pfl_receive.specs.desk.Edits.{NodeLeadsBack, NodeRecorded};
 ghost use Rattle.pfl_node.specs.Flushing as flushing;
-ghost use Rattle.pfl_receive.specs.desk.Nodes.{Node as Whole, AreParts, IsRefusal};
+ghost use Rattle.pfl_receive.specs.desk.Nodes.{Node as Whole, AreParts};
 ghost use Rattle.pfl_receive.specs.desk.inner.Taking.{taken_from};
 ghost use Rattle.pfl_receive.specs.queue.Taking.{next_frame};
 ghost use Rattle.pfl_wire.specs.Spelling.{spelling};
-ghost use Rattle.pfl_node.specs.Weights.{sent_edits};
 
 use crate::flush::frame::bytes_of;
 use crate::node::Node;
 use pfl_base::Refusal;
-use pfl_edits::{Change, NoMemory, OfPart, Recorder};
+use pfl_edits::{Change, NoMemory};
 use pfl_receive::{Desk, Entry, NodeEdit};
 use std::alloc::Allocator;
 
 impl<A: Allocator + Copy> Node<A> {
     /// Sends one frame, the longest prefix of what is pending that fits, and returns its bytes. Where something is pending, there
     /// is room for at least one entry.
-    #[tactic(auto, using(crate::proofs::Ready::alone))]
     pub fn flush(&mut self) -> Result<(Vec<u8, A>, Change<NodeEdit, A>), Refusal>
-        ensures refused { IfErr result (IsRefusal (flushing.send_refusal self.old)) }
-        ensures unchanged { OnErr result (self.new ≡ self.old) }
-        ensures not_refused { OnOk result (flushing.send_refusal self.old ≡ None) }
-        ensures node { OnOk result (self.new ≡ flushing.flushed self.old) }
-        ensures bytes { IfOk result (λ r. r.0.items ≡ spelling (flushing.frame_of self.old)) }
+        ensures gives { NodeGives (flushing.flush_edits self.old) (flushing.send_refusal self.old) (flushing.flushed self.old)
+            (λ bytes. bytes.items ≡ spelling (flushing.frame_of self.old)) result self.old self.new }
         ensures fits { IfOk result (λ r. length r.0.items ≤ self.old.limits.mtu) }
         ensures carries { OnOk result (0 < length (next_frame self.old.queue self.old.limits.mtu)) }
-        ensures leads_back { IfOk result (λ r. NodeLeadsBack r.1.list self.old self.new) }
-        ensures weight { IfOk result (λ r. length r.1.list ≤ 1 + sent_edits * length (next_frame self.old.queue self.old.limits.mtu)) }
     {
         let mut edits = Change::new(self.alloc);
-        let bytes = self.flush_on((), &mut edits)?;
+        let done = send_next(&mut self.desk, self.alloc);
+        let bytes = self.desk.conclude(done, (), &mut edits)?;
         Ok((bytes, edits))
-    }
-
-    /// As `flush`, with its edits recorded in `to`, as edits of a part.
-    pub fn flush_on<W: OfPart<NodeEdit>, R: Recorder<W>>(
-        &mut self,
-        part: W::Part,
-        to: &mut R,
-    ) -> Result<Vec<u8, A>, Refusal>
-        ensures refused { IfErr result (IsRefusal (flushing.send_refusal self.old)) }
-        ensures unchanged { OnErr result (self.new ≡ self.old) }
-        ensures untaken { OnErr result (R.list to.new ≡ R.list to.old) }
-        ensures not_refused { OnOk result (flushing.send_refusal self.old ≡ None) }
-        ensures node { OnOk result (self.new ≡ flushing.flushed self.old) }
-        ensures bytes { IfOk result (λ bytes. bytes.items ≡ spelling (flushing.frame_of self.old)) }
-        ensures fits { IfOk result (λ bytes. length bytes.items ≤ self.old.limits.mtu) }
-        ensures carries { OnOk result (0 < length (next_frame self.old.queue self.old.limits.mtu)) }
-        ensures recorded { OnOk result (NodeRecorded (W.of part) (flushing.flush_edits self.old) self.old self.new (R.list to.old) (R.list to.new)) }
-        ensures one_more { OnOk result (0 < R.spare to.new) }
-        ensures total { R.spare to.old + length (R.list to.old) ≤ R.spare to.new + length (R.list to.new) }
-    {
-        if let Some(refusal) = self.send_refusal() {
-            return Err(refusal);
-        }
-        let sent = send(&mut self.desk, self.alloc);
-        self.desk.conclude(sent, part, to)
     }
 }
 
@@ -77,6 +47,20 @@ impl<A: Allocator> Node<A> {
         }
         None
     }
+}
+
+/// Sends the next frame, where something is pending.
+fn send_next<A: Allocator + Copy>(desk: &mut Desk<A>, alloc: A) -> Result<Vec<u8, A>, Refusal>
+    requires idle { IsIdle desk.old }
+    ensures does { Does (flushing.flush_edits desk.old.node) (flushing.send_refusal desk.old.node) (flushing.flushed desk.old.node)
+        (λ bytes. bytes.items ≡ spelling (flushing.frame_of desk.old.node)) result desk.old desk.new }
+    ensures fits { IfOk result (λ bytes. length bytes.items ≤ desk.old.node.limits.mtu) }
+    ensures carries { OnOk result (0 < length (next_frame desk.old.node.queue desk.old.node.limits.mtu)) }
+{
+    if desk.queue().is_empty() {
+        return Err(Refusal::NothingPending);
+    }
+    send(desk, alloc)
 }
 
 /// Sends the next frame, which may be empty. It is refused only where there is no memory for it.

@@ -1,6 +1,7 @@
 //! One node of the pair, and the events that happen at it (pf.c, if_pfsync.c).
 #![tactic(auto)]
 
+mod alone;
 mod clear;
 mod flush;
 mod kill;

@@ -1,20 +1,15 @@
 //! One record of the peer's comes in by itself (if_pfsync.c).
 
-ghost use Rattle.std.specs.Prelude.{◌≡◌, ◌≤◌, ◌<◌, ◌+◌, ◌*◌, [], ◌∷◌, None, IfOk, IfErr, OnOk, OnErr, length};
-ghost use Rattle.pfl_edits.specs.Maps as maps;
+ghost use Rattle.std.specs.Prelude.{◌≡◌, ◌≤◌, ◌<◌, ◌+◌, OnOk, length};
+ghost use Rattle.pfl_node.specs.Calls.{NodeGives, NodeSteps, Any};
 ghost use Rattle.pfl_node.specs.Delivering as delivering;
-ghost use Rattle.pfl_node.specs.Delivering.{message_edits};
-ghost use Rattle.pfl_receive.specs.desk.Drafts.{Writes};
-ghost use Rattle.pfl_receive.specs.desk.Edits.{NodeLeadsBack, NodeRecorded};
-ghost use Rattle.pfl_receive.specs.desk.inner.Judging.{Went};
-ghost use Rattle.pfl_receive.specs.desk.Nodes.{Node as Whole, IsRefusal};
-ghost use Rattle.pfl_receive.specs.desk.Weights.{forgotten_edits};
-ghost use Rattle.pfl_receive.specs.Delivering.{cleared_by, record_edits};
+ghost use Rattle.pfl_node.specs.inner.Carried.{Does, IsIdle};
+ghost use Rattle.pfl_receive.specs.desk.Nodes.{Node as Whole};
 
 use crate::node::Node;
 use pfl_base::Refusal;
 use pfl_edits::{Change, OfPart, Recorder};
-use pfl_receive::{Desk, NodeEdit, Overfull, take_record};
+use pfl_receive::{Desk, NodeEdit, take_record};
 use pfl_wire::Message;
 use std::alloc::Allocator;
 
@@ -27,12 +22,8 @@ impl<A: Allocator + Copy> Node<A> {
         message: &Message,
         print: &[u8; 16],
     ) -> Result<((), Change<NodeEdit, A>), Refusal>
-        ensures refused { IfErr result (IsRefusal (delivering.message_refusal self.old message.now print.now)) }
-        ensures unchanged { OnErr result (self.new ≡ self.old) }
-        ensures not_refused { OnOk result (delivering.message_refusal self.old message.now print.now ≡ None) }
-        ensures node { OnOk result (self.new ≡ delivering.message_taken self.old message.now print.now) }
-        ensures leads_back { IfOk result (λ r. NodeLeadsBack r.1.list self.old self.new) }
-        ensures weight { IfOk result (λ r. length r.1.list ≤ record_edits + forgotten_edits * cleared_by self.old message.now) }
+        ensures { NodeGives (delivering.message_edits self.old message.now) (delivering.message_refusal self.old message.now print.now)
+            (delivering.message_taken self.old message.now print.now) Any result self.old self.new }
     {
         let mut edits = Change::new(self.alloc);
         self.take_message_on(message, print, (), &mut edits)?;
@@ -47,34 +38,30 @@ impl<A: Allocator + Copy> Node<A> {
         part: W::Part,
         to: &mut R,
     ) -> Result<(), Refusal>
-        ensures refused { IfErr result (IsRefusal (delivering.message_refusal self.old message.now print.now)) }
-        ensures unchanged { OnErr result (self.new ≡ self.old) }
-        ensures untaken { OnErr result (R.list to.new ≡ R.list to.old) }
-        ensures not_refused { OnOk result (delivering.message_refusal self.old message.now print.now ≡ None) }
-        ensures node { OnOk result (self.new ≡ delivering.message_taken self.old message.now print.now) }
-        ensures recorded { OnOk result (NodeRecorded (W.of part) (message_edits self.old message.now) self.old self.new (R.list to.old) (R.list to.new)) }
+        ensures steps { NodeSteps (W.of part) (delivering.message_edits self.old message.now)
+            (delivering.message_refusal self.old message.now print.now) (delivering.message_taken self.old message.now print.now) Any
+            result self.old self.new (R.list to.old) (R.list to.new) }
         ensures one_more { OnOk result (0 < R.spare to.new) }
         ensures total { R.spare to.old + length (R.list to.old) ≤ R.spare to.new + length (R.list to.new) }
     {
-        let tried = take_one(&mut self.desk, message, print);
-        self.desk.settle(tried, part, to)
+        let done = take_one(&mut self.desk, message, print);
+        self.desk.conclude(done, part, to)
     }
 }
 
-/// Takes one record of a peer whose rules have this checksum, and returns whether after it a number was too high.
+/// Takes one record of a peer whose rules have this checksum.
 fn take_one<A: Allocator>(
     desk: &mut Desk<A>,
     message: &Message,
     print: &[u8; 16],
-) -> Result<((), bool), Overfull>
-    requires room { forgotten_edits * maps.len desk.old.node.states + record_edits ≤ desk.old.edits.spare }
-    ensures went { Went result (delivering.message_taken desk.old.node message.now print.now ∷ []) }
-    ensures node { OnOk result (desk.new.node ≡ delivering.message_taken desk.old.node message.now print.now) }
-    ensures writes { Writes (record_edits + forgotten_edits * cleared_by desk.old.node message.now) desk.old desk.new }
+) -> Result<(), Refusal>
+    requires idle { IsIdle desk.old }
+    ensures { Does (delivering.message_edits desk.old.node message.now) (delivering.message_refusal desk.old.node message.now print.now)
+        (delivering.message_taken desk.old.node message.now print.now) Any result desk.old desk.new }
 {
     let same_rules = has_print(desk, print);
-    take_record(desk, message, same_rules)?;
-    Ok(((), desk.is_overcounted()))
+    let tried = take_record(desk, message, same_rules);
+    desk.judge(tried)
 }
 
 /// Whether the node's rules have the checksum.

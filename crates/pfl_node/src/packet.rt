@@ -8,64 +8,32 @@ ghost use Rattle.pfl_base.specs.Keys.{key as flow_of};
 ghost use Rattle.pfl_base.specs.Packets.{IsPacket};
 ghost use Rattle.pfl_edits.specs.Maps as maps;
 ghost use Rattle.pfl_receive.specs.desk.Changes as to;
-ghost use Rattle.pfl_receive.specs.desk.Edits.{NodeLeadsBack, NodeRecorded};
-ghost use Rattle.pfl_node.specs.inner.Carried.{Handles, Tried};
+ghost use Rattle.pfl_language.specs.declared.node_event.NodeOutcome.TheVariants as outcome;
+ghost use Rattle.pfl_node.specs.Weights.{packet_edits};
+ghost use Rattle.pfl_node.specs.inner.Carried.{Carries, Handles, IsIdle, Tried};
 ghost use Rattle.pfl_receive.specs.desk.inner.Kept.{MayReplace};
-ghost use Rattle.pfl_receive.specs.desk.Nodes.{Node as Whole, AreParts, IsRefusal, points_refusal};
-ghost use Rattle.pfl_node.specs.Packets.{handled, packet_points, followed, on_the_way, accepted, tracked_at};
+ghost use Rattle.pfl_receive.specs.desk.Nodes.{Node as Whole, AreParts};
+ghost use Rattle.pfl_node.specs.Packets.{handled, packet_meaning, packet_points, followed, on_the_way, accepted, tracked_at};
 ghost use Rattle.pfl_node.specs.Starting.{judged, pass};
 ghost use Rattle.pfl_receive.specs.table.Tables.{found};
-ghost use Rattle.pfl_node.specs.Weights.{packet_edits};
 
-use crate::node::Node;
 use crate::packet::start::{drop_packet, judge, pass};
 use pfl_base::{Dir, Packet, Refusal, key};
-use pfl_edits::{Change, OfPart, Recorder};
 use pfl_language::{Fate, Reason};
-use pfl_receive::{Desk, NodeEdit, Overfull, Slot};
+use pfl_receive::{Desk, Overfull, Slot, judged};
 use pfl_track::{State, Tracked, track_by};
 use std::alloc::Allocator;
 
-impl<A: Allocator + Copy> Node<A> {
-    /// What becomes of a packet that comes to the node, or leaves its host.
-    #[tactic(auto, using(crate::proofs::Ready::alone))]
-    pub fn packet(
-        &mut self,
-        dir: Dir,
-        packet: &Packet,
-    ) -> Result<(Fate, Change<NodeEdit, A>), Refusal>
-        ensures refused { IfErr result (IsRefusal (points_refusal (packet_points self.old dir packet.now))) }
-        ensures unchanged { OnErr result (self.new ≡ self.old) }
-        ensures not_refused { OnOk result (points_refusal (packet_points self.old dir packet.now) ≡ None) }
-        ensures step { IfOk result (λ r. record { fate = r.0; node = self.new } ≡ handled self.old dir packet.now) }
-        ensures leads_back { IfOk result (λ r. NodeLeadsBack r.1.list self.old self.new) }
-        ensures weight { IfOk result (λ r. length r.1.list ≤ packet_edits) }
-    {
-        let mut edits = Change::new(self.alloc);
-        let fate = self.packet_on(dir, packet, (), &mut edits)?;
-        Ok((fate, edits))
-    }
-
-    /// As `packet`, with its edits recorded in `to`, as edits of a part.
-    pub fn packet_on<W: OfPart<NodeEdit>, R: Recorder<W>>(
-        &mut self,
-        dir: Dir,
-        packet: &Packet,
-        part: W::Part,
-        to: &mut R,
-    ) -> Result<Fate, Refusal>
-        ensures refused { IfErr result (IsRefusal (points_refusal (packet_points self.old dir packet.now))) }
-        ensures unchanged { OnErr result (self.new ≡ self.old) }
-        ensures untaken { OnErr result (R.list to.new ≡ R.list to.old) }
-        ensures not_refused { OnOk result (points_refusal (packet_points self.old dir packet.now) ≡ None) }
-        ensures step { IfOk result (λ fate. record { fate = fate; node = self.new } ≡ handled self.old dir packet.now) }
-        ensures recorded { OnOk result (NodeRecorded (W.of part) packet_edits self.old self.new (R.list to.old) (R.list to.new)) }
-        ensures one_more { OnOk result (0 < R.spare to.new) }
-        ensures total { R.spare to.old + length (R.list to.old) ≤ R.spare to.new + length (R.list to.new) }
-    {
-        let tried = handle(&mut self.desk, dir, packet);
-        self.desk.settle(tried, part, to)
-    }
+/// What becomes of a packet that comes to the node, or leaves its host.
+pub(crate) fn packet<A: Allocator>(
+    desk: &mut Desk<A>,
+    dir: Dir,
+    packet: &Packet,
+) -> Result<Fate, Refusal>
+    requires idle { IsIdle desk.old }
+    ensures { Carries packet_edits (packet_meaning desk.old.node dir packet.now) outcome.Handled result desk.old desk.new }
+{
+    judged(handle(desk, dir, packet))
 }
 
 /// What becomes of a packet, and whether at one of its points a number was too high.

@@ -1,48 +1,25 @@
 //! A frame comes in (if_pfsync.c).
 
-ghost use Rattle.std.specs.Prelude.{◌≡◌, ◌≤◌, ◌<◌, ◌+◌, ◌*◌, [], ◌∷◌, None, IfOk, IfErr, OnOk, OnErr, length};
+ghost use Rattle.std.specs.Prelude.{◌≡◌, ◌≤◌, ◌<◌, ◌+◌, OnOk, length};
+ghost use Rattle.pfl_node.specs.Calls.{NodeSteps, Any};
 ghost use Rattle.pfl_node.specs.Delivering as delivering;
-ghost use Rattle.pfl_node.specs.Delivering.{frame_edits};
-ghost use Rattle.pfl_receive.specs.desk.Changes as to;
+ghost use Rattle.pfl_node.specs.inner.Carried.{Does, IsIdle};
 ghost use Rattle.pfl_receive.specs.desk.Changes.{count_broken as broken_counted};
-ghost use Rattle.pfl_receive.specs.desk.Drafts.{Writes};
-ghost use Rattle.pfl_receive.specs.desk.Edits.{NodeLeadsBack, NodeRecorded};
-ghost use Rattle.pfl_receive.specs.desk.inner.Judging.{Went};
-ghost use Rattle.pfl_receive.specs.desk.Nodes.{Node as Whole, IsRefusal};
+ghost use Rattle.pfl_receive.specs.desk.Nodes.{Node as Whole};
 ghost use Rattle.pfl_receive.specs.Delivering as receiving;
 ghost use Rattle.pfl_wire.specs.Frames.{frame_len, records_of};
 
 use crate::node::Node;
 use pfl_base::Refusal;
-use pfl_edits::{Change, OfPart, Recorder};
-use pfl_receive::{Counter, Desk, NodeEdit, Overfull, take_frame};
+use pfl_edits::{OfPart, Recorder};
+use pfl_receive::{Counter, Desk, NodeEdit, judged, take_frame};
 use pfl_wire::FrameBytes;
 use std::alloc::Allocator;
 
 impl<A: Allocator + Copy> Node<A> {
     /// Takes the records of a frame in their order, all or none, and returns how many. It is refused where after one of them too much
     /// would be pending, and else where after one of them a number would be too high. No frame is longer than the node's limit: so
-    /// there is room for the edits of its records.
-    #[tactic(auto, using(crate::proofs::Ready::alone))]
-    pub fn receive(
-        &mut self,
-        frame: &FrameBytes<'_>,
-    ) -> Result<(usize, Change<NodeEdit, A>), Refusal>
-        requires short { frame_len frame.now.groups ≤ self.old.limits.mtu }
-        ensures refused { IfErr result (IsRefusal (delivering.receive_refusal self.old frame.now)) }
-        ensures unchanged { OnErr result (self.new ≡ self.old) }
-        ensures not_refused { OnOk result (delivering.receive_refusal self.old frame.now ≡ None) }
-        ensures node { OnOk result (self.new ≡ receiving.received self.old frame.now) }
-        ensures count { IfOk result (λ r. r.0 ≡ length (records_of frame.now)) }
-        ensures leads_back { IfOk result (λ r. NodeLeadsBack r.1.list self.old self.new) }
-        ensures weight { IfOk result (λ r. length r.1.list ≤ receiving.work_edits * receiving.frame_work self.old frame.now) }
-    {
-        let mut edits = Change::new(self.alloc);
-        let count = self.receive_on(frame, (), &mut edits)?;
-        Ok((count, edits))
-    }
-
-    /// As `receive`, with its edits recorded in `to`, as edits of a part.
+    /// there is room for the edits of its records. They are recorded in `to`, as edits of a part.
     pub fn receive_on<W: OfPart<NodeEdit>, R: Recorder<W>>(
         &mut self,
         frame: &FrameBytes<'_>,
@@ -50,62 +27,47 @@ impl<A: Allocator + Copy> Node<A> {
         to: &mut R,
     ) -> Result<usize, Refusal>
         requires short { frame_len frame.now.groups ≤ self.old.limits.mtu }
-        ensures refused { IfErr result (IsRefusal (delivering.receive_refusal self.old frame.now)) }
-        ensures unchanged { OnErr result (self.new ≡ self.old) }
-        ensures untaken { OnErr result (R.list to.new ≡ R.list to.old) }
-        ensures not_refused { OnOk result (delivering.receive_refusal self.old frame.now ≡ None) }
-        ensures node { OnOk result (self.new ≡ receiving.received self.old frame.now) }
-        ensures count { IfOk result (λ count. count ≡ length (records_of frame.now)) }
-        ensures recorded { OnOk result (NodeRecorded (W.of part) (frame_edits self.old frame.now) self.old self.new (R.list to.old) (R.list to.new)) }
+        ensures steps { NodeSteps (W.of part) (delivering.frame_edits self.old frame.now) (delivering.receive_refusal self.old frame.now)
+            (receiving.received self.old frame.now) (λ count. count ≡ length (records_of frame.now))
+            result self.old self.new (R.list to.old) (R.list to.new) }
         ensures one_more { OnOk result (0 < R.spare to.new) }
         ensures total { R.spare to.old + length (R.list to.old) ≤ R.spare to.new + length (R.list to.new) }
     {
-        let tried = take_frame(&mut self.desk, frame);
-        self.desk.settle(tried, part, to)
+        let done = take_all(&mut self.desk, frame);
+        self.desk.conclude(done, part, to)
     }
 
-    /// Counts a frame that cannot be read.
-    #[tactic(auto, using(crate::proofs::Ready::alone))]
-    pub fn count_broken(&mut self) -> Result<((), Change<NodeEdit, A>), Refusal>
-        ensures refused { IfErr result (IsRefusal (delivering.broken_refusal self.old)) }
-        ensures unchanged { OnErr result (self.new ≡ self.old) }
-        ensures not_refused { OnOk result (delivering.broken_refusal self.old ≡ None) }
-        ensures node { OnOk result (self.new ≡ to.count_broken self.old) }
-        ensures leads_back { IfOk result (λ r. NodeLeadsBack r.1.list self.old self.new) }
-        ensures weight { IfOk result (λ r. length r.1.list ≤ 1) }
-    {
-        let mut edits = Change::new(self.alloc);
-        self.count_broken_on((), &mut edits)?;
-        Ok(((), edits))
-    }
-
-    /// As `count_broken`, with its edits recorded in `to`, as edits of a part.
+    /// Counts a frame that cannot be read. The edit is recorded in `to`, as an edit of a part.
     pub fn count_broken_on<W: OfPart<NodeEdit>, R: Recorder<W>>(
         &mut self,
         part: W::Part,
         to: &mut R,
     ) -> Result<(), Refusal>
-        ensures refused { IfErr result (IsRefusal (delivering.broken_refusal self.old)) }
-        ensures unchanged { OnErr result (self.new ≡ self.old) }
-        ensures untaken { OnErr result (R.list to.new ≡ R.list to.old) }
-        ensures not_refused { OnOk result (delivering.broken_refusal self.old ≡ None) }
-        ensures node { OnOk result (self.new ≡ broken_counted self.old) }
-        ensures recorded { OnOk result (NodeRecorded (W.of part) 1 self.old self.new (R.list to.old) (R.list to.new)) }
+        ensures steps { NodeSteps (W.of part) 1 (delivering.broken_refusal self.old) (broken_counted self.old) Any
+            result self.old self.new (R.list to.old) (R.list to.new) }
         ensures one_more { OnOk result (0 < R.spare to.new) }
         ensures total { R.spare to.old + length (R.list to.old) ≤ R.spare to.new + length (R.list to.new) }
     {
-        let tried = count_one(&mut self.desk);
-        self.desk.settle(tried, part, to)
+        let done = count_broken(&mut self.desk);
+        self.desk.conclude(done, part, to)
     }
 }
 
-/// Counts a frame that cannot be read, and returns whether after it a number was too high.
-fn count_one<A: Allocator>(desk: &mut Desk<A>) -> Result<((), bool), Overfull>
-    requires room { 0 < desk.old.edits.spare }
-    ensures went { Went result (to.count_broken desk.old.node ∷ []) }
-    ensures node { OnOk result (desk.new.node ≡ to.count_broken desk.old.node) }
-    ensures writes { Writes 1 desk.old desk.new }
+/// Takes the records of a frame in their order, and returns how many.
+fn take_all<A: Allocator>(desk: &mut Desk<A>, frame: &FrameBytes<'_>) -> Result<usize, Refusal>
+    requires idle { IsIdle desk.old }
+    requires short { frame_len frame.now.groups ≤ desk.old.node.limits.mtu }
+    ensures { Does (delivering.frame_edits desk.old.node frame.now) (delivering.receive_refusal desk.old.node frame.now)
+        (receiving.received desk.old.node frame.now) (λ count. count ≡ length (records_of frame.now)) result desk.old desk.new }
+{
+    judged(take_frame(desk, frame))
+}
+
+/// Counts a frame that cannot be read.
+fn count_broken<A: Allocator>(desk: &mut Desk<A>) -> Result<(), Refusal>
+    requires idle { IsIdle desk.old }
+    ensures { Does 1 (delivering.broken_refusal desk.old.node) (broken_counted desk.old.node) Any result desk.old desk.new }
 {
     desk.count(Counter::Broken);
-    Ok(((), desk.is_overcounted()))
+    desk.judge(Ok(()))
 }

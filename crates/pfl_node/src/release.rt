@@ -1,65 +1,33 @@
 //! Held packets whose time has come go out (ifconfig(8), `defer`; if_pfsync.c: the time).
 
 ghost use Rattle.std.specs.List.{slice_get};
-ghost use Rattle.std.specs.Prelude.{◌≡◌, ◌≤◌, ◌<◌, ◌+◌, ◌*◌, ◌==◌, [], ◌∷◌, None, false, IfOk, IfErr, OnOk, OnErr, length};
+ghost use Rattle.std.specs.Prelude.{◌≡◌, ◌≤◌, ◌*◌, ◌==◌, [], ◌∷◌, false, IfOk, OnOk, length};
 ghost use Rattle.pfl_base.specs.declared.refusal.Refusal.TheVariants as refusal;
+ghost use Rattle.pfl_language.specs.declared.node_event.NodeOutcome.TheVariants as outcome;
 ghost use Rattle.pfl_node.specs.Releasing as releasing;
+ghost use Rattle.pfl_node.specs.inner.Carried.{Carries, IsIdle};
 ghost use Rattle.pfl_receive.specs.desk.Drafts.{Writes};
-ghost use Rattle.pfl_receive.specs.desk.Edits.{NodeLeadsBack, NodeRecorded};
 ghost use Rattle.pfl_receive.specs.desk.inner.Judging.{judged_as};
-ghost use Rattle.pfl_receive.specs.desk.Nodes.{Node as Whole, AreParts, IsRefusal, is_overcounted, refused_by};
-ghost use Rattle.pfl_receive.specs.desk.Weights.{released_edits};
+ghost use Rattle.pfl_receive.specs.desk.Nodes.{Node as Whole, AreParts, is_overcounted, refused_by};
 
-use crate::node::Node;
 use pfl_base::{Refusal, StateName};
-use pfl_edits::{Change, OfPart, Recorder};
-use pfl_receive::{Desk, NodeEdit};
+use pfl_receive::Desk;
 use std::alloc::Allocator;
 
-impl<A: Allocator + Copy> Node<A> {
-    /// Lets the packets go out that are held for long enough, the oldest first, and returns how many. Their states wait no more.
-    #[tactic(auto, using(crate::proofs::Ready::alone))]
-    pub fn release(&mut self) -> Result<(usize, Change<NodeEdit, A>), Refusal>
-        ensures refused { IfErr result (IsRefusal (releasing.release_refusal self.old)) }
-        ensures unchanged { OnErr result (self.new ≡ self.old) }
-        ensures not_refused { OnOk result (releasing.release_refusal self.old ≡ None) }
-        ensures node { OnOk result (self.new ≡ releasing.released_due self.old) }
-        ensures count { IfOk result (λ r. r.0 ≡ length (releasing.due_names self.old)) }
-        ensures leads_back { IfOk result (λ r. NodeLeadsBack r.1.list self.old self.new) }
-        ensures weight { IfOk result (λ r. length r.1.list ≤ released_edits * length (releasing.due_names self.old)) }
-    {
-        let mut edits = Change::new(self.alloc);
-        let count = self.release_on((), &mut edits)?;
-        Ok((count, edits))
+/// Lets the packets go out that are held for long enough, the oldest first, and returns how many. Their states wait no more.
+pub(crate) fn release<A: Allocator>(desk: &mut Desk<A>) -> Result<usize, Refusal>
+    requires idle { IsIdle desk.old }
+    ensures { Carries (releasing.release_edits desk.old.node) (releasing.release_meaning desk.old.node) outcome.Released result desk.old desk.new }
+{
+    if desk.held().is_empty() {
+        return Err(Refusal::NothingPending);
     }
-
-    /// As `release`, with its edits recorded in `to`, as edits of a part.
-    pub fn release_on<W: OfPart<NodeEdit>, R: Recorder<W>>(
-        &mut self,
-        part: W::Part,
-        to: &mut R,
-    ) -> Result<usize, Refusal>
-        ensures refused { IfErr result (IsRefusal (releasing.release_refusal self.old)) }
-        ensures unchanged { OnErr result (self.new ≡ self.old) }
-        ensures untaken { OnErr result (R.list to.new ≡ R.list to.old) }
-        ensures not_refused { OnOk result (releasing.release_refusal self.old ≡ None) }
-        ensures node { OnOk result (self.new ≡ releasing.released_due self.old) }
-        ensures count { IfOk result (λ count. count ≡ length (releasing.due_names self.old)) }
-        ensures recorded { OnOk result (NodeRecorded (W.of part) (releasing.release_edits self.old) self.old self.new (R.list to.old) (R.list to.new)) }
-        ensures one_more { OnOk result (0 < R.spare to.new) }
-        ensures total { R.spare to.old + length (R.list to.old) ≤ R.spare to.new + length (R.list to.new) }
-    {
-        if self.held().is_empty() {
-            return Err(Refusal::NothingPending);
-        }
-        let count = release(&mut self.desk);
-        let judged = judge(&self.desk, count);
-        self.desk.conclude(judged, part, to)
-    }
+    let count = release_due(desk);
+    judge(desk, count)
 }
 
 /// Lets the packets go out whose time has come, and returns how many.
-fn release<A: Allocator>(desk: &mut Desk<A>) -> usize
+fn release_due<A: Allocator>(desk: &mut Desk<A>) -> usize
     requires parts { AreParts desk.old.node }
     requires room { 3 * length (releasing.due_names desk.old.node) ≤ desk.old.edits.spare }
     ensures node { desk.new.node ≡ releasing.released_due desk.old.node }

@@ -1,63 +1,78 @@
 //! The events of a node by itself, in one place.
 
-ghost use Rattle.std.specs.Prelude.{◌≡◌, ◌≤◌, ◌<◌, ◌+◌, Ok, IfOk, IfErr, OnOk, OnErr, length};
-ghost use Rattle.pfl_node.specs.Stepping as stepping;
-ghost use Rattle.pfl_receive.specs.desk.Edits.{NodeLeadsBack, NodeRecorded};
-ghost use Rattle.pfl_receive.specs.desk.Nodes.{Node as Whole, IsRefusal};
+ghost use Rattle.std.specs.Prelude.{◌≡◌, ◌≤◌, ◌<◌, ◌+◌, OnOk, length};
+ghost use Rattle.pfl_node.specs.Calls.{NodeGives, NodeSteps};
+ghost use Rattle.pfl_node.specs.Stepping.{node_edits, node_meaning};
+ghost use Rattle.pfl_node.specs.inner.Carried.{Carries, IsIdle};
+ghost use Rattle.pfl_receive.specs.desk.Nodes.{Node as Whole};
 
+use crate::clear::clear;
+use crate::kill::kill;
 use crate::node::Node;
+use crate::packet::packet as handle_packet;
+use crate::purge::purge;
+use crate::release::release;
+use crate::retry::retry;
+use crate::tick::tick;
+use crate::turn::turn;
 use pfl_base::Refusal;
 use pfl_edits::{Change, OfPart, Recorder};
 use pfl_language::{NodeEvent, NodeOutcome};
-use pfl_receive::NodeEdit;
+use pfl_receive::{Desk, NodeEdit};
 use std::alloc::Allocator;
 
 impl<A: Allocator + Copy> Node<A> {
-    /// What an event gives that happens at the node by itself.
-    #[tactic(auto, using(crate::proofs::Ready::alone))]
-    pub fn step(&mut self, event: &NodeEvent) -> Result<(NodeOutcome, Change<NodeEdit, A>), Refusal>
-        ensures refused { IfErr result (IsRefusal (stepping.node_refusal self.old event.now)) }
-        ensures unchanged { OnErr result (self.new ≡ self.old) }
-        ensures step { IfOk result (λ r. stepping.node_step self.old event.now ≡ Ok (record { node = self.new; outcome = r.0 })) }
-        ensures leads_back { IfOk result (λ r. NodeLeadsBack r.1.list self.old self.new) }
-        ensures weight { IfOk result (λ r. length r.1.list ≤ stepping.node_weight self.old event.now) }
-    {
-        let mut edits = Change::new(self.alloc);
-        let outcome = self.step_on(event, (), &mut edits)?;
-        Ok((outcome, edits))
-    }
-
-    /// As `step`, with its edits recorded in `to`, as edits of a part.
-    #[tactic(auto, using(crate::proofs::Ready::wider))]
+    /// What an event gives that happens at the node by itself. Its edits are recorded in `to`, as edits of a part.
     pub fn step_on<W: OfPart<NodeEdit>, R: Recorder<W>>(
         &mut self,
         event: &NodeEvent,
         part: W::Part,
         to: &mut R,
     ) -> Result<NodeOutcome, Refusal>
-        ensures refused { IfErr result (IsRefusal (stepping.node_refusal self.old event.now)) }
-        ensures unchanged { OnErr result (self.new ≡ self.old) }
-        ensures untaken { OnErr result (R.list to.new ≡ R.list to.old) }
-        ensures step { IfOk result (λ outcome. stepping.node_step self.old event.now ≡ Ok (record { node = self.new; outcome = outcome })) }
-        ensures recorded { OnOk result (NodeRecorded (W.of part) (stepping.node_weight self.old event.now) self.old self.new (R.list to.old) (R.list to.new)) }
+        ensures steps { let m = node_meaning self.old event.now in
+            NodeSteps (W.of part) (node_edits self.old event.now) m.refusal m.after (λ outcome. outcome ≡ m.outcome)
+            result self.old self.new (R.list to.old) (R.list to.new) }
         ensures one_more { OnOk result (0 < R.spare to.new) }
         ensures total { R.spare to.old + length (R.list to.old) ≤ R.spare to.new + length (R.list to.new) }
     {
-        match event {
-            NodeEvent::Packet { dir, packet } => {
-                let fate = self.packet_on(*dir, packet, part, to)?;
-                Ok(NodeOutcome::Handled(fate))
-            }
-            NodeEvent::Tick { ms } => Ok(NodeOutcome::Clock(self.tick_on(*ms, part, to)?)),
-            NodeEvent::Purge => Ok(NodeOutcome::Purged(self.purge_on(part, to)?)),
-            NodeEvent::Release => Ok(NodeOutcome::Released(self.release_on(part, to)?)),
-            NodeEvent::Kill { name } => {
-                self.kill_on(*name, part, to)?;
-                Ok(NodeOutcome::Killed)
-            }
-            NodeEvent::Clear => Ok(NodeOutcome::Cleared(self.clear_on(part, to)?)),
-            NodeEvent::BulkTurn => Ok(NodeOutcome::Queued(self.turn_on(part, to)?)),
-            NodeEvent::BulkRetry => Ok(NodeOutcome::Tried(self.retry_on(part, to)?)),
+        let done = carry_out(&mut self.desk, event);
+        self.desk.conclude(done, part, to)
+    }
+
+    /// As `step_on`, with its edits in a change of their own.
+    #[tactic(auto, using(crate::proofs::Ready::alone))]
+    pub(crate) fn step(
+        &mut self,
+        event: &NodeEvent,
+    ) -> Result<(NodeOutcome, Change<NodeEdit, A>), Refusal>
+        ensures { let m = node_meaning self.old event.now in
+            NodeGives (node_edits self.old event.now) m.refusal m.after (λ outcome. outcome ≡ m.outcome) result self.old self.new }
+    {
+        let mut edits = Change::new(self.alloc);
+        let outcome = self.step_on(event, (), &mut edits)?;
+        Ok((outcome, edits))
+    }
+}
+
+/// Carries an event out that happens at the node by itself.
+fn carry_out<A: Allocator>(desk: &mut Desk<A>, event: &NodeEvent) -> Result<NodeOutcome, Refusal>
+    requires idle { IsIdle desk.old }
+    ensures { Carries (node_edits desk.old.node event.now) (node_meaning desk.old.node event.now) (λ outcome. outcome)
+        result desk.old desk.new }
+{
+    match event {
+        NodeEvent::Packet { dir, packet } => {
+            Ok(NodeOutcome::Handled(handle_packet(desk, *dir, packet)?))
         }
+        NodeEvent::Tick { ms } => Ok(NodeOutcome::Clock(tick(desk, *ms)?)),
+        NodeEvent::Purge => Ok(NodeOutcome::Purged(purge(desk)?)),
+        NodeEvent::Release => Ok(NodeOutcome::Released(release(desk)?)),
+        NodeEvent::Kill { name } => {
+            kill(desk, *name)?;
+            Ok(NodeOutcome::Killed)
+        }
+        NodeEvent::Clear => Ok(NodeOutcome::Cleared(clear(desk)?)),
+        NodeEvent::BulkTurn => Ok(NodeOutcome::Queued(turn(desk)?)),
+        NodeEvent::BulkRetry => Ok(NodeOutcome::Tried(retry(desk)?)),
     }
 }

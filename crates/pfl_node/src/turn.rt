@@ -1,22 +1,19 @@
 //! A turn of a bulk update: the server queues its next states (if_pfsync.c).
 
 ghost use Rattle.std.specs.List.{AllByRecursion};
-ghost use Rattle.std.specs.Prelude.{◌≡◌, ◌≤◌, ◌<◌, ◌+◌, [], ◌∷◌, None, true, IfOk, IfErr, OnOk, OnErr, length, take};
+ghost use Rattle.std.specs.Prelude.{◌≡◌, ◌≤◌, ◌+◌, true, IfOk, OnOk, OnErr, length, take};
 ghost use Rattle.pfl_bulk.specs.Bulk.{first_names};
+ghost use Rattle.pfl_language.specs.declared.node_event.NodeOutcome.TheVariants as outcome;
 ghost use Rattle.pfl_node.specs.Turning as turning;
+ghost use Rattle.pfl_node.specs.inner.Carried.{Carries, IsIdle};
 ghost use Rattle.pfl_receive.specs.desk.Drafts.{Writes};
-ghost use Rattle.pfl_receive.specs.desk.Edits.{NodeLeadsBack, NodeRecorded};
-ghost use Rattle.pfl_receive.specs.desk.inner.Judging.{Went};
 ghost use Rattle.pfl_receive.specs.desk.inner.Kept.{MayMark};
-ghost use Rattle.pfl_receive.specs.desk.Nodes.{Node as Whole, AreParts, IsRefusal, is_overfull};
+ghost use Rattle.pfl_receive.specs.desk.Nodes.{Node as Whole, AreParts, is_overfull};
 ghost use Rattle.pfl_receive.specs.queue.declared.Kind.TheVariants as kind;
-ghost use Rattle.pfl_node.specs.Weights.{turned_edits};
 
-use crate::node::Node;
 use pfl_base::{Millis, Refusal, StateName};
 use pfl_bulk::BulkServer;
-use pfl_edits::{Change, OfPart, Recorder};
-use pfl_receive::{Desk, Kind, NodeEdit, Overfull};
+use pfl_receive::{Desk, Kind, Overfull};
 use pfl_track::State;
 use pfl_wire::BulkStatus;
 use std::alloc::Allocator;
@@ -24,55 +21,26 @@ use std::alloc::Allocator;
 /// A turn looks at one name more than it queues, of which there are at most 256.
 const MOST_NAMES: usize = 257;
 
-impl<A: Allocator + Copy> Node<A> {
-    /// Queues the next states of the bulk update that the node serves, and returns how many. After the last of them the end is
-    /// announced. It looks at the states after its cursor, up to one more that it may send than it sends.
-    #[tactic(auto, using(crate::proofs::Ready::alone))]
-    pub fn turn(&mut self) -> Result<(usize, Change<NodeEdit, A>), Refusal>
-        ensures refused { IfErr result (IsRefusal (turning.turn_refusal self.old)) }
-        ensures unchanged { OnErr result (self.new ≡ self.old) }
-        ensures not_refused { OnOk result (turning.turn_refusal self.old ≡ None) }
-        ensures node { OnOk result (self.new ≡ turning.turned self.old) }
-        ensures count { IfOk result (λ r. r.0 ≡ length (turning.turn_of self.old)) }
-        ensures leads_back { IfOk result (λ r. NodeLeadsBack r.1.list self.old self.new) }
-        ensures weight { IfOk result (λ r. length r.1.list ≤ length (turning.turn_of self.old) + turned_edits) }
-    {
-        let mut edits = Change::new(self.alloc);
-        let count = self.turn_on((), &mut edits)?;
-        Ok((count, edits))
+/// Queues the next states of the bulk update that the node serves, and returns how many. After the last of them the end is
+/// announced. It looks at the states after its cursor, up to one more that it may send than it sends.
+pub(crate) fn turn<A: Allocator>(desk: &mut Desk<A>) -> Result<usize, Refusal>
+    requires idle { IsIdle desk.old }
+    ensures { Carries (turning.turn_edits desk.old.node) (turning.turn_meaning desk.old.node) outcome.Queued result desk.old desk.new }
+{
+    if !desk.server().is_serving() {
+        return Err(Refusal::NotSyncing);
     }
-
-    /// As `turn`, with its edits recorded in `to`, as edits of a part.
-    pub fn turn_on<W: OfPart<NodeEdit>, R: Recorder<W>>(
-        &mut self,
-        part: W::Part,
-        to: &mut R,
-    ) -> Result<usize, Refusal>
-        ensures refused { IfErr result (IsRefusal (turning.turn_refusal self.old)) }
-        ensures unchanged { OnErr result (self.new ≡ self.old) }
-        ensures untaken { OnErr result (R.list to.new ≡ R.list to.old) }
-        ensures not_refused { OnOk result (turning.turn_refusal self.old ≡ None) }
-        ensures node { OnOk result (self.new ≡ turning.turned self.old) }
-        ensures count { IfOk result (λ count. count ≡ length (turning.turn_of self.old)) }
-        ensures recorded { OnOk result (NodeRecorded (W.of part) (turning.turn_edits self.old) self.old self.new (R.list to.old) (R.list to.new)) }
-        ensures one_more { OnOk result (0 < R.spare to.new) }
-        ensures total { R.spare to.old + length (R.list to.old) ≤ R.spare to.new + length (R.list to.new) }
-    {
-        if !self.server().is_serving() {
-            return Err(Refusal::NotSyncing);
-        }
-        let tried = turn(&mut self.desk);
-        self.desk.settle(tried, part, to)
-    }
+    let tried = queue_next(desk);
+    desk.judge(tried)
 }
 
-/// Queues the next states of the bulk update; returns how many, and whether after it a number was too high.
-fn turn<A: Allocator>(desk: &mut Desk<A>) -> Result<(usize, bool), Overfull>
+/// Queues the next states of the bulk update, and returns how many.
+fn queue_next<A: Allocator>(desk: &mut Desk<A>) -> Result<usize, Overfull>
     requires parts { AreParts desk.old.node }
     requires room { length (turning.turn_of desk.old.node) + 3 ≤ desk.old.edits.spare }
-    ensures went { Went result (turning.turned desk.old.node ∷ []) }
+    ensures full { OnErr result (is_overfull (turning.turned desk.old.node) ≡ true) }
     ensures node { OnOk result (desk.new.node ≡ turning.turned desk.old.node) }
-    ensures count { IfOk result (λ r. r.0 ≡ length (turning.turn_of desk.old.node)) }
+    ensures count { IfOk result (λ count. count ≡ length (turning.turn_of desk.old.node)) }
     ensures writes { Writes (length (turning.turn_of desk.old.node) + 3) desk.old desk.new }
 {
     let batch = desk.limits().batch as usize;
@@ -82,7 +50,7 @@ fn turn<A: Allocator>(desk: &mut Desk<A>) -> Result<(usize, bool), Overfull>
     queue_all(desk, turn.names)?;
     announce_end(desk, turn.is_last)?;
     desk.set_server(turn.server);
-    Ok((turn.names.len(), desk.is_overcounted()))
+    Ok(turn.names.len())
 }
 
 /// Of the names that the server may send, the first after its cursor, at most this many: they are written to the front of `names`,

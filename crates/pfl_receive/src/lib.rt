@@ -14,6 +14,6 @@ mod update;
 pub use frame::take_frame;
 pub use pfl_desk::{
     Counter, Counters, Deferrals, Desk, Entry, Kind, MotionEdit, NodeEdit, Overfull, Pending,
-    QueueEdit, Slot, StateTable,
+    QueueEdit, Slot, StateTable, judged,
 };
 pub use records::take_record;

@@ -2,4 +2,4 @@
 
 /// The release, the sum of its sources, and the logic that proves them.
 pub(crate) const VERSION: &str =
-    "release 22, sources 858c2471fbb93d09c205881e4850965ae169818857a8c001bccfee221c965874, logic dac8208d650f15bf";
+    "release 23, sources 123cce0dc88404229c62cbc9a1a003aa23d6b756db6ffa8deacea7e9a33317a6, logic dac8208d650f15bf";

@@ -16,6 +16,11 @@ abbrev pub judgement : {T : Type 0} → Result (T × Bool) Overfull → Option R
 judgement (Ok r) = if r.1 then Some CountFull else None
 judgement (Err _) = Some QueueFull
 
+-- the same of an event that goes through no point before its end: it stopped where too much was pending, or ended at the node n
+abbrev pub end_judgement : {T : Type 0} → Result T Overfull → Node → Option Refusal
+end_judgement (Ok answer) n = if is_overcounted n then Some CountFull else None
+end_judgement (Err _) n = Some QueueFull
+
 -- the refusal of an event that was judged, if there is one
 abbrev pub judged_as : {T : Type 0} → Result T Refusal → Option Refusal
 judged_as (Ok answer) = None

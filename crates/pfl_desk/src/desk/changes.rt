@@ -65,7 +65,7 @@ impl<A: Allocator> Desk<A> {
     }
 
     /// Puts a state in the place of one, which may stand at this slot, and announces it to the peer. Where that is too much, what was
-    /// changed until then stays on the desk, and `settle` takes it back.
+    /// changed until then stays on the desk, and `conclude` takes it back.
     pub fn change_state(&mut self, slot: Slot, state: State) -> Result<(), Overfull>
         requires room { changed_edits ≤ self.old.edits.spare }
         requires known { MayReplace self.old.node state }
@@ -140,7 +140,7 @@ impl<A: Allocator> Desk<A> {
     }
 
     /// Deletes the state by itself, which may stand at this slot, and announces it to the peer. Where that is too much, what was
-    /// changed until then stays on the desk, and `settle` takes it back.
+    /// changed until then stays on the desk, and `conclude` takes it back.
     pub fn delete(&mut self, slot: Slot, state: &State) -> Result<(), Overfull>
         requires room { deleted_edits ≤ self.old.edits.spare }
         requires stands { maps.get self.old.node.states state.now.name ≡ Some state.now }

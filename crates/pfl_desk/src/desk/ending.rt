@@ -2,8 +2,8 @@
 
 ghost use Rattle.std.specs.Prelude.{◌≡◌, ◌≤◌, ◌<◌, ◌+◌, ◌++◌, false, [], Ok, IfOk, IfErr, OnOk, OnErr, length, map};
 ghost use Rattle.pfl_desk.specs.Drafts.{AllRecorded, began};
-ghost use Rattle.pfl_desk.specs.inner.Judging.{judged_as, judgement};
-ghost use Rattle.pfl_desk.specs.Nodes.{AreParts, IsRefusal, is_overcounted};
+ghost use Rattle.pfl_desk.specs.inner.Judging.{end_judgement, judged_as};
+ghost use Rattle.pfl_desk.specs.Nodes.{AreParts, IsRefusal, is_overcounted, is_overfull};
 
 use crate::desk::Desk;
 use crate::edit::NodeEdit;
@@ -13,35 +13,19 @@ use pfl_edits::{NoMemory, OfPart, Recorder, take_back};
 use std::alloc::Allocator;
 
 impl<A: Allocator> Desk<A> {
-    /// Judges an event that was carried out: `tried` is its answer and whether at one of its points a number was too high, or that it
-    /// stopped where too much was pending. Its edits are recorded in `to`, as edits of a part; where it is refused, or `to` has no memory
-    /// for them and one more, they are taken back.
-    pub fn settle<T: Copy, W: OfPart<NodeEdit>, R: Recorder<W>>(
-        &mut self,
-        tried: Result<(T, bool), Overfull>,
-        part: W::Part,
-        to: &mut R,
-    ) -> Result<T, Refusal>
-        requires counted { IfOk tried (λ r. r.1 ≡ false → is_overcounted self.old.node ≡ false) }
-        ensures refused { IfErr result (IsRefusal (judgement tried)) }
-        ensures undone { OnErr result (self.new.node ≡ began self.old) }
-        ensures untaken { OnErr result (R.list to.new ≡ R.list to.old) }
-        ensures stands { IfOk result (λ answer. tried ≡ Ok (answer, false)) }
-        ensures kept { OnOk result (self.new.node ≡ self.old.node) }
-        ensures parts { OnOk result (AreParts self.new.node) }
-        ensures recorded { OnOk result (AllRecorded (W.of part) self.old self.new.node (R.list to.old) (R.list to.new)) }
-        ensures list { OnOk result (R.list to.new ≡ R.list to.old ++ map (W.of part) self.old.edits.list) }
-        ensures one_more { OnOk result (0 < R.spare to.new) }
-        ensures total { R.spare to.old + length (R.list to.old) ≤ R.spare to.new + length (R.list to.new) }
-        ensures none { self.new.edits.list ≡ [] }
-        ensures room { self.new.edits.spare ≡ self.old.edits.spare + length self.old.edits.list }
+    /// Judges an event that was carried out and that goes through no point before its end: `tried` is its answer, or that it stopped
+    /// where too much was pending.
+    pub fn judge<T: Copy>(&self, tried: Result<T, Overfull>) -> Result<T, Refusal>
+        ensures refused { judged_as result ≡ end_judgement tried self.now.node }
+        ensures answer { IfOk result (λ answer. tried ≡ Ok answer) }
+        ensures fits { is_overfull self.now.node ≡ false }
     {
-        let judged = match tried {
-            Ok((answer, false)) => Ok(answer),
-            Ok((_, true)) => Err(Refusal::CountFull),
+        let is_overcounted = self.is_overcounted();
+        match tried {
+            Ok(answer) if !is_overcounted => Ok(answer),
+            Ok(_) => Err(Refusal::CountFull),
             Err(Overfull) => Err(Refusal::QueueFull),
-        };
-        self.conclude(judged, part, to)
+        }
     }
 
     /// Ends an event that was carried out: its edits are recorded in `to`, as edits of a part; where it is refused, or `to` has no

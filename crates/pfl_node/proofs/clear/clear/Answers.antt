@@ -1,39 +1,24 @@
-use Rattle.std.proofs.Common.{◌≡◌, ℕ, ◌-◌, ◌*◌, ◌∙◌, ap, sym}
-use Rattle.std.proofs.lemmas.Result.{err_from_is_err_and}
+use Rattle.std.proofs.Common.{◌≡◌, ap, refl, arith}
+use Rattle.std.proofs.lemmas.Result.{IfOk-weaker}
 use Rattle.pfl_edits.specs.Maps as maps
-use Rattle.pfl_receive.specs.table.Tables.{States}
-use Rattle.pfl_node.specs.Clearing.{cleared}
-use Rattle.pfl_receive.specs.desk.Nodes.{is_overfull}
-use Rattle.pfl_receive.proofs.ForCallers.desk.{writes-then}
-use Rattle.pfl_node.proofs.Cleared.{cleared-is}
-use Rattle.pfl_node.proofs.OnePoint.{stops-there, ends-there}
+use Rattle.pfl_language.specs.declared.node_event.NodeOutcome.TheVariants.{Cleared}
+use Rattle.pfl_node.specs.Clearing.{cleared, clear_refusal}
+use Rattle.pfl_node.proofs.Judged.{by-end}
+use Rattle.pfl_node.proofs.Ready.{begins}
 use Rattle.pfl_node.proofs.clear.clear.Goals as goal
 
-pub returns-in_err-announce_clear : goal.returns-in_err-announce_clear
-returns-in_err-announce_clear g c =
-    let p = err_from_is_err_and c.from_residual.result c.from_residual.ensures.1 in
-    let n = c.args.desk.now.node in
-    let bound : c.saturating_sub-last.result ≡ n.next_id - 1 = c.saturating_sub-last.ensures ∙ ap (λ i. i - 1) c.next_id.ensures.next_id in
-    let meant = cleared-is n c.forget_all.new.desk.node c.creator-creator.result c.saturating_sub-last.result c.forget_all.ensures.node
-    c.creator-creator.ensures.creator bound in
-    record {
-      went = rw p.1 (stops-there ℕ p.0 (cleared n) (ap is_overfull (sym meant) ∙ c.in_err-announce_clear.ensures.full));
-      node = rw p.1 tt;
-      count = rw p.1 tt;
-      writes = writes-then (4 * maps.len n.states) 2 _ _ _ c.forget_all.ensures.writes c.announce_clear.ensures.writes;
-    }
+pub give_up_all-tried-requires : goal.give_up_all-tried-requires
+give_up_all-tried-requires g c =
+    let room = (begins c.args.desk.now c.requires.idle.ready).room in
+    let few = c.requires.idle.node.parts.few in
+    record { room = omega (arith, room, few) }
 
 pub returns : goal.returns
 returns g c =
     let n = c.args.desk.now.node in
-    let bound : c.saturating_sub-last.result ≡ n.next_id - 1 = c.saturating_sub-last.ensures ∙ ap (λ i. i - 1) c.next_id.ensures.next_id in
-    let meant = cleared-is n c.forget_all.new.desk.node c.creator-creator.result c.saturating_sub-last.result c.forget_all.ensures.node
-    c.creator-creator.ensures.creator bound in
-    let node = c.in_ok-announce_clear.ensures.node ∙ meant in
-    record {
-      went = ends-there c.len-count.result c.is_overcounted.result
-          (cleared n) c.announce_clear.new.self.node node c.is_overcounted.ensures.room c.is_overcounted.ensures.counted;
-      node = node;
-      count = c.len-count.ensures.states ∙ ap (λ (m : States). maps.len m) c.states.ensures.states;
-      writes = writes-then (4 * maps.len n.states) 2 _ _ _ c.forget_all.ensures.writes c.announce_clear.ensures.writes;
-    }
+    let d = c.give_up_all-tried.ensures in
+    let j = c.judge.ensures in
+    let count = maps.len n.states in
+    by-end _ (clear_refusal n) (cleared n) (λ k. Cleared k ≡ Cleared count) c.args.desk.now c.give_up_all-tried.new.desk c.give_up_all-tried.result
+    c.judge.result j.refused j.answer j.fits refl d.full d.node
+    (IfOk-weaker c.give_up_all-tried.result (λ k. k ≡ count) (λ k. Cleared k ≡ Cleared count) (λ k same. ap Cleared same) d.count) d.writes

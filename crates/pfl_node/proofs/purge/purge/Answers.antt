@@ -1,69 +1,30 @@
-use Rattle.std.proofs.Common.{false, ◌+◌, ◌||◌, ◌∙◌, sym, subst, arith}
-use Rattle.std.proofs.lemmas.Result.{err_from_is_err_and}
-use Rattle.pfl_receive.specs.desk.Drafts.{Draft}
-use Rattle.pfl_node.proofs.Purged.{IsPurged, found-is, purged-first, next-is, counted-few, fewer, purged-more, purged-full, purged-stops, purged-done}
+use Rattle.std.proofs.Common.{◌≡◌, length, ap, refl, arith}
+use Rattle.std.proofs.lemmas.Result.{IfOk-weaker}
+use Rattle.pfl_edits.specs.Maps as maps
+use Rattle.pfl_language.specs.declared.node_event.NodeOutcome.TheVariants.{Purged}
+use Rattle.pfl_node.specs.Purging.{purged, purge_points, purge_refusal, expired_states}
+use Rattle.pfl_node.proofs.Expired.{expired-few}
+use Rattle.pfl_node.proofs.Judged.{by-points}
+use Rattle.pfl_node.proofs.Purged.{purged-ends}
+use Rattle.pfl_node.proofs.Ready.{begins}
 use Rattle.pfl_node.proofs.purge.purge.Goals as goal
 
-pub loop-state-init : goal.loop-state-init
-loop-state-init g c = subst (λ (d : Draft). IsPurged c.args.desk.now d 0 false) (sym c.order_expiries.ensures.same)
-    (purged-first c.args.desk.now c.requires.parts c.requires.room)
-
-pub delete-requires : goal.delete-requires
-delete-requires g c =
-    let so = c.loop-state.invariant in
-    let first = sym c.first_expired.ensures.first ∙ c.in-Some.is in
-    let same = found-is c.args.desk.now _ c.len-states.result c.len-states.ensures.states c.states.ensures.states in
-    let next = next-is _ _ _ _ _ c.in-Some.state c.first_expired.ensures.parts so same first in
-    record { room = next.room; stands = next.stands }
-
-pub returns-in_err-delete-clause-went : goal.returns-in_err-delete-clause-went
-returns-in_err-delete-clause-went g c =
-    let p = err_from_is_err_and c.from_residual.result c.from_residual.ensures.1 in
-    let so = c.loop-state.invariant in
-    let first = sym c.first_expired.ensures.first ∙ c.in-Some.is in
-    let same = found-is c.args.desk.now _ c.len-states.result c.len-states.ensures.states c.states.ensures.states in
-    let next = next-is _ _ _ _ _ c.in-Some.state c.first_expired.ensures.parts so same first in
-    rw p.1 (purged-full _ _ _ _ so c.in-Some.state next c.in_err-delete.ensures.full)
-
-pub returns-in_err-delete-clause-writes : goal.returns-in_err-delete-clause-writes
-returns-in_err-delete-clause-writes g c =
-    let so = c.loop-state.invariant in
-    let first = sym c.first_expired.ensures.first ∙ c.in-Some.is in
-    let same = found-is c.args.desk.now _ c.len-states.result c.len-states.ensures.states c.states.ensures.states in
-    let next = next-is _ _ _ _ _ c.in-Some.state c.first_expired.ensures.parts so same first in
-    purged-stops _ _ _ _ so c.in-Some.state next _ c.delete.ensures.writes
-
-pub overflow_add-count : goal.overflow_add-count
-overflow_add-count g c =
-    let so = c.loop-state.invariant in
-    let first = sym c.first_expired.ensures.first ∙ c.in-Some.is in
-    let same = found-is c.args.desk.now _ c.len-states.result c.len-states.ensures.states c.states.ensures.states in
-    let next = next-is _ _ _ _ _ c.in-Some.state c.first_expired.ensures.parts so same first in
-    let few = counted-few _ _ _ _ so c.in-Some.state next in
-    omega (arith, few)
-
-pub loop-state-preserved : goal.loop-state-preserved
-loop-state-preserved g c =
-    let so = c.loop-state.invariant in
-    let first = sym c.first_expired.ensures.first ∙ c.in-Some.is in
-    let same = found-is c.args.desk.now _ c.len-states.result c.len-states.ensures.states c.states.ensures.states in
-    let next = next-is _ _ _ _ _ c.in-Some.state c.first_expired.ensures.parts so same first in
-    subst (λ (d : Draft). IsPurged c.args.desk.now d (c.loop-state.count + 1) (c.loop-state.overcounted
-    || c.is_overcounted-overcounted.result)) (sym c.order_expiries-in-Some.ensures.same)
-    (purged-more _ _ _ _ so c.in-Some.state next _ _ c.in_ok-delete.ensures.node c.delete.ensures.writes
-    c.is_overcounted-overcounted.ensures.room c.is_overcounted-overcounted.ensures.counted)
-
-pub loop-state-smaller : goal.loop-state-smaller
-loop-state-smaller g c =
-    let so = c.loop-state.invariant in
-    let first = sym c.first_expired.ensures.first ∙ c.in-Some.is in
-    let same = found-is c.args.desk.now _ c.len-states.result c.len-states.ensures.states c.states.ensures.states in
-    let next = next-is _ _ _ _ _ c.in-Some.state c.first_expired.ensures.parts so same first in
-    rw c.order_expiries-in-Some.ensures.same (rw c.in_ok-delete.ensures.node (fewer _ _ _ _ so c.in-Some.state next))
+pub delete_expired-requires : goal.delete_expired-requires
+delete_expired-requires g c =
+    let a = c.args.desk.now in
+    let room = (begins a c.requires.idle.ready).room in
+    let few = expired-few (maps.len a.node.states) a.node in
+    let states = c.requires.idle.node.parts.few in
+    record { parts = c.requires.idle.node.parts; room = omega (arith, few, states, room) }
 
 pub returns : goal.returns
 returns g c =
-    let none = sym c.first_expired.ensures.first ∙ c.in_default.is in
-    let same = found-is c.args.desk.now _ c.len-states.result c.len-states.ensures.states c.states.ensures.states in
-    let done = purged-done _ _ _ _ _ c.loop-state.invariant same none in
-    record { went = (done.full, done.counted); node = done.node; count = done.all; writes = done.writes }
+    let a = c.args.desk.now in
+    let n = a.node in
+    let b = c.delete_expired.new.desk in
+    let d = c.delete_expired.ensures in
+    let count = length (expired_states n) in
+    by-points _ (purge_refusal n) (purged n) (λ k. Purged k ≡ Purged count) (purge_points n) a b c.delete_expired.result c.judged.result
+    c.judged.ensures.refused c.judged.ensures.answer refl d.went d.node
+    (IfOk-weaker c.delete_expired.result (λ r. r.0 ≡ count) (λ r. Purged r.0 ≡ Purged count) (λ r same. ap Purged same) d.count)
+    (purged-ends n b.node c.delete_expired.result c.requires.idle.node.counted d.node) d.writes

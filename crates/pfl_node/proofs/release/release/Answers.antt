@@ -1,41 +1,45 @@
-use Rattle.std.proofs.Common.{◌∙◌, sym, arith}
-use Rattle.pfl_node.proofs.Released.{released-first, next-due, counted-few, fewer-due, released-more, released-done}
+use Rattle.std.proofs.Common.{◌≡◌, ◌∷◌, [], length, true, false, ◌∙◌, ap, sym, arith}
+use Rattle.std.proofs.lemmas.Result.{IfOk-weaker}
+use Rattle.std.specs.Prelude.{◌==◌}
+use Rattle.pfl_base.specs.declared.refusal.Refusal.TheVariants.{NothingPending, CountFull, TooEarly}
+use Rattle.pfl_language.specs.declared.node_event.NodeOutcome.TheVariants.{Released}
+use Rattle.pfl_receive.specs.defer.Deferring.{Deferrals}
+use Rattle.pfl_receive.specs.desk.inner.Judging.{judged_as}
+use Rattle.pfl_receive.specs.desk.Nodes.{is_overcounted, refused_by}
+use Rattle.pfl_node.specs.Releasing.{release_refusal, released_due, due_names}
+use Rattle.pfl_node.proofs.Judged.{at-once, by-judgement}
+use Rattle.pfl_node.proofs.Ready.{begins}
+use Rattle.pfl_node.proofs.Released.{due-few}
 use Rattle.pfl_node.proofs.release.release.Goals as goal
 
-pub loop-name-init : goal.loop-name-init
-loop-name-init g c = released-first c.args.desk.now c.requires.parts c.requires.room
+pub returns-then-is_empty : goal.returns-then-is_empty
+returns-then-is_empty g c =
+    let n = c.args.desk.now.node in
+    let none : (length n.held.list == 0) ≡ true = ap (λ (d : Deferrals). length d.list == 0) (sym c.held.ensures.held)
+    ∙ (sym c.is_empty.ensures.none ∙ c.if-is_empty.true) in
+    at-once _ _ _ _ c.args.desk.now NothingPending
+    (ap (λ t. refused_by ((t, NothingPending) ∷ (length (due_names n) == 0, TooEarly) ∷ (is_overcounted (released_due n), CountFull) ∷ [])) none)
 
-pub release-requires : goal.release-requires
-release-requires g c =
-    let so = c.loop-name.invariant in
-    let first = sym c.first_due.ensures.first ∙ c.in-Some.is in
-    let next = next-due _ _ _ c.in-Some.name c.first_due.ensures.parts so first in
-    record { room = next.room }
-
-pub overflow_add-count : goal.overflow_add-count
-overflow_add-count g c =
-    let so = c.loop-name.invariant in
-    let first = sym c.first_due.ensures.first ∙ c.in-Some.is in
-    let next = next-due _ _ _ c.in-Some.name c.first_due.ensures.parts so first in
-    let few = counted-few _ _ _ so c.in-Some.name next in
-    omega (arith, few)
-
-pub loop-name-preserved : goal.loop-name-preserved
-loop-name-preserved g c =
-    let so = c.loop-name.invariant in
-    let first = sym c.first_due.ensures.first ∙ c.in-Some.is in
-    let next = next-due _ _ _ c.in-Some.name c.first_due.ensures.parts so first in
-    released-more _ _ _ so c.in-Some.name next _ c.release.ensures.node c.release.ensures.writes
-
-pub loop-name-smaller : goal.loop-name-smaller
-loop-name-smaller g c =
-    let so = c.loop-name.invariant in
-    let first = sym c.first_due.ensures.first ∙ c.in-Some.is in
-    let next = next-due _ _ _ c.in-Some.name c.first_due.ensures.parts so first in
-    rw c.release.ensures.node (fewer-due _ _ _ so c.in-Some.name next)
+pub release_due-count-requires : goal.release_due-count-requires
+release_due-count-requires g c =
+    let n = c.args.desk.now.node in
+    let room = (begins c.args.desk.now c.requires.idle.ready).held in
+    let few = due-few n c.requires.idle.node.parts in
+    record { parts = c.requires.idle.node.parts; room = omega (arith, room, few) }
 
 pub returns : goal.returns
 returns g c =
-    let none = sym c.first_due.ensures.first ∙ c.in_default.is in
-    let done = released-done _ _ _ c.loop-name.invariant none in
-    record { node = done.node; count = done.all; writes = done.writes }
+    let a = c.args.desk.now in
+    let n = a.node in
+    let b = c.release_due-count.new.desk in
+    let d = c.release_due-count.ensures in
+    let j = c.judge.ensures in
+    let count = length (due_names n) in
+    let some : (length n.held.list == 0) ≡ false = ap (λ (l : Deferrals). length l.list == 0) (sym c.held.ensures.held)
+    ∙ (sym c.is_empty.ensures.none ∙ c.if-is_empty.false) in
+    let why : release_refusal n ≡ judged_as c.judge.result =
+    ap (λ t. refused_by ((t, NothingPending) ∷ (count == 0, TooEarly) ∷ (is_overcounted (released_due n), CountFull) ∷ [])) some
+    ∙ sym (j.refused ∙ (λ i. refused_by ((d.count i == 0, TooEarly) ∷ (is_overcounted (d.node i), CountFull) ∷ []))) in
+    by-judgement _ (release_refusal n) (released_due n) (λ k. Released k ≡ Released count) a b c.judge.result why d.node
+    (IfOk-weaker c.judge.result (λ k. k ≡ c.release_due-count.result) (λ k. Released k ≡ Released count) (λ k same. ap Released (same ∙ d.count)) j.count)
+    j.counted d.writes

@@ -2,12 +2,10 @@ use Rattle.std.proofs.Common.{◌≡◌, true, false, ◌∙◌, ap, sym, arith}
 use Rattle.std.proofs.lemmas.Result.{err_from_is_err_and}
 use Rattle.pfl_bulk.specs.Bulk.{asks_again, tries_of}
 use Rattle.pfl_bulk.specs.declared.BulkClient.{BulkClient}
-use Rattle.pfl_language.specs.declared.retried.Retried.{Retried}
-use Rattle.pfl_language.specs.declared.retried.Retried.TheVariants.{Asked, Served}
+use Rattle.pfl_language.specs.declared.retried.Retried.TheVariants.{Asked}
 use Rattle.pfl_node.specs.Retrying.{retried_client}
 use Rattle.pfl_receive.proofs.ForCallers.desk.{writes-then, writes-more}
 use Rattle.pfl_node.proofs.Asking.{from_not, asked-is, asked-full, served-is, answer-served, answer-asked}
-use Rattle.pfl_node.proofs.OnePoint.{stops-there, ends-there}
 use Rattle.pfl_node.proofs.retry.ask_again.Goals as goal
 
 pub returns-then-not-retry : goal.returns-then-not-retry
@@ -18,8 +16,7 @@ returns-then-not-retry g c =
     served-is n c.set_client.new.self.node gives_up (c.set_client.ensures.node
     ∙ ap (λ (k : BulkClient). record n { client = k }) c.requires.client) in
     record {
-      went = ends-there Served c.is_overcounted.result
-          (retried_client n) c.set_client.new.self.node node c.is_overcounted.ensures.room c.is_overcounted.ensures.counted;
+      full = tt;
       node = node;
       answer = answer-served n gives_up;
       writes = writes-more 1 3 _ _ (omega arith) c.set_client.ensures.writes;
@@ -31,7 +28,7 @@ returns-in_err-ask g c =
     let n = c.args.desk.now.node in
     let asks : asks_again n.client ≡ true = sym c.requires.asks ∙ from_not c.args.retry.asks false c.if-not-retry.false in
     record {
-      went = rw p.1 (stops-there Retried p.0 (retried_client n) (asked-full n asks c.in_err-ask.ensures.full));
+      full = rw p.1 (asked-full n asks c.in_err-ask.ensures.full);
       node = rw p.1 tt;
       answer = rw p.1 tt;
       writes = writes-more 2 3 _ _ (omega arith) c.ask.ensures.writes;
@@ -45,8 +42,7 @@ returns g c =
     let node : c.set_client-2.new.self.node ≡ retried_client n =
     asked-is n c.ask.new.self.node c.set_client-2.new.self.node asks c.in_ok-ask.ensures.node set in
     record {
-      went = ends-there (Asked c.tries.result) c.is_overcounted-2.result
-          (retried_client n) c.set_client-2.new.self.node node c.is_overcounted-2.ensures.room c.is_overcounted-2.ensures.counted;
+      full = tt;
       node = node;
       answer = ap Asked (c.tries.ensures.tries ∙ ap tries_of c.requires.client) ∙ answer-asked n asks;
       writes = writes-then 2 1 _ _ _ c.ask.ensures.writes c.set_client-2.ensures.writes;

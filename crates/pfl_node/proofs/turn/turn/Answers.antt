@@ -1,104 +1,38 @@
-use Rattle.std.proofs.Common.{◌≡◌, ℕ, ◌+◌, length, List, ◌∙◌, ap, sym, subst, arith}
-use Rattle.std.proofs.lemmas.Result.{err_from_is_err_and}
-use Rattle.std.specs.List.{AllByRecursion}
-use Rattle.pfl_base.specs.declared.state_name.StateName.{StateName}
-use Rattle.pfl_bulk.specs.Bulk.{first_names}
-use Rattle.pfl_receive.specs.queue.declared.Kind.TheVariants.{Update}
-use Rattle.pfl_language.specs.declared.limits.Limits.{Limits}
-use Rattle.pfl_receive.specs.desk.inner.Kept.{MayMark}
-use Rattle.pfl_receive.proofs.ForCallers.desk.{writes-then, writes-more}
-use Rattle.pfl_node.specs.Turning.{turn_of, turned}
-use Rattle.pfl_node.proofs.OnePoint.{stops-there, ends-there}
-use Rattle.pfl_node.proofs.Turned.{all_eligible, first-rising, turn-by, turn-may, turned-full, ended-full, turned-is, turned-past}
+use Rattle.std.proofs.Common.{◌≡◌, ◌∷◌, [], length, true, false, ◌∙◌, ap, sym, arith}
+use Rattle.std.proofs.lemmas.Result.{IfOk-weaker}
+use Rattle.std.specs.Prelude.{not}
+use Rattle.pfl_base.specs.declared.refusal.Refusal.TheVariants.{NotSyncing}
+use Rattle.pfl_bulk.specs.Bulk.{is_serving}
+use Rattle.pfl_language.specs.declared.node_event.NodeOutcome.TheVariants.{Queued}
+use Rattle.pfl_receive.specs.desk.Nodes.{full_tests, refused_by, points_refusal}
+use Rattle.pfl_node.specs.Turning.{turn_of, turned, turn_refusal}
+use Rattle.pfl_node.proofs.Judged.{at-once, by-end}
+use Rattle.pfl_node.proofs.Ready.{begins}
+use Rattle.pfl_node.proofs.Turned.{turn-few}
 use Rattle.pfl_node.proofs.turn.turn.Goals as goal
 
-pub turn-turn-requires : goal.turn-turn-requires
-turn-turn-requires g c =
+pub returns-then-not-is_serving : goal.returns-then-not-is_serving
+returns-then-not-is_serving g c =
     let n = c.args.desk.now.node in
-    let first = c.next_names-count.ensures.names ∙ ap (λ (l : Limits). first_names n.server (all_eligible n) (l.batch + 1)) c.limits-batch.ensures.limits in
-    record { rising = first-rising n _ first c.requires.parts }
+    let idle : is_serving n.server ≡ false = ap is_serving (sym c.server.ensures.server) ∙ (sym c.is_serving.ensures.serving ∙ c.if-not-is_serving.true) in
+    at-once _ _ _ _ c.args.desk.now NotSyncing (ap (λ b. refused_by ((not b, NotSyncing) ∷ full_tests (turned n ∷ []))) idle)
 
-pub queue_all-requires : goal.queue_all-requires
-queue_all-requires g c =
-    let n = c.args.desk.now.node in
-    let told = c.turn-turn.ensures in
-    let turn = turn-by n _ _ _ c.next_names-count.ensures.names c.server.ensures.server c.limits-batch.ensures.limits _ _ _ told.names told.server told.last in
-    let long = ap (λ (ns : List StateName). length ns) turn.names in
-    let room = c.requires.room in
-    record {
-      room = omega (arith, room, long);
-      may = subst (AllByRecursion (λ name. MayMark n name Update)) (sym turn.names) (turn-may n c.requires.parts);
-    }
-
-pub returns-in_err-queue_all : goal.returns-in_err-queue_all
-returns-in_err-queue_all g c =
-    let p = err_from_is_err_and c.from_residual.result c.from_residual.ensures.1 in
-    let n = c.args.desk.now.node in
-    let told = c.turn-turn.ensures in
-    let turn = turn-by n _ _ _ c.next_names-count.ensures.names c.server.ensures.server c.limits-batch.ensures.limits _ _ _ told.names told.server told.last in
-    let long = ap (λ (ns : List StateName). length ns) turn.names in
-    record {
-      went = rw p.1 (stops-there ℕ p.0 (turned n) (turned-full n _ _ _ turn c.in_err-queue_all.ensures.full));
-      node = rw p.1 tt;
-      count = rw p.1 tt;
-      writes = writes-more _ (length (turn_of n) + 3) _ _ (omega (arith, long)) c.queue_all.ensures.writes;
-    }
-
-pub announce_end-requires : goal.announce_end-requires
-announce_end-requires g c =
-    let n = c.args.desk.now.node in
-    let told = c.turn-turn.ensures in
-    let turn = turn-by n _ _ _ c.next_names-count.ensures.names c.server.ensures.server c.limits-batch.ensures.limits _ _ _ told.names told.server told.last in
-    let long = ap (λ (ns : List StateName). length ns) turn.names in
-    let room = c.requires.room in
-    let spare = c.queue_all.ensures.writes.spare in
-    record { room = omega (arith, room, long, spare) }
-
-pub returns-in_err-announce_end : goal.returns-in_err-announce_end
-returns-in_err-announce_end g c =
-    let p = err_from_is_err_and c.from_residual-in_err-announce_end.result c.from_residual-in_err-announce_end.ensures.1 in
-    let n = c.args.desk.now.node in
-    let told = c.turn-turn.ensures in
-    let turn = turn-by n _ _ _ c.next_names-count.ensures.names c.server.ensures.server c.limits-batch.ensures.limits _ _ _ told.names told.server told.last in
-    let long = ap (λ (ns : List StateName). length ns) turn.names in
-    record {
-      went = rw p.1 (stops-there ℕ p.0 (turned n)
-          (ended-full n _ _ _ turn c.queue_all.new.desk.node c.in_ok-queue_all.ensures.node c.in_err-announce_end.ensures.full));
-      node = rw p.1 tt;
-      count = rw p.1 tt;
-      writes = writes-more _ (length (turn_of n) + 3) _ _ (omega (arith, long))
-          (writes-then _ 2 _ _ _ c.queue_all.ensures.writes c.announce_end.ensures.writes);
-    }
-
-pub set_server-requires : goal.set_server-requires
-set_server-requires g c =
-    let n = c.args.desk.now.node in
-    let told = c.turn-turn.ensures in
-    let turn = turn-by n _ _ _ c.next_names-count.ensures.names c.server.ensures.server c.limits-batch.ensures.limits _ _ _ told.names told.server told.last in
-    let long = ap (λ (ns : List StateName). length ns) turn.names in
-    let room = c.requires.room in
-    let spare = c.queue_all.ensures.writes.spare in
-    let left = c.announce_end.ensures.writes.spare in
-    record {
-      room = omega (arith, room, long, spare, left);
-      past = turned-past n _ _ _ turn c.requires.parts c.queue_all.new.desk.node c.announce_end.new.desk.node
-          c.in_ok-queue_all.ensures.node c.in_ok-announce_end.ensures.node;
-    }
+pub queue_next-tried-requires : goal.queue_next-tried-requires
+queue_next-tried-requires g c =
+    let room = (begins c.args.desk.now c.requires.idle.ready).room in
+    let states = c.requires.idle.node.parts.few in
+    let few = turn-few c.args.desk.now.node in
+    record { parts = c.requires.idle.node.parts; room = omega (arith, room, few, states) }
 
 pub returns : goal.returns
 returns g c =
-    let n = c.args.desk.now.node in
-    let told = c.turn-turn.ensures in
-    let turn = turn-by n _ _ _ c.next_names-count.ensures.names c.server.ensures.server c.limits-batch.ensures.limits _ _ _ told.names told.server told.last in
-    let long = ap (λ (ns : List StateName). length ns) turn.names in
-    let node : c.set_server.new.self.node ≡ turned n = c.set_server.ensures.node
-    ∙ turned-is n _ _ _ turn c.queue_all.new.desk.node c.announce_end.new.desk.node c.in_ok-queue_all.ensures.node
-    c.in_ok-announce_end.ensures.node in
-    let all = writes-then _ 1 _ _ _ (writes-then _ 2 _ _ _ c.queue_all.ensures.writes c.announce_end.ensures.writes) c.set_server.ensures.writes in
-    record {
-      went = ends-there (length c.turn-turn.result.names.now) c.is_overcounted.result
-          (turned n) c.set_server.new.self.node node c.is_overcounted.ensures.room c.is_overcounted.ensures.counted;
-      node = node;
-      count = long;
-      writes = writes-more _ (length (turn_of n) + 3) _ _ (omega (arith, long)) all;
-    }
+    let a = c.args.desk.now in
+    let n = a.node in
+    let d = c.queue_next-tried.ensures in
+    let j = c.judge.ensures in
+    let count = length (turn_of n) in
+    let serves : is_serving n.server ≡ true = ap is_serving (sym c.server.ensures.server) ∙ (sym c.is_serving.ensures.serving ∙ c.if-not-is_serving.false) in
+    let why : turn_refusal n ≡ points_refusal (turned n ∷ []) = ap (λ b. refused_by ((not b, NotSyncing) ∷ full_tests (turned n ∷ []))) serves in
+    by-end _ (turn_refusal n) (turned n) (λ k. Queued k ≡ Queued count) a c.queue_next-tried.new.desk c.queue_next-tried.result c.judge.result
+    j.refused j.answer j.fits why d.full d.node
+    (IfOk-weaker c.queue_next-tried.result (λ k. k ≡ count) (λ k. Queued k ≡ Queued count) (λ k same. ap Queued same) d.count) d.writes

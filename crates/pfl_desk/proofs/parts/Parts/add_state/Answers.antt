@@ -1,7 +1,6 @@
-use Rattle.std.specs.Prelude.{Some, None, ◌≡◌, ◌∷◌, []}
+use Rattle.std.specs.Prelude.{Some, None, ◌∷◌, []}
 use Rattle.std.proofs.Common.{◌∙◌, ap, sym, subst}
 use Rattle.pfl_base.specs.declared.state_name.StateName.{StateName}
-use Rattle.pfl_edits.specs.Maps as maps
 use Rattle.pfl_edits.specs.Maps.{set_at}
 use Rattle.pfl_table.specs.Tables.{states_of}
 use Rattle.pfl_desk.specs.declared.edit.NodeEdit.TheVariants.{OfState}

@@ -1,4 +1,4 @@
-use Rattle.std.specs.Prelude.{Some, ◌≡◌, ◌∷◌, []}
+use Rattle.std.specs.Prelude.{◌≡◌, ◌∷◌, []}
 use Rattle.std.proofs.Common.{◌∙◌, ap, sym, subst}
 use Rattle.pfl_base.specs.declared.state_name.StateName.{StateName}
 use Rattle.pfl_edits.specs.Maps as maps

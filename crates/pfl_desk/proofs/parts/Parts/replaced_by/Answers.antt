@@ -1,4 +1,4 @@
-use Rattle.std.specs.Prelude.{Some, None, ◌≡◌, Option, MatchOption, IfNone, IfSome}
+use Rattle.std.specs.Prelude.{Some, ◌≡◌}
 use Rattle.std.specs.Option.{option_map}
 use Rattle.std.proofs.Common.{◌∙◌, ap, sym, subst}
 use Rattle.pfl_edits.specs.Maps as maps

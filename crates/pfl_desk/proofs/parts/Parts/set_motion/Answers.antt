@@ -1,11 +1,10 @@
-use Rattle.std.specs.Prelude.{Some, None, ◌≡◌}
+use Rattle.std.specs.Prelude.{None, ◌≡◌}
 use Rattle.std.specs.Option.{option_map}
 use Rattle.std.proofs.Common.{◌∙◌, ap, sym, subst}
 use Rattle.pfl_edits.specs.Maps as maps
 use Rattle.pfl_table.specs.Tables.{states_of}
 use Rattle.pfl_table.specs.declared.row.Row.{Row}
 use Rattle.pfl_table.proofs.ForCallers.{get-states_of}
-use Rattle.pfl_track.specs.declared.state.State.{State}
 use Rattle.pfl_desk.specs.Edits.{moved_at}
 use Rattle.pfl_desk.specs.inner.Kept.{timeout_by}
 use Rattle.pfl_desk.specs.Nodes.{Node, AreParts}

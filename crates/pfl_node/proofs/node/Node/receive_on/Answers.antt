@@ -1,66 +1,34 @@
-use Rattle.std.proofs.Common.{◌≡◌, ◌*◌, length, arith}
+use Rattle.std.proofs.Common.{◌≡◌, length}
 use Rattle.pfl_wire.specs.Frames.{records_of}
-use Rattle.pfl_receive.specs.Delivering.{frame_work, receive_points, received}
-use Rattle.pfl_node.proofs.Ready.{begins, may-settle, settled, settled-answer}
-use Rattle.pfl_node.proofs.Received.{received-ends}
+use Rattle.pfl_receive.specs.Delivering.{received}
+use Rattle.pfl_node.specs.Delivering.{frame_edits, receive_refusal}
+use Rattle.pfl_node.proofs.Judged.{ends}
 use Rattle.pfl_node.proofs.node.Node.receive_on.Goals as goal
 
-pub take_frame-tried-requires : goal.take_frame-tried-requires
-take_frame-tried-requires g c =
-    let n = c.self.inside.desk.node in
-    let b = begins c.self.inside.desk c.self.invariant.1 in
-    let room = b.frame in
-    let few = c.self.invariant.0.parts.few in
-    let short = rw (← c.self.view_is) at c.requires.short in
-    record { room = omega (arith, room, few, short) }
+pub take_all-done-requires : goal.take_all-done-requires
+take_all-done-requires g c = record { idle = record { node = c.self.invariant.0; ready = c.self.invariant.1 }; short = rw (← c.self.view_is) at c.requires.short }
 
-pub settle-requires : goal.settle-requires
-settle-requires g c =
-    let n = c.self.inside.desk.node in
-    let d = c.take_frame-tried.ensures in
-    record {
-      counted = may-settle c.take_frame-tried.new.desk.node c.take_frame-tried.result (receive_points n c.args.frame.now) d.went
-          (received-ends n c.take_frame-tried.new.desk.node c.args.frame.now c.take_frame-tried.result c.self.invariant.0.counted d.node);
-    }
+pub conclude-requires : goal.conclude-requires
+conclude-requires g c = record { counted = c.take_all-done.ensures.counted }
 
 pub invariant_of-self : goal.invariant_of-self
 invariant_of-self g c =
     let n = c.self.inside.desk.node in
-    let f = c.args.frame.now in
-    let d = c.take_frame-tried.ensures in
-    let e = c.settle.ensures in
+    let e = c.conclude.ensures in
     let r = g.R.Recorder in
-    let s = settled (g.W.OfPart.of c.args.part) (r.list c.args.to.now) (r.list c.settle.new.to)
-    (12 * frame_work n f) c.self.inside.desk c.take_frame-tried.new.desk c.settle.new.self c.take_frame-tried.result
-    (receive_points n f) c.self.invariant.0 c.self.invariant.1 d.writes d.went
-    (received-ends n c.take_frame-tried.new.desk.node f c.take_frame-tried.result c.self.invariant.0.counted d.node) e.none e.room
-    c.settle.result e.refused e.undone e.stands e.kept e.parts e.recorded in
+    let s = ends (g.W.OfPart.of c.args.part) (r.list c.args.to.now) (r.list c.conclude.new.to) (frame_edits n c.args.frame.now) (receive_refusal n c.args.frame.now) (received n c.args.frame.now)
+    (λ count. count ≡ length (records_of c.args.frame.now))
+    c.self.inside.desk c.take_all-done.new.desk c.conclude.new.self c.take_all-done.result c.conclude.result c.self.invariant.0 c.self.invariant.1
+    c.take_all-done.ensures e.refused e.undone e.untaken e.stands e.kept e.parts e.recorded e.none e.room in
     (s.node, s.ready)
 
 pub returns : goal.returns
 returns g c =
     let n = c.self.inside.desk.node in
-    let f = c.args.frame.now in
-    let d = c.take_frame-tried.ensures in
-    let e = c.settle.ensures in
+    let e = c.conclude.ensures in
     let r = g.R.Recorder in
-    let s = settled (g.W.OfPart.of c.args.part) (r.list c.args.to.now) (r.list c.settle.new.to)
-    (12 * frame_work n f) c.self.inside.desk c.take_frame-tried.new.desk c.settle.new.self c.take_frame-tried.result
-    (receive_points n f) c.self.invariant.0 c.self.invariant.1 d.writes d.went
-    (received-ends n c.take_frame-tried.new.desk.node f c.take_frame-tried.result c.self.invariant.0.counted d.node) e.none e.room
-    c.settle.result e.refused e.undone e.stands e.kept e.parts e.recorded in
-    let node = settled-answer c.take_frame-tried.new.desk.node c.settle.new.self.node c.take_frame-tried.result
-    (λ _ m. m ≡ received n f) d.node c.settle.result e.stands e.kept in
-    let count = settled-answer c.take_frame-tried.new.desk.node c.settle.new.self.node c.take_frame-tried.result
-    (λ k _. k ≡ length (records_of f)) d.count c.settle.result e.stands e.kept in
-    rw (← c.self.view_is) (record {
-      refused = s.refused;
-      unchanged = s.unchanged;
-      not_refused = s.not_refused;
-      node = node;
-      count = count;
-      untaken = e.untaken;
-      recorded = s.recorded;
-      one_more = e.one_more;
-      total = e.total;
-    })
+    let s = ends (g.W.OfPart.of c.args.part) (r.list c.args.to.now) (r.list c.conclude.new.to) (frame_edits n c.args.frame.now) (receive_refusal n c.args.frame.now) (received n c.args.frame.now)
+    (λ count. count ≡ length (records_of c.args.frame.now))
+    c.self.inside.desk c.take_all-done.new.desk c.conclude.new.self c.take_all-done.result c.conclude.result c.self.invariant.0 c.self.invariant.1
+    c.take_all-done.ensures e.refused e.undone e.untaken e.stands e.kept e.parts e.recorded e.none e.room in
+    rw (← c.self.view_is) (record { steps = s.steps; one_more = e.one_more; total = e.total })

@@ -15,13 +15,13 @@ use Rattle.pfl_world.proofs.world.World.flush.Goals as goal
 
 pub invariant_of-self-2 : goal.invariant_of-self-2
 invariant_of-self-2 g c =
-    agrees_after (joined c.self.inside.nodes c.self.inside.link c.self.inside.next_boot) c.args.node c.at_mut.ensures.node c.in_ok-bytes.ensures.leads_back
+    agrees_after (joined c.self.inside.nodes c.self.inside.link c.self.inside.next_boot) c.args.node c.at_mut.ensures.node c.in_ok-bytes.ensures.gives.leads_back
     c.self.invariant
 
 pub send-requires-clause-fits : goal.send-requires-clause-fits
 send-requires-clause-fits g c =
     fits_after (joined c.self.inside.nodes c.self.inside.link c.self.inside.next_boot) c.args.node c.at_mut.ensures.node
-    c.in_ok-bytes.ensures.leads_back
+    c.in_ok-bytes.ensures.gives.leads_back
 
 pub send-requires-clause-room : goal.send-requires-clause-room
 send-requires-clause-room g c =
@@ -39,40 +39,40 @@ send-requires-clause-short g c =
 pub returns-in-Err-clause-unchanged : goal.returns-in-Err-clause-unchanged
 returns-in-Err-clause-unchanged g c =
     c.in-Err.ensures.undone
-    ∙ back_after (joined c.self.inside.nodes c.self.inside.link c.self.inside.next_boot) c.args.node c.at_mut.ensures.node c.in_ok-bytes.ensures.leads_back
+    ∙ back_after (joined c.self.inside.nodes c.self.inside.link c.self.inside.next_boot) c.args.node c.at_mut.ensures.node c.in_ok-bytes.ensures.gives.leads_back
     ∙ c.self.view_is
 
 pub returns-in-Ok-clause-world : goal.returns-in-Ok-clause-world
 returns-in-Ok-clause-world g c =
     sent_is c.args.self.now _ c.send.new.self c.args.node _ c.from.result
-    (made_as (joined c.self.inside.nodes c.self.inside.link c.self.inside.next_boot) c.args.node c.at_mut.ensures.node c.in_ok-bytes.ensures.leads_back
-    c.args.self.now _ c.self.view_is refl flushed c.in_ok-bytes.ensures.node)
-    (c.from.ensures ∙ c.in_ok-bytes.ensures.bytes
+    (made_as (joined c.self.inside.nodes c.self.inside.link c.self.inside.next_boot) c.args.node c.at_mut.ensures.node c.in_ok-bytes.ensures.gives.leads_back
+    c.args.self.now _ c.self.view_is refl flushed c.in_ok-bytes.ensures.gives.node)
+    (c.from.ensures ∙ c.in_ok-bytes.ensures.gives.answer
     ∙ ap (λ (n : Node). spelling (frame_of n))
     (lent_from (joined c.self.inside.nodes c.self.inside.link c.self.inside.next_boot) c.args.node c.at_mut.ensures.node
-    c.in_ok-bytes.ensures.leads_back c.args.self.now c.self.view_is))
+    c.in_ok-bytes.ensures.gives.leads_back c.args.self.now c.self.view_is))
     c.in-Ok.ensures.world
 
 pub returns-in-Ok-clause-outcome : goal.returns-in-Ok-clause-outcome
 returns-in-Ok-clause-outcome g c =
     outcome_is c.args.self.now _ c.args.node _ c.from.result _
-    (made_as (joined c.self.inside.nodes c.self.inside.link c.self.inside.next_boot) c.args.node c.at_mut.ensures.node c.in_ok-bytes.ensures.leads_back
-    c.args.self.now _ c.self.view_is refl flushed c.in_ok-bytes.ensures.node)
-    (c.from.ensures ∙ c.in_ok-bytes.ensures.bytes
+    (made_as (joined c.self.inside.nodes c.self.inside.link c.self.inside.next_boot) c.args.node c.at_mut.ensures.node c.in_ok-bytes.ensures.gives.leads_back
+    c.args.self.now _ c.self.view_is refl flushed c.in_ok-bytes.ensures.gives.node)
+    (c.from.ensures ∙ c.in_ok-bytes.ensures.gives.answer
     ∙ ap (λ (n : Node). spelling (frame_of n))
     (lent_from (joined c.self.inside.nodes c.self.inside.link c.self.inside.next_boot) c.args.node c.at_mut.ensures.node
-    c.in_ok-bytes.ensures.leads_back c.args.self.now c.self.view_is))
+    c.in_ok-bytes.ensures.gives.leads_back c.args.self.now c.self.view_is))
     c.in-Ok.ensures.outcome
 
 pub returns-in-Ok-clause-recorded : goal.returns-in-Ok-clause-recorded
 returns-in-Ok-clause-recorded g c =
     recorded-as c.in-Ok.ensures.recorded
-    (back_after (joined c.self.inside.nodes c.self.inside.link c.self.inside.next_boot) c.args.node c.at_mut.ensures.node c.in_ok-bytes.ensures.leads_back
+    (back_after (joined c.self.inside.nodes c.self.inside.link c.self.inside.next_boot) c.args.node c.at_mut.ensures.node c.in_ok-bytes.ensures.gives.leads_back
     ∙ c.self.view_is) refl
 
 pub returns-in-Ok-clause-few : goal.returns-in-Ok-clause-few
 returns-in-Ok-clause-few g c =
     let few = subst (λ (n : Node). length c.in_ok-bytes.change.list ≤ 1 + 2 * length (next_frame n.queue n.limits.mtu))
     (lent_from (joined c.self.inside.nodes c.self.inside.link c.self.inside.next_boot) c.args.node c.at_mut.ensures.node
-    c.in_ok-bytes.ensures.leads_back c.args.self.now c.self.view_is) c.in_ok-bytes.ensures.weight in
+    c.in_ok-bytes.ensures.gives.leads_back c.args.self.now c.self.view_is) c.in_ok-bytes.ensures.gives.weight in
     omega (arith, c.in-Ok.ensures.few, few)

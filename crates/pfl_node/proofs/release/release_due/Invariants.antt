@@ -1,7 +1,7 @@
 use Rattle.pfl_node.proofs.Released.{IsReleased}
 use Rattle.std.proofs.Common.{length}
 use Rattle.pfl_node.specs.Releasing.{due_names}
-use Rattle.pfl_node.proofs.release.release.Given as goal
+use Rattle.pfl_node.proofs.release.release_due.Given as goal
 
 abbrev pub invariant-loop-name : goal.invariant-loop-name
 invariant-loop-name g l = IsReleased l.fn.desk l.desk l.count

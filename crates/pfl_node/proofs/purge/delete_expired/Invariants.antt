@@ -1,7 +1,7 @@
 use Rattle.pfl_node.proofs.Purged.{IsPurged, found}
 use Rattle.std.proofs.Common.{length}
 use Rattle.pfl_node.specs.Purging.{expired_among}
-use Rattle.pfl_node.proofs.purge.purge.Given as goal
+use Rattle.pfl_node.proofs.purge.delete_expired.Given as goal
 
 abbrev pub invariant-loop-state : goal.invariant-loop-state
 invariant-loop-state g l = IsPurged l.fn.desk l.desk l.count l.overcounted
