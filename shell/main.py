@@ -443,6 +443,9 @@ def joined_to(words: Words, port: int, page: Optional[Page]) -> Laboratory:
 
 def lines_of_input() -> Iterable[str]:
     """The lines of standard input: all together from a file, and from a pipe as they come."""
+    from .kinds import refuse_other_input
+
+    refuse_other_input(sys.stdin.fileno())
     lines = (line.rstrip("\n") for line in sys.stdin)
     return list(lines) if stat.S_ISREG(os.fstat(sys.stdin.fileno()).st_mode) else lines
 

@@ -9,6 +9,7 @@ from itertools import takewhile
 from typing import IO, Dict, Iterator, List, Sequence, Tuple
 
 from .endings import NotDone
+from .kinds import ENOUGH, SCRIPT, OtherFile, refuse_other
 from .language.lines import content_of, has_word, lines_of, opens
 from .programs import check_setup, run_lines
 
@@ -94,9 +95,11 @@ class Script:
 
 
 def read(path: str) -> str:
-    """The text of a script, whatever bytes it has."""
+    """The text of a script, whatever bytes it has; a file that looks like one of another kind is refused."""
     with opened(path, "r") as it:
-        return it.read()
+        text = it.read()
+    refuse_other(path, text[:ENOUGH].encode("utf-8", "surrogateescape"), SCRIPT)
+    return text
 
 
 def opened(path: str, mode: str) -> IO[str]:
@@ -184,6 +187,10 @@ def verified(program: str, paths: Sequence[str]) -> Verified:
             if error.filename == program:
                 raise
             lines.append(f"{error.filename or path}: {error.strerror}")
+            unread += 1
+            continue
+        except OtherFile as why:
+            lines.append(str(why))
             unread += 1
             continue
         differing += bool(found)

@@ -13,6 +13,7 @@ from .branches import Branch
 from .colours import Paint
 from .dialogue import Loop
 from .fitting import shortened
+from .kinds import OtherFile
 from .laboratory import Asked, Laboratory, Unknown, event_of
 from .language import pf_conf
 from .language.commands import KERNEL, SETUP, STEP
@@ -124,7 +125,7 @@ class Shell(Loop):
             self.fault(f"this line is left out of the setup: {fault.words}")
         except OSError as error:
             self.fault(f"{error.filename}: {error.strerror}" if error.filename else str(error))
-        except (Unknown, macros.NotQuiet, scripts.NotWritten) as error:
+        except (Unknown, macros.NotQuiet, scripts.NotWritten, OtherFile) as error:
             self.fault(str(error))
         except Exception as error:  # a fault of the shell's own must not cost the pair
             self.fault(f"the shell failed here, but the pair is as it was: {error!r}")

@@ -3,7 +3,9 @@ from __future__ import annotations
 
 import struct
 import zlib
-from typing import BinaryIO, Dict, Iterator, List, NamedTuple, Tuple
+from typing import BinaryIO, Iterator, List, NamedTuple
+
+from ..kinds import CAPTURE, GZIP, PCAP, SECTION, looks_like_capture, other_kind
 
 NANOSECONDS = 10**9
 # The longest packet that libpcap reads, and with it the longest block of a packet. Other blocks may have any length.
@@ -15,25 +17,18 @@ _PIECE = 1 << 18
 _PAST_ALL = 253402214400
 _MOST_INTERFACES = 65536
 
-_GZIP = b"\x1f\x8b"
-_SECTION = b"\x0a\x0d\x0d\x0a"
 _INTERFACE, _OLD_PACKET, _SIMPLE_PACKET, _ENHANCED_PACKET = 1, 2, 3, 6
 _READ = (_INTERFACE, _OLD_PACKET, _SIMPLE_PACKET, _ENHANCED_PACKET)
-# The byte orders of a pcapng section, and of a pcap with the units of a second that its packets count.
+# The byte orders of a pcapng section.
 _ORDERS = {b"\x4d\x3c\x2b\x1a": "<", b"\x1a\x2b\x3c\x4d": ">"}
-_KINDS: Dict[bytes, Tuple[str, int]] = {
-    b"\xd4\xc3\xb2\xa1": ("<", 10**6),
-    b"\xa1\xb2\xc3\xd4": (">", 10**6),
-    b"\x4d\x3c\xb2\xa1": ("<", 10**9),
-    b"\xa1\xb2\x3c\x4d": (">", 10**9),
-}
 _FILE_HEADER, _PACKET_HEADER, _BLOCK_HEADER = 24, 16, 8
+_NEITHER = "the file is neither pcap nor pcapng"
 _OPTION_RESOLUTION, _OPTION_OFFSET = 9, 14
 
 
 def looks_like_one(begin: bytes) -> bool:
     """Whether a file that begins with these bytes may be a capture."""
-    return begin[:4] == _SECTION or begin[:4] in _KINDS or begin.startswith(_GZIP)
+    return looks_like_capture(begin) or begin.startswith(GZIP)
 
 
 class BadCapture(Exception):
@@ -55,12 +50,12 @@ def packets(path: str, name: str = "") -> Iterator[Packet]:
     with open(path, "rb") as raw:
         source = _Source(raw, name or path)
         begin = source.take(4)
-        if begin == _SECTION:
+        if begin == SECTION:
             yield from _Blocks(source).packets()
-        elif begin in _KINDS:
-            yield from _pcap(source, *_KINDS[begin])
+        elif begin in PCAP:
+            yield from _pcap(source, *PCAP[begin])
         else:
-            raise source.fault("the file is neither pcap nor pcapng" if begin else "the file is empty")
+            raise source.fault("the file is empty" if not begin else str(other_kind(source.first, CAPTURE) or _NEITHER))
 
 
 class _Source:
@@ -73,12 +68,17 @@ class _Source:
         self._before = 0
         self._packed = b""
         begin = raw.read(_PIECE)
-        self._unpacker = zlib.decompressobj(31) if begin.startswith(_GZIP) else None
+        self._unpacker = zlib.decompressobj(31) if begin.startswith(GZIP) else None
         if self._unpacker:
             self._packed = begin
         else:
             self._piece = begin
         self._trouble = ""
+
+    @property
+    def first(self) -> bytes:
+        """The first bytes, as long as only a few of them were taken."""
+        return self._piece
 
     @property
     def place(self) -> int:
@@ -139,9 +139,9 @@ class _Source:
         while not self._trouble:
             if self._unpacker.eof:
                 self._packed = self._unpacker.unused_data
-                if len(self._packed) < len(_GZIP):
+                if len(self._packed) < len(GZIP):
                     self._packed += self._raw.read(_PIECE)
-                if not self._packed.startswith(_GZIP):
+                if not self._packed.startswith(GZIP):
                     return b""
                 self._unpacker = zlib.decompressobj(31)
             elif not self._packed:
@@ -231,7 +231,7 @@ class _Blocks:
 
     def packets(self) -> Iterator[Packet]:
         """The packets of all sections."""
-        kind = _SECTION
+        kind = SECTION
         while kind:
             at = self._source.place - len(kind)
             if len(kind) < 4:
@@ -243,7 +243,7 @@ class _Blocks:
     def _block(self, kind: bytes, at: int) -> Iterator[Packet]:
         """The packet of a block, if it has one."""
         size, taken = self._source.take(4), _BLOCK_HEADER
-        if kind == _SECTION:
+        if kind == SECTION:
             # (the byte order of the length comes after it)
             self._begin(at)
             taken += 4

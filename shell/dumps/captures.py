@@ -6,6 +6,8 @@ from functools import partial
 from io import TextIOWrapper
 from typing import Callable, Iterator, Set
 
+from ..kinds import DUMP, refuse_other
+
 # How many characters are read at once. A longer line is taken in pieces, so no file needs more memory than that for its lines.
 BLOCK = 1 << 18
 # How many lines that are not understood are reported with their text, and how much of each text.
@@ -21,9 +23,10 @@ def _encoding(begin: bytes) -> str:
 
 
 def blocks(path: str) -> Iterator[str]:
-    """A file in blocks of whole lines; bytes that are not text as `\\xff`."""
+    """A file in blocks of whole lines; bytes that are not text as `\\xff`. A file that looks like one of another kind is refused."""
     rest = ""
     with open(path, "rb") as raw, TextIOWrapper(raw, _encoding(raw.peek(2)), "backslashreplace", "\n") as file:
+        refuse_other(path, raw.peek(2), DUMP)
         for piece in iter(partial(file.read, BLOCK), ""):
             text = rest + piece
             end = text.rfind("\n") + 1 or len(text)

@@ -65,7 +65,7 @@ def _content(reader: Reader) -> Content:
     word = reader.take()
     if reader.accept("="):
         return Macro(word.text, _macro_value(reader))
-    read = _STATEMENTS.get(word.text) if word.kind is Kind.WORD else None
+    read = STATEMENTS.get(word.text) if word.kind is Kind.WORD else None
     if read is None:
         raise NotRead(_LATER.get(word.text, f"{word} begins no statement"))
     return read(reader, word.text)
@@ -405,7 +405,7 @@ def _others(reader: Reader, word: str) -> Other:
 
 # What may stand in the braces of an anchor.
 _IN_BRACES = ("pass", "block", "match", "anchor")
-_STATEMENTS: Dict[str, Callable[[Reader, str], Content]] = {
+STATEMENTS: Dict[str, Callable[[Reader, str], Content]] = {
     **{it: _rule for it in ("pass", "block", "match")},
     "anchor": _anchor,
     **{f"{it}-anchor": _translation_anchor for it in _TRANSLATIONS},

@@ -4,6 +4,7 @@ from __future__ import annotations
 import os
 from typing import Dict, Iterator, List, Optional
 
+from ..kinds import ENOUGH, PF_CONF, refuse_other
 from ..stories import legible
 from .grammar import Content, Faulty, Host, Include, Line, Load, Macro, Source
 from .parser import host_of, parse
@@ -38,9 +39,12 @@ class Sources:
         self._is_of_anchor = is_of_anchor
 
     def lines(self, path: str, depth: int = 0) -> Iterator[Line]:
-        """The statements of a file. Those of an included file follow the statement that includes it."""
-        self._files += 1
+        """The statements of a file. Those of an included file follow the statement that includes it. The first file of all is refused if
+        it looks like one of another kind."""
         text = read(path)
+        if not self._files:
+            refuse_other(path, text[:ENOUGH].encode("utf-8", "surrogateescape"), PF_CONF)
+        self._files += 1
         lexer, source = Lexer(text, self._macros), Source(path, text.split("\n"))
         for statement in iter(lexer.statement, None):
             content = self._checked(path, parse(statement, source), depth)
