@@ -149,7 +149,8 @@ def _places(lab: Laboratory, words: Sequence[str], begun: str) -> Iterable[str]:
     if words[0] == BACK.word and words[-1] == TO and len(words) < 4:
         return lab.marks
     own = {BACK.word: TO, FORK.word: HERE}[words[0]]
-    is_place = len(words) == 1 or len(words) == 2 and own == TO
+    # (`back 1` is whole)
+    is_place = len(words) == 1 or len(words) == 2 and own == TO and not words[1].isdecimal()
     return [*_following(lab, words, words, begun), *[own] * is_place]
 
 

@@ -11,6 +11,7 @@ from typing import Dict, Iterable, List, NamedTuple, Optional, Sequence, Tuple
 from .language import commands, events
 from .language.commands import Line
 from .language.events import Event
+from .language.forms import BRANCH
 from .language.lines import FOR_PEOPLE
 from .language.searches import APART, DIFFER, SEARCH
 
@@ -81,8 +82,14 @@ def _written_out(text: str) -> str:
     return re.sub(rf"\b({'|'.join(_WRITTEN_OUT)})\b", lambda it: _WRITTEN_OUT[it[0]], text)
 
 
+def typed(form: str) -> str:
+    """The form of a line in a dialogue, where some commands may leave out their branch."""
+    word = form.split(" ")[0]
+    return form.replace(f"{word} {BRANCH.name}", f"{word} [{BRANCH.name}]") if word in commands.WITHOUT_BRANCH else form
+
+
 def _of_line(it: Line) -> Help:
-    return Help(it.form, it.what, it.more)
+    return Help(typed(it.form), it.what, it.more)
 
 
 def _of_event(it: Event) -> Help:
@@ -236,7 +243,7 @@ SHELL: Dict[str, Help] = {
         "name[s] the cursor's place in the branch in use, for `back to NAME`; without NAME, list[s] the marks",
         "Marks last as long as the dialogue; `save` does not write them.",
     ),
-    "use": _word("use BRANCH", "choose[s] the branch in use: events and questions without a branch are about it"),
+    "use": _word("use BRANCH", "choose[s] the branch in use: lines that name no branch are about it"),
     "verify": _word("verify FILE..", "run[s] scripts by themselves, and report[s] where their lines `#>` and the replies differ"),
     "annotate": _word(
         "annotate [--dry-run] FILE..",
@@ -288,9 +295,9 @@ def about(word: str, columns: Optional[int] = None) -> List[str]:
 
 
 def shows(word: str, forms: Iterable[str]) -> bool:
-    """Whether the help of a word has these forms; before that of an event its command may stand."""
+    """Whether the help of a word has these forms; before that of an event its command may be."""
     its = tuple(WORDS[word].form.split("\n")) if word in WORDS else ()
-    return all(_written_out(it).endswith(its) for it in forms)
+    return all(_written_out(typed(form)).endswith(its) for form in forms)
 
 
 def _wrapped(text: str, columns: Optional[int], first: str = "", others: str = "") -> List[str]:

@@ -54,7 +54,8 @@ STATEMENTS = (
     *("pass", "block", "match", "scrub", "antispoof", "anchor", "load", "table", "include", "altq", "queue", "no"),
     *(f"{it}{anchor}" for it in ("nat", "rdr", "binat") for anchor in ("", "-anchor")),
 )
-_MACRO = re.compile(r"\w+[ \t]*=")
+# What is in files of several kinds: comments, a macro of a pf.conf, and a timeout.
+_OF_SEVERAL = re.compile(rf"#|\w+[ \t]*=|{SET.word} +{TIMEOUT.word} +[^ {{]")
 _OF_SCRIPT = {*SETUP, *COMMANDS, *EVENTS, SEARCH} - {SET.word}
 
 
@@ -95,7 +96,7 @@ def kind_of(begin: bytes) -> Optional[Kind]:
     text = begin.decode("utf-16" if is_wide else "utf-8-sig", "replace").replace("\\\n", " ")
     # (the last line may be cut)
     lines = [it.strip() for it in text.split("\n")[: -1 if len(begin) >= ENOUGH else None]]
-    read = [it for it in lines if it and not it.startswith("#")]
+    read = [it for it in lines if it and not _OF_SEVERAL.match(it)]
     known = [it for it in map(_kind_of_line, read) if it]
     return known[0] if len({*known}) == 1 and 2 * len(known) >= len(read) else None
 
@@ -120,7 +121,5 @@ def _kind_of_line(line: str) -> Optional[Kind]:
     if word in _OF_SCRIPT:
         return SCRIPT
     if word == SET.word and others:
-        # (both have a form `set timeout CLASS SECONDS`)
-        is_of_both = others[0] == TIMEOUT.word and not "".join(others[1:]).startswith("{")
-        return None if is_of_both else SCRIPT if others[0] in LIMITS else PF_CONF
-    return PF_CONF if word in STATEMENTS or _MACRO.match(line) else None
+        return SCRIPT if others[0] in LIMITS else PF_CONF
+    return PF_CONF if word in STATEMENTS else None

@@ -7,12 +7,10 @@ from typing import List, NamedTuple, Optional, Sequence, Tuple
 
 from .branches import Mark
 from .laboratory import Laboratory, Unknown
-from .language.commands import BACK, EXCISE, FORK, FORWARD, PAST, RESTORE, SHOW
+from .language.commands import BACK, COMMANDS, FORK, FORWARD, WITHOUT_BRANCH
 from .words import counted
 
 TO, HERE = "to", "here"
-# The commands that are about the branch in use if none is named, each with the forms of its other words. `drop` is not among them.
-WITHOUT_BRANCH = {it.word: it.values[1:] for it in (BACK, FORWARD, FORK, SHOW, PAST, EXCISE, RESTORE)}
 # The form of a name, the same as for a branch.
 NAME = re.compile("[a-z][a-z0-9-]{0,15}")
 
@@ -52,11 +50,13 @@ def line_for(lab: Laboratory, words: Sequence[str]) -> str:
 
 
 def _of_branch_in_use(lab: Laboratory, words: Sequence[str]) -> str:
-    """A command without its branch, which is the one in use then; empty if the words are another line. (The name of a branch begins with a letter.)"""
+    """A command without its branch, which is the one in use then; empty if the words are another line. (The name of a branch begins with a
+    letter.) If its last words are missing, the program's line lacks these, and not the branch."""
     word, *others = words
-    if word not in WITHOUT_BRANCH or len(others) != len(WITHOUT_BRANCH[word]):
+    wanted = COMMANDS[word].values[1:] if word in WITHOUT_BRANCH else ()
+    if word not in WITHOUT_BRANCH or len(others) > len(wanted):
         return ""
-    is_right = all(it.wrong(other) is None for it, other in zip(WITHOUT_BRANCH[word], others))
+    is_right = all(form.wrong(other) is None for form, other in zip(wanted, others))
     return " ".join([word, lab.in_use, *others]) if is_right else ""
 
 

@@ -151,5 +151,7 @@ COMMANDS = {it.word: it for it in (STEP, BACK, FORWARD, FORK, DROP, SHOW, PAST, 
 # The commands that change the pair; the others look.
 CHANGING = tuple(it.word for it in (STEP, BACK, FORWARD, FORK, DROP, EXCISE, RESTORE))
 LOOKING = tuple(word for word in COMMANDS if word not in CHANGING)
+# The commands that are about the branch in use if a person in a dialogue names none. `drop` is not among them.
+WITHOUT_BRANCH = tuple(it.word for it in (BACK, FORWARD, FORK, SHOW, PAST, EXCISE, RESTORE))
 # The commands that the shell takes as they are.
 TYPED = {word: it for word, it in COMMANDS.items() if not it.is_hidden}

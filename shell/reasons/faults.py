@@ -33,7 +33,7 @@ _OF_SETUPS = {
 def explain_fault(line: str, reply: str, columns: Optional[int] = None, shown: Optional[Set[str]] = None) -> List[str]:
     """What is wrong with a line, and where. The reply is the program's `bad 5 Number`, or for a setup `line 5 Number`, or for what
     a line of good form says, `rule 2 NatNotOut` or `world 1 TooSmall`. The line is shown in rows of at most this many columns. A
-    dialogue gives the forms that it has shown: they are not shown again, and those of this line are added."""
+    dialogue gives the forms that it has shown: they are not shown again, and those of this line are added, as a person may type them."""
     kind, name = reply.split()[0], reply.split()[-1]
     if kind not in ("bad", "line"):
         return _of_content(line.split(), name)
@@ -42,12 +42,14 @@ def explain_fault(line: str, reply: str, columns: Optional[int] = None, shown: O
         lines = [f"{_WORDS.get(name, name)}; the shell cannot say which word"]
     else:
         lines = [shortened(fault.why), *_marked([*map(shortened, words_of(line))], fault.place, columns)]
-    return [*lines, *_wanted(line.split(), set() if shown is None else shown)]
+    forms = wanted_form(line.split())
+    if shown is None:
+        return [*lines, *(f"expected: {form}" for form in forms)]
+    return [*lines, *_wanted([*map(helps.typed, forms)], wanted_word(line.split()), shown)]
 
 
-def _wanted(words: Sequence[str], shown: Set[str]) -> List[str]:
+def _wanted(forms: Sequence[str], word: str, shown: Set[str]) -> List[str]:
     """The forms of the line that was probably meant, or where these were shown, how to see them again."""
-    forms, word = wanted_form(words), wanted_word(words)
     if not shown.issuperset(forms):
         shown.update(forms)
         return [f"expected: {it}" for it in forms]

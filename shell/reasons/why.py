@@ -64,7 +64,7 @@ def why_last(lab: Laboratory, paint: Paint, columns: Optional[int] = None) -> Li
     line, reply = lab.last.line, lab.last.reply[0]
     words, kind = line.split(), reply.split()[0]
     if kind == "bad":
-        return [paint.head(f"{shortened(line)}: {reply}"), *_indented(explain_fault(line, reply, columns - len(INDENT) if columns else None))]
+        return [paint.head(f"{shortened(line)}: {reply}"), *_indented(explain_fault(line, reply, columns - len(INDENT) if columns else None, set()))]
     if kind == "refused" and "Event" not in reply.split():
         return [paint.head(f"{line}: {reply}"), *_indented(explain_command(lab, line, reply))]
     if words[0] != STEP.word:

@@ -33,6 +33,10 @@ class Offered(unittest.TestCase):
     def test_words_branches_events_nodes_and_tickets(self) -> None:
         self.offers("exc", "excise")
         self.offers("past ", "main", "other")
+        self.offers("back ", "main", "other", "to")
+        self.offers("back main ", "to")
+        for line in ("back 1 ", "forward 1 ", "fork 1 ", "past 1 ", "excise 1 "):
+            self.offers(line)
         self.offers("step o", "other")
         self.offers("step main rel", "release")
         self.offers("packet a ", "in", "out")

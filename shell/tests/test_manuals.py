@@ -5,6 +5,7 @@ import re
 import subprocess
 import unittest
 from glob import glob
+from pathlib import Path
 from typing import List
 
 from .. import helps, scripts
@@ -101,7 +102,7 @@ class Named(unittest.TestCase):
         found = set()
         for path in glob(f"{TOP}/shell/**/*.py", recursive=True):
             if "/tests/" not in path:
-                found |= {*re.findall(r"environ(?:\.get\(|\[)\"(\w+)\"", scripts.read(path))}
+                found |= {*re.findall(r"environ(?:\.get\(|\[)\"(\w+)\"", Path(path).read_text(encoding="utf-8"))}
         self.assertGreaterEqual(len(found), 3)
         self.assertEqual(found, {*re.findall(r"(?m)^\.It Ev (\w+)$", source("pfl_shell"))})
 

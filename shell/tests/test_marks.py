@@ -4,13 +4,16 @@ from __future__ import annotations
 import io
 import tempfile
 import unittest
+from pathlib import Path
 from typing import List
 
+from .. import helps
 from ..colours import PLAIN
 from ..laboratory import Laboratory
+from ..language.commands import COMMANDS, WITHOUT_BRANCH
 from ..scripts import read
 from ..shell import Shell
-from . import program
+from . import TOP, program
 
 TICKS = ("open", "tick a 1", "tick a 2", "tick a 3")
 
@@ -46,6 +49,21 @@ class Places(unittest.TestCase):
     def test_a_command_of_another_form_is_answered_as_it_is(self) -> None:
         self.assertEqual(self.said("back main", "drop", "fork main 1"), ["bad 4 Missing"] * 3)
         self.assertEqual(self.said("back main 1"), ["at 2"])
+
+    def test_what_is_missing_is_not_the_branch(self) -> None:
+        self.shell.is_typed = True
+        self.assertEqual(self.said("back")[:3], ["> back main", "bad 4 Missing", "N is missing: a number from 0 to 4294967295"])
+        self.assertEqual(self.said("fork 3")[0], "> fork main 3")
+        self.assertEqual(self.said("excise")[-1], "expected: excise [BRANCH] K")
+        self.assertEqual(self.said("drop")[-1], "expected: drop BRANCH")
+
+    def test_the_documents_have_each_form_without_its_branch(self) -> None:
+        page, manual = (Path(TOP, f"docs/{name}").read_text(encoding="utf-8") for name in ("SHELL.md", "man/pfl_shell.1"))
+        for word in WITHOUT_BRANCH:
+            values = [form.name for form in COMMANDS[word].values[1:]]
+            self.assertEqual(helps.COMMANDS[word].form, " ".join([word, "[BRANCH]", *values]))
+            self.assertIn(f"`{' '.join([word, *values])}`", page)
+            self.assertRegex(manual, rf"\n\.Ic {' Ar '.join([word, ' '.join(values).lower()]) if values else word}[ ,.\n]")
 
     def test_a_mark_is_found_by_its_name(self) -> None:
         self.assertEqual(self.said("mark"), ["there are no marks; `mark NAME` sets one"])
@@ -88,7 +106,7 @@ class Places(unittest.TestCase):
 
     def test_help_has_them(self) -> None:
         forms = [line for line in self.said("help back", "help fork") if line[0] != " "]
-        self.assertEqual(forms, ["back BRANCH N", "back [BRANCH] to K", "back [BRANCH] to MARK", "fork BRANCH K NEW", "fork here NEW"])
+        self.assertEqual(forms, ["back [BRANCH] N", "back [BRANCH] to K", "back [BRANCH] to MARK", "fork [BRANCH] K NEW", "fork here NEW"])
         listed = self.said("help")
         for it in ("back to   moves the cursor", "fork here makes a branch"):
             self.assertTrue(any(line.startswith(f"  {it}") for line in listed), it)
