@@ -33,6 +33,8 @@ SUMMARY = ("branches", "events", "their cursors together", "states at a", "state
 
 # How many ends of packets are kept.
 MOST_ENDS = 48
+# How the reply to an accepted event begins, and what follows its outcome: how many events it discarded.
+_STEPPED, _DISCARDS = f"{STEP.word} ", " dropped "
 # The reply for a branch whose events sent no such frame.
 NO_FRAME = f"refused {numbered('NoFrame', COMMAND_REFUSALS)}"
 
@@ -325,5 +327,4 @@ def event_of(words: Sequence[str]) -> str:
 
 def outcome_of(reply: str) -> str:
     """The outcome of an accepted event, from its reply; any other reply as it is."""
-    words = reply.split()
-    return " ".join(words[1:-2]) if words[0] == STEP.word else reply
+    return reply[len(_STEPPED) : reply.rindex(_DISCARDS)] if reply.startswith(_STEPPED) else reply

@@ -18,7 +18,7 @@ from .language.lines import lines_of, opens
 from .language.searches import FOUND
 
 # The first words of replies that end with a line `end`.
-MANY_LINES = (*(it.replies[0].split()[0] for it in COMMANDS.values() if it.is_long), FOUND)
+MANY_LINES = frozenset((*(it.replies[0].split()[0] for it in COMMANDS.values() if it.is_long), FOUND))
 # What a session asks a server besides commands: for the lines of its setup, for the entries of its journal until the session's next
 # line comes, and for a few numbers.
 SETUP_WORD, FOLLOW, VIEW = "setup", "follow", "view"
@@ -63,7 +63,7 @@ def read_reply(lines: Iterator[str]) -> List[str]:
     if first is None:
         return []
     reply = [first.rstrip("\n")]
-    if reply[0].split(" ")[0] in MANY_LINES:
+    if reply[0].partition(" ")[0] in MANY_LINES:
         for line in lines:
             reply.append(line[:-1] if line.endswith("\n") else line)
             if reply[-1] == "end":

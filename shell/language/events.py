@@ -2,6 +2,7 @@
 from __future__ import annotations
 
 from dataclasses import dataclass, replace
+from functools import cached_property
 from typing import Sequence, Tuple
 
 from . import forms as form
@@ -23,7 +24,7 @@ class Outcome:
     help: str = ""
     drawn: str = ""
 
-    @property
+    @cached_property
     def word(self) -> str:
         return self.form.split()[0]
 

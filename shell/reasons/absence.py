@@ -2,6 +2,7 @@
 from __future__ import annotations
 
 from dataclasses import replace
+from functools import lru_cache
 from itertools import islice
 from typing import Callable, Container, Iterable, Iterator, List, Optional, Sequence
 
@@ -25,7 +26,9 @@ IsLoss = Callable[[Node, Node], bool]
 MOST_FATES = 4
 
 
-def explain_absence(question: Question) -> List[str]:
+# (who asks for the reason of an event may ask for this part of it again)
+@lru_cache(maxsize=1)
+def explain_absence(question: Question) -> Sequence[str]:
     """Why no state matched when one could be expected; nothing if none could be."""
     packet = question.packet
     here, there = question.table(packet.node), peer_of(question, packet.node)

@@ -11,7 +11,7 @@ from ..scripts import NotWritten
 from .asked import Asked
 from .otherwise import NOTHING, otherwise
 from .plays import Player
-from .report import report, shown_groups
+from .report import report, shown_groups, why_first
 from .tries import Progress, course_of, tried
 from .variants import Written, with_variants
 
@@ -32,7 +32,8 @@ def answer(lab: Laboratory, branch: Branch, asked: Asked, paint: Paint, progress
     """Tries the faults of a branch in a run of its own; nothing changes here. Variants are added to the script."""
     course, taken = course_of(lab, branch), lab.names()
     with lab.beside(branch) as other:
-        it = tried(Player(other, branch, course, asked.flushing), asked, progress)
+        player = Player(other, branch, course, asked.flushing)
+        it = tried(player, asked, progress, lambda *found: why_first(*found, paint))
         groups = shown_groups(it)
         others = NOTHING if it.is_interrupted else otherwise(lab, branch, it, groups)
         lines = report(it, groups, paint, others.groups)

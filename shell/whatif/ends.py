@@ -120,6 +120,8 @@ class End:
         self.flows: Dict[Keys, Dict[str, Kept]] = {}
         # The line of a state, by the flow and the node.
         self.lines: Dict[Tuple[Keys, str], str] = {}
+        # The flows in words.
+        self._texts: Dict[Keys, str] = {}
         # The nodes that wait for a bulk update.
         self.waiting: FrozenSet[str] = frozenset(
             words[1] for words in (it.split() for it in shown if it.startswith("node ")) if words[-1] != _IDLE
@@ -145,7 +147,7 @@ class End:
 
     def changed(self, other: "End") -> List[Keys]:
         """The flows of which another end has something else, by their words."""
-        every = sorted({*self.flows, *other.flows})
+        every = sorted(keys for keys in {*self.flows, *other.flows} if self.flows.get(keys) != other.flows.get(keys))
         return [it for it in every if self._counts(it) != other._counts(it)]
 
     def _counts(self, keys: Keys) -> Tuple[Where, Dict[str, Tuple[object, ...]]]:
@@ -156,8 +158,10 @@ class End:
         return tuple(sorted((self._change(it, other) for it in self.changed(other)), key=lambda it: (it.text, it.flow)))
 
     def _change(self, keys: Keys, other: "End") -> Change:
-        line = next(end.lines[keys, node] for end in (other, self) for node in NODES if (keys, node) in end.lines)
-        text, before, after = flow(State.read(line.split()[_NAME:])), self.where(keys), other.where(keys)
+        if keys not in self._texts:
+            line = next(end.lines[keys, node] for end in (other, self) for node in NODES if (keys, node) in end.lines)
+            self._texts[keys] = flow(State.read(line.split()[_NAME:]))
+        text, before, after = self._texts[keys], self.where(keys), other.where(keys)
         if before is not after:
             return Change(text, before, after)
         ours, its = self.flows[keys], other.flows[keys]

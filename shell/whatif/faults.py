@@ -2,12 +2,13 @@
 from __future__ import annotations
 
 from dataclasses import dataclass
+from functools import cached_property
 from itertools import combinations
 from typing import Callable, Dict, FrozenSet, Iterator, List, NamedTuple, Sequence, Tuple
 
 from ..branches import Happened
 from ..language import events
-from ..language.events import CUT, DELIVER, FLUSH, LOSE, OF_FRAME, PACKET, PURGE, RELEASE, REPEAT, RESTART, RETRY, SENT, TICK, TURN
+from ..language.events import CUT, DELIVER, FLUSH, KILL, LOSE, OF_FRAME, PACKET, PURGE, RELEASE, REPEAT, RESTART, RETRY, SENT, TICK, TURN
 from ..language.names import NODES
 from ..words import counted, seconds
 
@@ -21,7 +22,8 @@ Position = Tuple[int, int]
 OWN, AFTER, BETWEEN, BEFORE = 0, 1, 2, 3
 
 
-class Planned(NamedTuple):
+@dataclass(frozen=True)
+class Planned:
     """An event that is to happen: its number in the run, or 0 if a fault adds it; its line, with the tickets and names of the run; and
     the ticket under which the run knows the frame that it sends, or 0. A frame that a fault adds has a negative ticket."""
 
@@ -29,15 +31,15 @@ class Planned(NamedTuple):
     line: str
     sends: int = 0
 
-    @property
+    @cached_property
     def words(self) -> List[str]:
+        # (the events of a run are planned in each of its variants)
         return self.line.split()
 
-    @property
+    @cached_property
     def frame(self) -> int:
         """The frame that it is about, or 0."""
-        words = self.words
-        return int(words[1]) if words[0] in OF_FRAME else 0
+        return int(self.words[1]) if self.words[0] in OF_FRAME else 0
 
 
 class Sent(NamedTuple):
@@ -62,6 +64,7 @@ class Course:
 
     def __init__(self, lines: Sequence[str], outcomes: Sequence[str]):
         self.events = [Happened(number, *it) for number, it in enumerate(zip(lines, outcomes), 1)]
+        self.has_kills = any(it.kind is KILL for it in self.events)
         self.frames: Dict[int, Sent] = {}
         self.planned = [self._planned(it) for it in self.events]
         # For the name of a state the first packet that met it, which made it.
@@ -80,6 +83,15 @@ class Course:
 
     def __len__(self) -> int:
         return len(self.events)
+
+    def sender(self, ticket: int) -> str:
+        """The node that sent a frame, or the one that it is a copy of."""
+        it = self.events[self.frames[ticket].number - 1]
+        return it.words[1] if it.kind is FLUSH else self.sender(int(it.words[1]))
+
+    def in_flight(self, place: int) -> List[int]:
+        """The frames in flight after the first events."""
+        return [it.ticket for it in self.frames.values() if it.number <= place and not 0 < it.end <= place]
 
 
 @dataclass(frozen=True)
@@ -186,7 +198,7 @@ def _moved(kind: str, frame: Sent, after: int, what: str) -> Fault:
 
 SKIPPED = (PACKET, FLUSH, PURGE, RELEASE, TURN, RETRY)
 # Faults that the run itself has and that are not about a frame.
-OWN_FAULTS = (RESTART, events.KILL, events.CLEAR)
+OWN_FAULTS = (RESTART, KILL, events.CLEAR)
 
 
 def _without(kind: str, it: Happened) -> Fault:

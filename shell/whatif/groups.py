@@ -1,6 +1,7 @@
 """What a variant changes, and the variants that change the same."""
 from __future__ import annotations
 
+from bisect import bisect
 from dataclasses import dataclass, field
 from typing import Callable, Dict, FrozenSet, List, NamedTuple, Optional, Tuple
 
@@ -136,6 +137,7 @@ class Base:
         self.setup = setup
         self.trouble, self.fates = played.trouble, played.fates
         self.verdicts = {it.number: verdict_of(it.came) for it in course.events if it.kind is PACKET}
+        self._numbers = [*self.verdicts]
         self.end = End(played.shown, setup)
         self.causes = Causes(course, played.fates)
 
@@ -145,10 +147,17 @@ class Base:
         # (what does not come to rest has no end to compare)
         is_compared = not (played.trouble or self.trouble)
         changes, waits = self._at_end(played) if is_compared else ((), ())
-        verdicts, hung = self._verdicts(played, is_compared), self.causes.hung(played, played.fates)
+        verdicts = self._verdicts(played, is_compared)
+        hung = self.causes.hung(played, played.fates) if verdicts or not self._all_came(played) else ()
         is_else = not (verdicts or hung or changes or waits or trouble)
         refused = tuple(sorted({it.number for it in played.refused})) if is_else else ()
         return Effect(verdicts, hung, changes, waits, refused, trouble, is_compared)
+
+    def _all_came(self, played: Played) -> bool:
+        """Whether each packet came, and none was held here or in the run. If each verdict is the same as well, what a packet answers had
+        gone out before it as it had there."""
+        last = len(self._numbers) - bisect(self._numbers, played.place)
+        return not (self.fates or played.fates) and last == sum(number in self.verdicts for number in played.came)
 
     def _verdicts(self, played: Played, is_compared: bool) -> Tuple[Verdict, ...]:
         """The verdicts that are others. What becomes of held packets is a part of the end."""
@@ -172,6 +181,8 @@ class Group:
     effect: Effect
     many: int = 0
     variants: List[Variant] = field(default_factory=list)
+    # Why the first one does what it does, in words, if that was asked when it was played.
+    reason: Optional[List[str]] = None
 
     def add(self, variant: Variant) -> None:
         self.many += 1
@@ -185,8 +196,11 @@ class Groups:
     def __init__(self) -> None:
         self._by_effect: Dict[Effect, Group] = {}
 
-    def add(self, variant: Variant, effect: Effect) -> None:
-        self._by_effect.setdefault(effect, Group(effect)).add(variant)
+    def add(self, variant: Variant, effect: Effect) -> Group:
+        """Adds a variant to the group of its effect, which is returned."""
+        group = self._by_effect.setdefault(effect, Group(effect))
+        group.add(variant)
+        return group
 
     def ordered(self) -> List[Group]:
         """The most severe first; equals in the order in which their first variants were tried."""

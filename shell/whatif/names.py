@@ -3,7 +3,7 @@ from __future__ import annotations
 
 from typing import Dict, Optional, Sequence, Tuple
 
-from ..language.events import HELD_BACK, KILL, OF_FRAME, PACKET, PASS, SENT
+from ..language.events import HELD_BACK, KILL, PACKET, PASS, SENT
 from .faults import Course, Planned
 
 
@@ -21,9 +21,9 @@ class Names:
     def line(self, step: Planned) -> Optional[str]:
         """The line of an event, if the frame or the state that it is about exists."""
         words = step.words
-        if words[0] in OF_FRAME:
-            ticket = self._of_frame(int(words[1]))
-            return None if ticket is None else " ".join([words[0], str(ticket), *words[2:]])
+        if step.frame:
+            ticket = self._of_frame(step.frame)
+            return step.line if ticket == step.frame else None if ticket is None else " ".join([words[0], str(ticket), *words[2:]])
         if words[0] == KILL.word:
             name = self._of_state(words[1], words[2])
             return None if name is None else " ".join([*words[:2], name])
@@ -57,14 +57,14 @@ class Names:
         """Takes what an event answered that neither the run nor the fault has: a frame that it sent has the next ticket."""
         self._next_ticket += outcome[0] == SENT.word
 
-    def learn(self, step: Planned, outcome: Sequence[str]) -> None:
-        """Takes what an event answered."""
-        if step.sends and outcome[0] == SENT.word:
-            self._tickets[step.sends] = int(outcome[1])
-        elif step.number and step.words[0] == PACKET.word:
-            was = self.course.events[step.number - 1].outcome
-            if _has_state(was) and _has_state(outcome):
-                self._states[step.words[1], was[1]] = outcome[1]
+    def learn(self, step: Planned, outcome: str) -> None:
+        """Takes what an event answered. States are called by their names only where one is killed."""
+        if step.sends and outcome.startswith(SENT.word):
+            self._tickets[step.sends] = int(outcome.split()[1])
+        elif self.course.has_kills and step.number and step.words[0] == PACKET.word:
+            was, now = self.course.events[step.number - 1].outcome, outcome.split()
+            if _has_state(was) and _has_state(now):
+                self._states[step.words[1], was[1]] = now[1]
 
 
 def _has_state(outcome: Sequence[str]) -> bool:

@@ -37,7 +37,7 @@ def otherwise(lab: Laboratory, branch: Branch, it: Tried, groups: Sequence[Numbe
     with there.beside(branch) as other:
         player = Player(other, branch, Course(lines, outcomes), it.asked.flushing)
         played = player.play(())
-        its = Tried(player, Base(player.course, played, other.setup), it.asked, played.shown, [], 0)
+        its = Tried(player, Base(player.course, played, other.setup), it.asked, it.why, played.shown, [], 0)
         found = {}
         for number, group in groups:
             text = change(its, its.base.effect(player.play(group.variants[0])), PLAIN)

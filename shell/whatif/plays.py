@@ -7,8 +7,8 @@ from typing import Deque, Dict, List, NamedTuple, Optional, Sequence, Tuple
 
 from ..branches import Branch
 from ..laboratory import Laboratory, Unknown, outcome_of
-from ..language.commands import BACK, DROP, FORK, SHOW, STEP
-from ..language.events import DELIVER, FLUSH, KILL, SENT
+from ..language.commands import BACK, DROP, FORK, PAST, SHOW, STEP
+from ..language.events import DELIVER, FLUSH, HELD_BACK, KILL, LOSE, SENT, TURN
 from ..language.names import NODES
 from ..language.setups import HELD
 from ..macros import next_steps
@@ -27,6 +27,9 @@ NOTHING_PENDING = "NothingPending"
 ENDLESS = "the nodes keep answering each other"
 # How many lines are sent together: they and their replies fit in a pipe.
 MOST_TOGETHER = 128
+_FLUSHES = tuple(f"{FLUSH.word} {node}" for node in NODES)
+# How the outcomes of events begin that send a frame, and the lines of those that take one off the link; and a refusal.
+_SENDS, _TAKES, _IS_REFUSED = f"{SENT.word} ", (f"{DELIVER.word} ", f"{LOSE.word} "), "refused"
 
 
 class Refused(NamedTuple):
@@ -57,9 +60,10 @@ class Played:
     refused: List[Refused] = field(default_factory=list)
     # The events whose frame or state does not exist.
     without_subject: List[int] = field(default_factory=list)
-    # The last reply to `show`, and what keeps the pair from being quiet.
+    # The last reply to `show`, what keeps the pair from being quiet, and how many lines showed it before, if that was asked.
     shown: List[str] = field(default_factory=list)
     trouble: str = ""
+    size: int = 0
 
     @property
     def pair(self) -> Pair:
@@ -83,6 +87,8 @@ class Player:
         self.lab, self.branch, self.course = lab, branch, course
         self.name = next(it for it in NAMES if it != branch.name)
         self._has_variant = False
+        # The lines that begin a variant, until they are asked.
+        self._first: List[str] = []
         # What became of the run's held packets.
         self._fates: Dict[int, Fate] = {}
         self._idle: Optional[Idle] = idle_nodes(self._asked, branch.name, len(course)) if flushes else None
@@ -101,7 +107,8 @@ class Player:
                 steps.extendleft(self._step(waiting, played, names))
                 continue
             at, step = steps.popleft()
-            self._send_before(step, passed, played, names)
+            if self._idle:
+                self._send_before(step, passed, played, names)
             passed = max(passed, step.number)
             line = names.line(step)
             if line is None:
@@ -117,6 +124,7 @@ class Player:
         else:
             for step in plan[until : until + 1]:
                 self._send_before(step, passed, played, names)
+            self._asked([])
         return played
 
     def _fates_of_run(self, played: Played) -> Dict[int, Fate]:
@@ -130,7 +138,7 @@ class Player:
         over = {number: it for number, it in self._fates.items() if number <= first and 0 < it.place <= first}
         held = {first: {self._held(number): number for number in self._fates if number <= first and number not in over}}
         for number, came in played.came.items():
-            if is_held(came.split()):
+            if came.startswith(HELD_BACK.word):
                 held[played.places[number]] = {self._held(number, came): number}
         return {**over, **self._ended(played.events, held, first)}
 
@@ -159,23 +167,25 @@ class Player:
             played.trouble = ENDLESS
 
     def _begin(self, place: int) -> None:
-        """Begins a new branch for a variant. An interrupt can have left the last one half done."""
-        had, self._has_variant = self._has_variant, True
-        fork = f"{FORK.word} {self.branch.name} {place} {self.name}"
-        replies = self._asked([*[f"{DROP.word} {self.name}"] * had, fork])
-        if replies[-1] != ["forked"]:
-            raise Unknown(f"the program answers `{replies[-1][0]}` to `{fork}`")
+        """Begins a new branch for a variant, before the next lines that are asked. An interrupt can have left the last one half done."""
+        self._first = [*[f"{DROP.word} {self.name}"] * self._has_variant, f"{FORK.word} {self.branch.name} {place} {self.name}"]
+        self._has_variant = True
 
     def _asked(self, lines: Sequence[str]) -> List[List[str]]:
         assert self.lab.session
-        session, parts = self.lab.session, range(0, len(lines), MOST_TOGETHER)
-        return [reply for at in parts for reply in session.ask_together(lines[at : at + MOST_TOGETHER])]
+        first, self._first = self._first, []
+        every, session = [*first, *lines], self.lab.session
+        parts = range(0, len(every), MOST_TOGETHER)
+        replies = [reply for at in parts for reply in session.ask_together(every[at : at + MOST_TOGETHER])]
+        if first and replies[len(first) - 1] != ["forked"]:
+            raise Unknown(f"the program answers `{replies[len(first) - 1][0]}` to `{first[-1]}`")
+        return replies[len(first) :]
 
     def _step(self, waiting: List[_Waiting], played: Played, names: Names) -> List[Tuple[int, Planned]]:
         """Steps what is waiting, and takes what comes of it. If an event that sends is refused, the tickets of those after it are not
         the ones foreseen: these are undone and returned, the last one first."""
         replies = [it[0] for it in self._asked([f"{STEP.word} {self.name} {it.line}" for it in waiting])]
-        refused = [reply.startswith("refused") for reply in replies]
+        refused = [reply.startswith(_IS_REFUSED) for reply in replies]
         good = next((at + 1 for at, it in enumerate(waiting) if it.step.sends and refused[at]), len(waiting))
         again = waiting[good:]
         names.forget([it.step for it in again])
@@ -190,46 +200,62 @@ class Player:
     def _take(self, it: _Waiting, outcome: str, played: Played, names: Names) -> None:
         """Takes what came of an event."""
         played.steps.append((it.step.number, it.line))
-        if outcome.startswith("refused"):
+        if outcome.startswith(_IS_REFUSED):
             played.refused.append(Refused(it.at, it.step.number, it.line, outcome.split()[-1]))
             names.forget([it.step])
         else:
             played.events.append((it.line, outcome))
-            names.learn(it.step, outcome.split())
+            names.learn(it.step, outcome)
         if it.step.number:
             played.came[it.step.number] = outcome
             played.places[it.step.number] = played.place + len(played.steps) - len(played.refused)
 
     def _quiet(self, played: Played) -> None:
         """Goes on as `quiet` does: what is in flight arrives, what is pending is sent, bulk updates take their turns."""
-        most = 0
+        begun, events = played.place + len(played.events), [f"{DELIVER.word} {it}" for it in self._in_flight(played)]
         while True:
+            if not played.trouble:
+                self._go_on(events, played, begun)
             played.shown = self._asked([f"{SHOW.word} {self.name}"])[0]
-            if played.trouble:
-                return
-            most = most or SPARE_STEPS + STEPS_OF_ONE * len(played.shown)
             # (the states do not matter here, and can be many)
             events = next_steps(read_shown([it for it in played.shown if not it.startswith("state ")]))
-            if not events:
+            if not events or played.trouble:
                 return
-            self._go_on(events, played, most)
 
-    def _go_on(self, events: Sequence[str], played: Played, most: int) -> None:
-        """Steps some events and what follows from them, as far as that is known without looking."""
-        while events and not played.trouble:
-            events = self._followed(events, played)
-            played.trouble = played.trouble or ENDLESS * (len(played.until_quiet) > most)
+    def _in_flight(self, played: Played) -> List[int]:
+        """The frames in flight after the events of a variant, by their tickets."""
+        tickets = {*self.course.in_flight(played.place)}
+        for line, outcome in played.events:
+            if outcome.startswith(_SENDS):
+                tickets.add(int(outcome.split()[1]))
+            elif line.startswith(_TAKES):
+                tickets.discard(int(line.split()[1]))
+        return sorted(tickets)
 
-    def _followed(self, events: Sequence[str], played: Played) -> List[str]:
-        """Steps what brings the pair nearer to quiet; returns the deliveries of what is then sent. After deliveries both nodes send what
-        they have; it does no harm if one has nothing, and asking this way is faster than looking."""
-        tried = [f"{FLUSH.word} {node}" for node in NODES] if events[0].startswith(DELIVER.word) else []
+    def _go_on(self, events: Sequence[str], played: Played, begun: int) -> None:
+        """Steps some events and what follows from them, as far as that is known without looking: both nodes send what they have. It does
+        no harm if one has nothing, and asking this way is faster than looking."""
+        goes_on = True
+        while goes_on and not played.trouble:
+            is_turn = events[:1] and events[0].startswith(TURN.word)
+            events = self._followed(events, [] if is_turn else [it for it in _FLUSHES if it not in events], played)
+            goes_on = bool(events or is_turn)
+            if not played.trouble and len(played.until_quiet) > SPARE_STEPS:
+                played.trouble = ENDLESS * (len(played.until_quiet) > self._most_steps(played, begun))
+
+    def _most_steps(self, played: Played, begun: int) -> int:
+        """How many steps a pair may take until it is quiet, by what is shown of it before them."""
+        played.size = played.size or len(self._asked([f"{PAST.word} {self.name} {begun}"])[0])
+        return SPARE_STEPS + STEPS_OF_ONE * played.size
+
+    def _followed(self, events: Sequence[str], tried: Sequence[str], played: Played) -> List[str]:
+        """Steps what brings the pair nearer to quiet, and what is tried after it; returns the deliveries of what is then sent."""
         replies = self._asked([f"{STEP.word} {self.name} {it}" for it in (*events, *tried)])
-        outcomes = [(event, outcome_of(reply[0]).split()) for event, reply in zip((*events, *tried), replies)]
-        stepped = [(event, outcome) for event, outcome in outcomes if not (event in tried and outcome[-1] == NOTHING_PENDING)]
+        outcomes = [(event, outcome_of(reply[0])) for event, reply in zip((*events, *tried), replies)]
+        stepped = [(event, came) for event, came in outcomes if not (event in tried and came.endswith(NOTHING_PENDING))]
         played.until_quiet += [event for event, _ in stepped]
-        played.events += [(event, " ".join(outcome)) for event, outcome in stepped if outcome[0] != "refused"]
-        refused = [event for event, outcome in stepped if outcome[0] == "refused"]
+        played.events += [(event, came) for event, came in stepped if not came.startswith(_IS_REFUSED)]
+        refused = [event for event, came in stepped if came.startswith(_IS_REFUSED)]
         if refused:
             played.trouble = f"`{refused[0]}` is refused"
-        return [f"{DELIVER.word} {outcome[1]}" for _, outcome in stepped if outcome[0] == SENT.word]
+        return [f"{DELIVER.word} {came.split()[1]}" for _, came in stepped if came.startswith(_SENDS)]

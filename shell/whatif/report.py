@@ -87,7 +87,9 @@ def _group(it: Tried, number: int, group: Group, other: str, paint: Paint) -> Li
     lines = [f"{paint.head(f'{number}  {what}:')} {change(it, group.effect, paint)}", f"   {_names(it, group)}"]
     lines += [f"   {paint.note(_hung(hung))}" for hung in group.effect.hung]
     lines += [f"   {paint.note(other)}"] * bool(other)
-    return lines if group.effect.is_nothing else lines + [f"   {line}" for line in _first(it, group, paint)]
+    if group.reason is None:
+        group.reason = why_first(it, group.variants[0], group.effect, it.player.play(group.variants[0]), paint)
+    return lines + [f"   {line}" for line in group.reason]
 
 
 def change(it: Tried, effect: Effect, paint: Paint) -> str:
@@ -179,10 +181,10 @@ def _row(place: int, variant: Variant) -> Tuple[str, int]:
 # ---- the first fault of a group
 
 
-def _first(it: Tried, group: Group, paint: Paint) -> List[str]:
-    """Why the first fault of a group changes what it does, and which events it causes to be refused."""
-    variant, effect = group.variants[0], group.effect
-    played = it.player.play(variant)
+def why_first(it: Tried, variant: Variant, effect: Effect, played: Played, paint: Paint) -> List[str]:
+    """Why the first fault of a group, which was just played, changes what it does, and which events it causes to be refused."""
+    if effect.is_nothing:
+        return []
     if effect.rank == REFUSED:
         return _refusal(it, variant, played, effect.refused[0], paint)
     lines: List[str] = []

@@ -2,7 +2,7 @@
 from __future__ import annotations
 
 from dataclasses import dataclass, field
-from typing import Callable, Iterable, Iterator, List
+from typing import Callable, Dict, Iterable, Iterator, List
 
 from ..branches import Branch
 from ..laboratory import Laboratory, Unknown
@@ -10,12 +10,15 @@ from ..setups import Setup
 from .asked import Asked
 from .faults import Course, Fault, Variant, faults_of, pairs_of
 from .groups import Base, Effect, Groups, is_of_one
-from .plays import Player
+from .plays import Played, Player
+from .sharing import Alike, Sharing
 
 # How many events of variants are stepped at most unless a part of the run was named, so that it takes minutes and not hours.
 MOST_EVENTS = 10_000_000
 # Takes how many variants have been tried, and how many there are.
 Progress = Callable[[int, int], None]
+# Says why a variant that was just played, the first of its group, does what it does.
+Why = Callable[["Tried", Variant, Effect, Played], List[str]]
 
 ON_A_SERVER = "a server does not report its setup: with --setup FILE, the file that it read, faults are tried in runs of their own"
 
@@ -27,12 +30,15 @@ class Tried:
     player: Player
     base: Base
     asked: Asked
+    why: Why
     # The last reply to `show` in the run itself, at its end.
     shown: List[str]
     faults: List[Fault]
     total: int
     done: int = 0
     groups: Groups = field(default_factory=Groups)
+    # What is known of variants that do the same as others.
+    known: Dict[Alike, Effect] = field(default_factory=dict)
     # How many pairs change only what one of their faults, or each of them, changes alone.
     of_one: int = 0
     is_interrupted: bool = False
@@ -57,8 +63,8 @@ def course_of(lab: Laboratory, branch: Branch) -> Course:
     return Course(lines, lab.outcomes(lines))
 
 
-def tried(player: Player, asked: Asked, progress: Progress) -> Tried:
-    """Tries what is asked for. An interrupt ends it, and what was found so far counts."""
+def tried(player: Player, asked: Asked, progress: Progress, why: Why) -> Tried:
+    """Tries what is asked for, and asks why of each group that will be shown. An interrupt ends it, and what was found so far counts."""
     course, setup = player.course, player.lab.setup
     faults = faults_of(course, asked.kinds, *asked.within(player.branch.name, len(course)))
     if not asked.pairs:
@@ -66,7 +72,7 @@ def tried(player: Player, asked: Asked, progress: Progress) -> Tried:
     played = player.play(())
     base = Base(course, played, setup)
     total = sum(1 for _ in pairs_of(faults)) if asked.pairs else len(faults)
-    it = Tried(player, base, asked, played.shown, faults, total)
+    it = Tried(player, base, asked, why, played.shown, faults, total)
     try:
         (_try_pairs if asked.pairs else _try_each)(it, progress)
     except KeyboardInterrupt:
@@ -89,6 +95,14 @@ def _effect(it: Tried, variant: Variant) -> Effect:
     return it.base.effect(it.player.play(variant))
 
 
+def _add(it: Tried, variant: Variant, effect: Effect, played: Played) -> None:
+    """Adds a variant that was just played to its group. If it is the first one, and its group will be shown, it is asked why at once, since
+    later it would have to be played again."""
+    group = it.groups.add(variant, effect)
+    if group.many == 1 and not it.asked.only and it.asked.watch.has(effect):
+        group.reason = it.why(it, variant, effect, played)
+
+
 def _counted(it: Tried, variants: Iterable[Variant], progress: Progress) -> Iterator[Variant]:
     """The variants, each counted once it is done."""
     for variant in variants:
@@ -105,16 +119,26 @@ def _watched(it: Tried, progress: Progress) -> Iterator[Fault]:
 
 
 def _try_each(it: Tried, progress: Progress) -> None:
+    sharing = Sharing(it.course)
     for variant in _counted(it, ((fault,) for fault in it.faults), progress):
-        it.groups.add(variant, _effect(it, variant))
+        alike = None if it.asked.flushing else sharing.alike(variant)
+        if alike in it.known:
+            it.groups.add(variant, it.known[alike])
+            continue
+        played = it.player.play(variant)
+        effect = it.base.effect(played)
+        if alike:
+            it.known[alike] = effect
+        _add(it, variant, effect, played)
 
 
 def _try_pairs(it: Tried, progress: Progress) -> None:
     """Tries each fault by itself first: only a pair that does something else counts."""
     alone = {fault: _effect(it, (fault,)) for fault in _watched(it, progress)}
     for one, two in _counted(it, pairs_of(it.faults), progress):
-        effect = _effect(it, (one, two))
+        played = it.player.play((one, two))
+        effect = it.base.effect(played)
         if is_of_one(effect, alone[one], alone[two], one.left_out | two.left_out):
             it.of_one += 1
         else:
-            it.groups.add((one, two), effect)
+            _add(it, (one, two), effect, played)
