@@ -28,7 +28,7 @@ DOCUMENTS = (
     *("README.md", "CHANGELOG.md", "CONTRIBUTING.md", "docs/TUTORIAL.md", "docs/SHELL.md", "docs/PAGE.md", "docs/FIELD.md"),
     *("docs/FIELD-DETAILS.md", "docs/FORMATS.md", "docs/REAL.md", "docs/KERNEL.md", "docs/COLLECT.md", "examples/README.md"),
     *("shell/texts/help.txt", "shell/texts/run.txt", "shell/texts/check.txt", "shell/texts/serve.txt", "shell/arguments.py"),
-    *("shell/helps.py", *(f"shell/language/{it.name}" for it in sorted((TOP / "shell/language").glob("*.py")))),
+    *(f"shell/language/{it.name}" for it in sorted((TOP / "shell/language").glob("*.py"))),
 )
 MOST = 35
 # Words and phrases that read like a translation, as regular expressions, each with what to write.

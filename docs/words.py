@@ -1,5 +1,6 @@
 #!/usr/bin/env python3
-"""Writes the lists of the shell's words in docs/SHELL.md and docs/man/pfl_shell.1 from shell/helps.py, which has what `help` says of them.
+"""Writes the lists of the shell's words in docs/SHELL.md and docs/man/pfl_shell.1 from shell/language/helps.py, which has what `help` says
+of them.
 
     docs/words.py            writes the lists
     docs/words.py --check    changes nothing, and exits with 1 if a list is stale
@@ -22,8 +23,8 @@ from typing import Dict, Iterator, List, Tuple
 TOP = Path(__file__).resolve().parent.parent
 sys.dont_write_bytecode = True
 sys.path.insert(0, str(TOP))
-from shell import helps
-from shell.helps import Help
+from shell.language import helps
+from shell.language.helps import Help
 
 PAGE, MANUAL = TOP / "docs/SHELL.md", TOP / "docs/man/pfl_shell.1"
 # The words of the shell, `mark` before what goes to marks.

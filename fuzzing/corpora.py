@@ -5,7 +5,7 @@ import glob
 from typing import List, NamedTuple, Sequence
 
 from shell.language.lines import opens
-from shell.scripts import read
+from shell.scripts.texts import read
 
 FOLDERS = ("examples", "crates/test_cases/data/cases")
 MARKS = ("#>", "#!", "#?", "#=")

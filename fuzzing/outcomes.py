@@ -11,8 +11,8 @@ from shell.language.events import BROKEN, DROPPED, EVENTS, HELD_BACK, LAST_MILLI
 from shell.language.faults import COMMAND_REFUSALS, numbered
 from shell.language.names import Name
 from shell.language.setups import BULK_MS, DEFER_MS, FRAMES
-from shell.pair import Node, Pair, read_shown
-from shell.setups import Setup
+from shell.model.pair import Node, Pair, read_shown
+from shell.model.setups import Setup
 
 _N = "[0-9]+"
 

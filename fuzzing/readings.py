@@ -9,7 +9,7 @@ from shell.language.faults import LIMIT_FAULTS, LINE_FAULTS, RULE_FAULTS, number
 from shell.language.lines import check_line, has_word, lines_of, opens
 from shell.language.readers import LineFault
 from shell.language.setups import MOST_RULES, NAT, RDR
-from shell.setups import Rule, Setup
+from shell.model.setups import Rule, Setup
 
 
 @functools.lru_cache(maxsize=4096)

@@ -4,9 +4,9 @@ from __future__ import annotations
 import contextlib
 from typing import ContextManager, Iterator, List, NamedTuple, Optional, Sequence, Tuple
 
-from shell.laboratory import outcome_of
+from shell.link.laboratory import outcome_of
 from shell.language.events import OF_FRAME
-from shell.pair import read_shown
+from shell.model.pair import read_shown
 
 from .frames import contents
 from .reasons import compare_reason

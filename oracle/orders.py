@@ -7,7 +7,7 @@ from typing import Iterator, List, NamedTuple, Optional, Sequence, Tuple
 
 from shell.language.events import CUT, DELIVER, FLUSH, OF_FRAME, REPEAT, RESTART
 from shell.language.names import NODES
-from shell.pair import Pair
+from shell.model.pair import Pair
 
 from .branches import Room, compare
 from .searches import Search, instances, pair_of

@@ -4,19 +4,19 @@ from __future__ import annotations
 from dataclasses import replace
 from typing import List, Sequence, Tuple
 
-from shell.explanations import Expiry, Explanation, Judged, OfState, Purge, TakenRecord, read_explanation
-from shell.frames import Frame, Record
+from shell.model.explanations import Expiry, Explanation, Judged, Purge, TakenRecord, read_explanation
+from shell.model.frames import Frame, Record
 from shell.language.events import DELIVER, PACKET, PURGE, read_packet
 from shell.language.names import Name
 from shell.language.packets import PacketEvent
 from shell.language.setups import DEFER, MERGE, NO_SYNC, STATES
-from shell.pair import Node, read_shown
-from shell.receiving import Came, received
-from shell.rulings import deciding
-from shell.setups import Keys, Setup
-from shell.states import State
-from shell.tracking import judged, moved, started
-from shell.words import expires_at
+from shell.model.pair import Node, read_shown
+from shell.model.receiving import Came, received
+from shell.model.rulings import deciding
+from shell.model.setups import Keys, Setup
+from shell.model.states import State
+from shell.model.tracking import judged, moved, started
+from shell.shows.words import expires_at
 
 from .frames import contents
 from .subject import Differs

@@ -5,8 +5,8 @@ from typing import List
 
 from shell.language.events import LAST_MILLISECOND, OF_FRAME, RELEASE
 from shell.language.setups import BULK_MS, DEFER_MS, FRAMES, QUEUE
-from shell.pair import Node, Pair
-from shell.setups import Setup
+from shell.model.pair import Node, Pair
+from shell.model.setups import Setup
 
 
 def against(setup: Setup, pair: Pair, event: str, refusal: str) -> List[str]:

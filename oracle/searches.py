@@ -13,8 +13,8 @@ from shell.language.lines import LONGEST_LINE
 from shell.language.names import NODES
 from shell.language.searches import ADMITTED, ANY, DIFFER, DROPPED, FOUND, GAVE_UP, MOST_PHASES, NONE, OF_PACKET, OF_PAIR, PASSED
 from shell.language.searches import QUIET, SCOPES, SEARCH, SETTLED, SPLIT, THEN, UNPASSED, words_of
-from shell.pair import Pair, read_shown
-from shell.states import State
+from shell.model.pair import Pair, read_shown
+from shell.model.states import State
 
 from .branches import Room
 from .events import event, packet

@@ -6,8 +6,8 @@ import threading
 from typing import List, Optional
 
 from shell.language.commands import OPEN
-from shell.programs import read_reply
-from shell.setups import Setup
+from shell.link.programs import read_reply
+from shell.model.setups import Setup
 
 
 class Differs(Exception):

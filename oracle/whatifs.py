@@ -7,11 +7,11 @@ import re
 from dataclasses import dataclass, field
 from typing import Dict, Iterator, List, NamedTuple, Optional, Sequence, Tuple
 
-from shell.colours import PLAIN
-from shell.laboratory import Laboratory, outcome_of
+from shell.console.colours import PLAIN
+from shell.link.laboratory import Laboratory, outcome_of
 from shell.language.lines import has_word
 from shell.language.names import NODES
-from shell.setups import Setup
+from shell.model.setups import Setup
 from shell.whatif.answers import answer
 from shell.whatif.asked import read
 

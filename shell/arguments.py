@@ -3,25 +3,23 @@ from __future__ import annotations
 
 import argparse
 import os
-import re
 from itertools import takewhile
-from typing import TYPE_CHECKING, Any, Callable, Dict, List, NoReturn, Optional, Sequence, Tuple
+from typing import TYPE_CHECKING, Any, Callable, Dict, List, NoReturn, Optional, Sequence
 
-from .endings import STRICT_STATUS
-from .outputs import print_help
+from .console.endings import STRICT_STATUS
+from .console.outputs import print_help
 
 # (the options of a word import what they need when they are read, so that none waits for what others need)
 if TYPE_CHECKING:
     from .captures.asked import CaptureOptions
     from .dumps.asked import About
-    from .importing.about import Wanted
-    from .importing.firewall import Own
+    from .importing.asked import ImportOptions
     from .inferring.asked import ScriptOptions
     from .language.names import Name
-    from .visits import Address
+    from .link.visits import Address
     from .whatif.asked import Options
 
-    class Read(Options, CaptureOptions, ScriptOptions):
+    class Read(Options, CaptureOptions, ScriptOptions, ImportOptions):
         """What the options of these words were read as."""
 
 else:
@@ -58,15 +56,6 @@ class Words(Read):
     all: bool
     rules: Optional[str]
     of_flow: Optional[About]
-    conf: str
-    on: str
-    address: Optional[List[Tuple[str, Own]]]
-    about: Optional[Wanted]
-    group: Optional[List[Tuple[str, str]]]
-    node: str
-    rc: Optional[str]
-    output: Optional[str]
-    unopened: bool
     capture_a: str
     capture_b: str
     pfsync: bool
@@ -261,7 +250,7 @@ def _scripts(words: argparse.ArgumentParser) -> None:
 
 
 def _annotate(words: argparse.ArgumentParser) -> None:
-    from .scripts import DRY_RUN
+    from .scripts.annotating import DRY_RUN
 
     _scripts(words)
     words.add_argument(*DRY_RUN, action="store_true", help="shows what would change, as `diff -u` does, and writes nothing")
@@ -323,6 +312,12 @@ def _frames(words: argparse.ArgumentParser) -> None:
     add_frames(words)
 
 
+def _import(words: argparse.ArgumentParser) -> None:
+    from .importing.asked import add_options as add_import
+
+    add_import(words)
+
+
 def _depends(words: argparse.ArgumentParser) -> None:
     from .depends.asked import add_options as add_depends
 
@@ -355,83 +350,10 @@ def tolerance(word: str) -> int:
     return int(word)
 
 
-def _import(words: argparse.ArgumentParser) -> None:
-    words.add_argument("conf", metavar="PF.CONF", help="the file")
-    words.add_argument("--on", required=True, type=interface, metavar="IF", help="the interface whose rules are imported")
-    words.add_argument(
-        "--address",
-        action="append",
-        type=own_address,
-        metavar="[IF=]ADDRESS/LENGTH",
-        help="an address of the interface, or of IF; may be given several times",
-    )
-    words.add_argument(
-        "--about",
-        type=wanted,
-        metavar="[END=]ADDRESS[:PORT]",
-        help="writes only the rules for packets with this address, and this port, at an end: near, far or either",
-    )
-    words.add_argument("--group", action="append", type=group, metavar="GROUP=IF", help="IF is in this group, such as egress=em0")
-    words.add_argument("--node", default="both", choices=("a", "b", "both"), help="the node that gets the rules; the default is both")
-    words.add_argument("--rc", metavar="FILE", help="takes `maxupd` and `defer` of pfsync0 from this rc.conf(5)")
-    words.add_argument("--strict", action="store_true", help="writes nothing if a statement is left out, and exits with status 4")
-    words.add_argument("-o", "--output", metavar="FILE", help="the setup's file; without it the setup goes to standard output")
-    words.add_argument("--unopened", action="store_true", help="leaves out the last line, `open`, so that more of the setup can follow")
-
-
-def interface(word: str) -> str:
-    """The name of an interface or of a group."""
-    if not word or not word.isprintable() or " " in word:
-        raise argparse.ArgumentTypeError(f"{word!r} is not the name of an interface")
-    return word
-
-
-def own_address(word: str) -> Tuple[str, Own]:
-    """An address with its length, after the interface that has it, if that is named."""
-    import ipaddress
-
-    name, _, address = word.rpartition("=")
-    try:
-        if "/" not in address:
-            raise ValueError
-        return name, ipaddress.ip_interface(address)
-    except ValueError as error:
-        raise argparse.ArgumentTypeError(f"{word} is not [IF=]ADDRESS/LENGTH, such as 192.0.2.1/24 or em1=10.0.0.1/8") from error
-
-
-def wanted(word: str) -> Wanted:
-    """An address, with a port if one is named, of IPv6 in brackets then; and the end that has it."""
-    import ipaddress
-
-    from .importing.about import ENDS, Wanted
-
-    end, _, text = word.rpartition("=")
-    found = re.fullmatch(r"\[(?P<v6>[^\]]*)\](?::(?P<port6>[0-9]{1,5}))?|(?P<v4>[^:]*):(?P<port4>[0-9]{1,5})|(?P<alone>.*)", text)
-    try:
-        if not found or end not in ("", *ENDS):
-            raise ValueError
-        number = found["port6"] or found["port4"]
-        address = ipaddress.ip_address(found["v6"] or found["v4"] or found["alone"] or "")
-        if number and int(number) > 65535 or found["v6"] and address.version == 4:
-            raise ValueError
-        return Wanted(address, int(number) if number else None, end)
-    except ValueError as error:
-        what = "[END=]ADDRESS[:PORT], such as 192.0.2.80, near=192.0.2.80:443 or [2001:db8::80]:443; END is near, far or either"
-        raise argparse.ArgumentTypeError(f"{word} is not {what}") from error
-
-
-def group(word: str) -> Tuple[str, str]:
-    """A group, and an interface in it."""
-    name, _, member = word.partition("=")
-    if not name or not member:
-        raise argparse.ArgumentTypeError(f"{word} is not GROUP=IF, such as egress=em0")
-    return name, member
-
-
 def event(word: str) -> int:
     """The place of an event in its branch."""
     from .charts.windows import read_place
-    from .laboratory import Unknown
+    from .link.laboratory import Unknown
 
     try:
         return read_place(word)
@@ -442,7 +364,7 @@ def event(word: str) -> int:
 def flow(word: str) -> Name:
     """The name of a state."""
     from .charts.windows import read_flow
-    from .laboratory import Unknown
+    from .link.laboratory import Unknown
 
     try:
         return read_flow(word)
@@ -458,7 +380,7 @@ def port(word: str) -> int:
 
 def page_address(word: str) -> Address:
     """The address of a page, which may be asked for: arguments can be seen in the list of processes."""
-    from .visits import ASKED_FOR, NO_ADDRESS, Address
+    from .link.visits import ASKED_FOR, NO_ADDRESS, Address
 
     it = ASKED_FOR if word == "-" else Address.read(word)
     if it is None:
@@ -469,7 +391,7 @@ def page_address(word: str) -> Address:
 
 def person(word: str) -> str:
     """A name, as others are shown it."""
-    from .visits import cleaned
+    from .link.visits import cleaned
 
     it = cleaned(word)
     if not it:

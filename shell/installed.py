@@ -6,7 +6,7 @@ import shutil
 import sys
 
 from .arguments import needs_program
-from .chosen import NoProgram, chosen
+from .link.chosen import NoProgram, chosen
 from .main import main as shell
 
 NAME = "pfl_shell"

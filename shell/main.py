@@ -13,24 +13,24 @@ from itertools import takewhile
 from typing import TYPE_CHECKING, Callable, Dict, Iterable, Optional, Sequence
 
 from .arguments import Words, page_fault, parser, shell_fault
-from .colours import PLAIN, Paint
-from .endings import INTERRUPTED_STATUS, STRICT_STATUS, TROUBLE, NotDone
-from .fitting import columns_of, fitted
-from .outputs import discard_output
-from .paging import paged
+from .console.colours import PLAIN, Paint
+from .console.endings import INTERRUPTED_STATUS, STRICT_STATUS, TROUBLE, NotDone
+from .console.fitting import columns_of, fitted
+from .console.outputs import discard_output
+from .console.paging import paged
 
 # (a word imports what it needs when it is carried out, so that none waits for what others need)
 if TYPE_CHECKING:
-    from .branches import Branch
+    from .model.branches import Branch
     from .charts.chart import Texts
     from .charts.rows import Chart
     from .charts.windows import Window
-    from .laboratory import Laboratory
-    from .programs import Client
-    from .setups import Setup
-    from .shell import Shell
-    from .stories import Story
-    from .visits import Address, Page
+    from .link.laboratory import Laboratory
+    from .link.programs import Client
+    from .model.setups import Setup
+    from .dialogue.shell import Shell
+    from .scripts.stories import Story
+    from .link.visits import Address, Page
 
 HISTORY = "~/.pfl_lab_history"
 
@@ -99,16 +99,16 @@ def version(words: Words) -> int:
 
 
 def verify(words: Words) -> int:
-    from . import scripts
+    from .scripts import verifying
 
-    found = scripts.verified(words.program, words.files)
+    found = verifying.verified(words.program, words.files)
     show(found.shown(sys.stdout.isatty()))
     return int(found.differing > 0)
 
 
 def annotate(words: Words) -> int:
     """Writes the replies into scripts; the status is 1 if a line looks like a slip."""
-    from . import annotating
+    from .scripts import annotating
 
     found = 0
     for written in annotating.annotate(words.program, words.files, words.dry_run):
@@ -123,18 +123,18 @@ def annotate(words: Words) -> int:
 
 
 def chart(words: Words) -> int:
-    from . import scripts
+    from .scripts import texts
     from .charts.picture import draw
     from .charts.text import WIDEST, text as chart_text
     from .charts.windows import Window
     from .language.lines import lines_of
 
-    script = lines_of(scripts.read(words.file))
+    script = lines_of(texts.read(words.file))
     if says_faults(words, words.file, script):
         return 1
     drawn = drawn_from(words.program, script, words.branch, Window(words.first, words.last, words.flow), words.notes)
     if words.picture:
-        save(words.picture, draw(drawn, scripts.title_of(script) or os.path.basename(words.file)))
+        save(words.picture, draw(drawn, texts.title_of(script) or os.path.basename(words.file)))
     else:
         width = min(WIDEST, columns_of(sys.stdout) or WIDEST)
         show_whole(chart_text(drawn, paint(sys.stdout.isatty()), width))
@@ -143,13 +143,13 @@ def chart(words: Words) -> int:
 
 def page(words: Words) -> int:
     """Writes the run of a script as a page, or serves the page of a pair."""
-    from . import scripts
+    from .scripts import texts
     from .language.lines import lines_of
     from .pages.live import OPENING, begun, joined, serve
     from .pages.packing import page as page_of
     from .pages.runs import run_of
 
-    script: Sequence[str] = lines_of(scripts.read(words.script)) if words.script else OPENING
+    script: Sequence[str] = lines_of(texts.read(words.script)) if words.script else OPENING
     if words.script and says_faults(words, words.script, script):
         return 1
     name = os.path.basename(words.script) if words.script else "A pair of firewalls"
@@ -164,12 +164,12 @@ def page(words: Words) -> int:
 
 def sheet(words: Words) -> int:
     """Writes a script as a sheet of paper."""
-    from . import scripts
+    from .scripts import texts
     from .language.lines import lines_of
     from .sheets.lesson import lesson_of
     from .sheets.sheet import sheet as sheet_of
 
-    script = lines_of(scripts.read(words.file))
+    script = lines_of(texts.read(words.file))
     if says_faults(words, words.file, script):
         return 1
     text = sheet_of(lesson_of(words.program, script, os.path.basename(words.file), words.replies))
@@ -183,15 +183,15 @@ def sheet(words: Words) -> int:
 
 def frames(words: Words) -> int:
     """Writes the frames of a script as captures, one at each node."""
-    from . import scripts
+    from .scripts import texts
     from .captures import runs
-    from .laboratory import Laboratory
+    from .link.laboratory import Laboratory
     from .language.lines import lines_of
-    from .stories import story_of
+    from .scripts.stories import story_of
 
     paths = (words.capture_a, words.capture_b)
     runs.refuse_same_files(words.file, paths)
-    script = lines_of(scripts.read(words.file))
+    script = lines_of(texts.read(words.file))
     if says_faults(words, words.file, script):
         return 1
     with closing(Laboratory(words.program)) as lab:
@@ -202,14 +202,14 @@ def frames(words: Words) -> int:
 
 def whatif(words: Words) -> int:
     """Tries the faults of what happened in a script."""
-    from . import scripts
-    from .laboratory import Laboratory, Unknown
+    from .scripts import texts
+    from .link.laboratory import Laboratory, Unknown
     from .language.lines import lines_of
-    from .stories import story_of
+    from .scripts.stories import story_of
     from .whatif.answers import Counter, answer
     from .whatif.asked import asked
 
-    text = scripts.read(words.file)
+    text = texts.read(words.file)
     if words.out and os.path.realpath(words.out) == os.path.realpath(words.file):
         raise Unknown(f"{words.out} is the script itself: --out writes a copy of it under another name")
     if says_faults(words, words.file, lines_of(text)):
@@ -223,7 +223,7 @@ def whatif(words: Words) -> int:
             counter.clear()
     show(found.lines)
     if found.written and words.out:
-        scripts.write(words.out, found.written.text)
+        texts.write(words.out, found.written.text)
         show([found.written.message(words.out)])
     if found.fault:
         say(words, found.fault)
@@ -232,13 +232,13 @@ def whatif(words: Words) -> int:
 
 def depends(words: Words) -> int:
     """Plays scripts by other rules than their own; the status is that of diff(1)."""
-    from . import scripts
+    from .scripts import texts
     from .depends.answers import of_script
     from .language.lines import lines_of
 
     status = 0
     for number, path in enumerate(words.files):
-        script = lines_of(scripts.read(path))
+        script = lines_of(texts.read(path))
         if says_faults(words, path, script):
             status = TROUBLE
             continue
@@ -260,13 +260,13 @@ def compare(words: Words) -> int:
     said: Sequence[str] = ()
     try:
         if words.out:
-            from . import scripts
+            from .scripts import texts
             from .dumps.opening import Asked, opening
             from .language.names import NODES
 
             asked_for = Asked(words.out, words.rules, words.of_flow)
             made = opening(words.program, answer.found, dict(zip(NODES, words.dumps)), tolerance, asked_for)
-            scripts.write(words.out, made.text)
+            texts.write(words.out, made.text)
             said = made.said
     finally:
         # (whoever reads the answer may have had enough of it before the script is written)
@@ -286,14 +286,14 @@ def capture(words: Words) -> int:
         show_answer(answer.lines)
         return answer.status
     lines = answer.lines
-    from . import scripts
+    from .scripts import texts
     from .inferring.command import Captured, infer
     from .inferring.night import Part
 
     try:
         asked_for = Captured(answer.overlay, Part.of(answer.selection), answer.times)
         made = infer(words, words.program, words.captures, asked_for, words.all)
-        scripts.write(words.script, "".join(f"{line}\n" for line in made.lines))
+        texts.write(words.script, "".join(f"{line}\n" for line in made.lines))
         # (what was blocked is the last part, before the line about what no frame says, and the frames, which an empty line begins)
         at = lines.index("") - 1
         lines = [*lines[:at], *made.blocked, *lines[at:]]
@@ -327,7 +327,7 @@ def save(path: str, text: str) -> None:
 
 def says_faults(words: Words, path: str, script: Sequence[str]) -> bool:
     """Reports what the program finds faulty in a script; returns whether there is something."""
-    from .proofreading import faulty
+    from .scripts.proofreading import faulty
 
     found = faulty(words.program, script)
     for it in found:
@@ -340,8 +340,8 @@ def drawn_from(program: str, script: Sequence[str], branch: str, window: Optiona
     rules."""
     from .charts.chart import NO_TEXTS, chart as chart_of
     from .charts.windows import WHOLE
-    from .laboratory import Laboratory
-    from .stories import story_of
+    from .link.laboratory import Laboratory
+    from .scripts.stories import story_of
 
     lab = Laboratory(program)
     try:
@@ -354,7 +354,7 @@ def drawn_from(program: str, script: Sequence[str], branch: str, window: Optiona
 
 def noted(lab: Laboratory, story: Story, branch: Branch) -> Texts:
     """The paragraphs about a branch, by how many of its events come before them, and below these what is said of other rules."""
-    from .depends.marks import marks_of, notes_of
+    from .depends.otherwise import marks_of, notes_of
 
     stands, notes = branch.events[: branch.cursor], story.above(branch.name)
     for place, paragraphs in notes_of(marks_of(lab.program, lab.setup, stands), lab.setup.kernel, len(stands)).items():
@@ -368,16 +368,16 @@ def paint(is_terminal: bool) -> Paint:
 
 
 def shell(words: Words) -> int:
-    from . import scripts
+    from .scripts import texts
     from .language.lines import lines_of
-    from .shell import Shell, Stopped
-    from .typed import without_mark
+    from .dialogue.shell import Shell, Stopped
+    from .console.characters import without_mark
 
     is_typed = sys.stdin.isatty()
     lab = laboratory_of(words)
     it = Shell(lab, sys.stdout, paint(sys.stdout.isatty()), words.strict, is_typed)
     try:
-        ended = any(it.take(lines_of(without_mark(scripts.read(path))), echo=is_typed or words.echo) for path in words.files)
+        ended = any(it.take(lines_of(without_mark(texts.read(path))), echo=is_typed or words.echo) for path in words.files)
         if not ended and is_typed:
             (it.suggest if words.files else it.greet)()
             dialogue(it)
@@ -393,13 +393,13 @@ def shell(words: Words) -> int:
 
 def laboratory_of(words: Words) -> Laboratory:
     """The laboratory of a shell: its pair is that of a server, that of a page, or its own."""
-    from .laboratory import Laboratory
+    from .link.laboratory import Laboratory
 
     page = page_at(words.at) if words.at else None
     if words.port:
         return joined_to(words, words.port, page)
     if page:
-        from .seats import seated
+        from .link.seats import seated
 
         return seated(words.program, page, words.person or "", partial(say, words))
     return Laboratory(words.program)
@@ -407,8 +407,8 @@ def laboratory_of(words: Words) -> Laboratory:
 
 def page_at(address: Address) -> Page:
     """The page at an address, which is asked for where that is wanted: arguments can be seen in the list of processes."""
-    from .laboratory import Unknown
-    from .visits import ASKED_FOR, NO_ADDRESS, Address, Page
+    from .link.laboratory import Unknown
+    from .link.visits import ASKED_FOR, NO_ADDRESS, Address, Page
 
     if address == ASKED_FOR:
         print("address of the page: ", end="", file=sys.stderr, flush=True)
@@ -420,8 +420,8 @@ def page_at(address: Address) -> Page:
 
 def joined_to(words: Words, port: int, page: Optional[Page]) -> Laboratory:
     """A laboratory whose pair is that of a server, with what there is to say about that."""
-    from .laboratory import Laboratory
-    from .programs import Client, Ended
+    from .link.laboratory import Laboratory
+    from .link.programs import Client, Ended
 
     setup = setup_from(words.program, words.setup) if words.setup else None
     try:
@@ -433,7 +433,7 @@ def joined_to(words: Words, port: int, page: Optional[Page]) -> Laboratory:
     wait(lab.session, nobody_listens(words, port))
     said = [lab.join()]
     if page or words.person:
-        from .seats import introduced
+        from .link.seats import introduced
 
         said.append(introduced(lab, page, words.person or "", command_of(words)))
     for it in filter(None, said):
@@ -443,7 +443,7 @@ def joined_to(words: Words, port: int, page: Optional[Page]) -> Laboratory:
 
 def lines_of_input() -> Iterable[str]:
     """The lines of standard input: all together from a file, and from a pipe as they come."""
-    from .kinds import refuse_other_input
+    from .scripts.kinds import refuse_other_input
 
     refuse_other_input(sys.stdin.fileno())
     lines = (line.rstrip("\n") for line in sys.stdin)
@@ -452,7 +452,7 @@ def lines_of_input() -> Iterable[str]:
 
 def wait(session: Client, gone: str) -> None:
     """Waits for the other sessions of a server; an interrupt gives up."""
-    from .programs import Ended
+    from .link.programs import Ended
 
     try:
         session.wait()
@@ -478,14 +478,14 @@ def command_of(words: Words) -> str:
 
 def setup_from(program: str, path: str) -> Setup:
     """The setup in a file, up to `open` if that is there, if the program finds no fault in it."""
-    from . import scripts
-    from .laboratory import Unknown
+    from .scripts import texts
+    from .link.laboratory import Unknown
     from .language.lines import lines_of, opens
-    from .programs import check_setup
-    from .proofreading import setup_slip
-    from .setups import Setup
+    from .link.programs import check_setup
+    from .scripts.proofreading import setup_slip
+    from .model.setups import Setup
 
-    lines = list(takewhile(lambda line: not opens(line), lines_of(scripts.read(path))))
+    lines = list(takewhile(lambda line: not opens(line), lines_of(texts.read(path))))
     fault = check_setup(program, lines)
     if fault:
         raise Unknown(f"{path}: {setup_slip(fault, lines)}")

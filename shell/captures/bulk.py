@@ -4,7 +4,7 @@ from __future__ import annotations
 from typing import Callable, Dict, List, Optional
 
 from ..language.names import BULK_END, BULK_START
-from ..words import counted
+from ..shows.words import counted
 from .decoding import Record
 from .findings import Findings, Kind
 from .known import Frame

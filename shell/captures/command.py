@@ -5,8 +5,8 @@ import gc
 from contextlib import contextmanager
 from typing import Callable, Iterator, List, NamedTuple
 
-from ..colours import Paint
-from ..endings import TROUBLE, NotDone
+from ..console.colours import Paint
+from ..console.endings import TROUBLE, NotDone
 from .asked import CaptureOptions, Selection
 from .files import BadCapture
 from .pairing import Overlay

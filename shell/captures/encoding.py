@@ -10,13 +10,12 @@ import ipaddress
 from itertools import groupby
 from typing import Dict, Sequence, Union
 
-from ..frames import HEADER as HEADER_SIZE
-from ..frames import Carried, Changes, Record
 from ..language.names import Name
 from ..language.packets import Key
 from ..language.records import BULK_STATUS, CLEAR, KINDS
 from ..language.setups import CLASSES
-from ..states import End
+from ..model.frames import HEADER as HEADER_SIZE, Carried, Changes, Record
+from ..model.states import End
 from . import layout
 from .layout import Layout
 

@@ -5,7 +5,7 @@ import struct
 import zlib
 from typing import BinaryIO, Iterator, List, NamedTuple
 
-from ..kinds import CAPTURE, GZIP, PCAP, SECTION, looks_like_capture, other_kind
+from ..scripts.kinds import CAPTURE, GZIP, PCAP, SECTION, looks_like_capture, other_kind
 
 NANOSECONDS = 10**9
 # The longest packet that libpcap reads, and with it the longest block of a packet. Other blocks may have any length.

@@ -4,11 +4,11 @@ from __future__ import annotations
 from itertools import chain
 from typing import List, NamedTuple
 
-from ..colours import Paint
+from ..console.colours import Paint
 from ..language.names import NODES
-from ..words import counted
-from .findings import Kind, Part
+from ..shows.words import counted
 from .files import NANOSECONDS
+from .findings import Kind, Part
 from .pairing import WINDOW, Overlay
 from .story import Story
 from .timeline import Timeline

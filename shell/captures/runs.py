@@ -12,12 +12,12 @@ from ipaddress import IPv4Address
 from itertools import accumulate
 from typing import Dict, List, NamedTuple, Sequence
 
-from ..branches import Branch
-from ..flights import Flight
-from ..laboratory import Laboratory, Unknown
 from ..language.events import REPEAT, TICK
 from ..language.names import NODES
-from ..words import counted
+from ..link.laboratory import Laboratory, Unknown
+from ..model.branches import Branch
+from ..model.flights import Flight
+from ..shows.words import counted
 from .encoding import creator_of_bulk_status, message
 from .writing import LINK_ETHERNET, LINK_PFSYNC, Written, on_ethernet, pcap
 

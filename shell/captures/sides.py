@@ -5,7 +5,7 @@ from collections import Counter
 from typing import Dict, List, NamedTuple, Optional, Sequence, Tuple
 
 from ..language.names import NODES
-from ..words import counted
+from ..shows.words import counted
 from .clocks import Both, Clocks, Measured, measured
 from .surveys import Survey
 

@@ -3,7 +3,7 @@ from __future__ import annotations
 
 from typing import Dict, List, NamedTuple, Optional, Tuple
 
-from ..colours import Paint
+from ..console.colours import Paint
 from ..language.names import level_name
 from .asked import MOST_FRAMES, MOST_STATES, MOST_STEPS
 from .decoding import Decoded, Record, protocol_word

@@ -5,14 +5,14 @@ from datetime import datetime
 from ipaddress import IPv6Address
 from typing import Iterable, List, Optional, Sequence
 
-from ..frames import Carried, Changes, kinds_counted
 from ..language.names import Name
 from ..language.packets import Key
 from ..language.records import BULK_STATUS, CLEAR, SHORT_UPDATE
 from ..language.setups import CLASSES
-from ..records import changes_words, state_words
-from ..states import End, Flow
-from ..words import bulk_status, flow
+from ..model.frames import Carried, Changes, kinds_counted
+from ..model.states import End, Flow
+from ..shows.records import changes_words, state_words
+from ..shows.words import bulk_status, flow
 from .decoding import Peer, Record, flow_of
 from .files import NANOSECONDS
 

@@ -9,11 +9,11 @@ from dataclasses import replace
 from itertools import accumulate
 from typing import Container, Iterator, Mapping, Optional, Sequence, Tuple
 
-from ..branches import Branch, Happened
-from ..explanations import Explanation, read_explanation
-from ..flights import Flight, read_flight
-from ..laboratory import Laboratory
 from ..language.events import CUT, DELIVER, FLUSH, LOSE, OF_FRAME, PACKET, REPEAT, RESTART, TICK
+from ..link.laboratory import Laboratory
+from ..model.branches import Branch, Happened
+from ..model.explanations import Explanation, read_explanation
+from ..model.flights import Flight, read_flight
 from .marks import Mark, PacketMarks, delivery_mark, node_mark
 from .rows import Chart, Row
 from .windows import WHOLE, Concern, Window

@@ -4,7 +4,7 @@ from __future__ import annotations
 from functools import lru_cache
 from typing import Dict, List, NamedTuple, Sequence, Tuple, Union
 
-from .frames import KEPT
+from .contents import KEPT
 from .rows import broken
 
 # How much wider bold letters are.

@@ -4,12 +4,12 @@ from __future__ import annotations
 from itertools import accumulate
 from typing import Dict, List, Optional, Sequence, Tuple
 
+from ..language.events import CUT, DELIVER, LOSE, REPEAT
+from ..model.flights import Flight
 from .elements import BAD, BOLDER, FRAME, INK, NOTE, Point, Span, in_lines, text_width
 from .geometry import OUTWARDS, Geometry
 from .marks import Mark
 from .rows import Chart, Row, begins_here
-from ..flights import Flight
-from ..language.events import CUT, DELIVER, LOSE, REPEAT
 
 # What happens to a frame on its way.
 FRAME_TONES = {REPEAT.word: NOTE, CUT.word: BAD}

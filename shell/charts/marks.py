@@ -5,15 +5,15 @@ import ipaddress
 from dataclasses import dataclass
 from typing import FrozenSet, Optional, Sequence, Set, Tuple
 
-from ..branches import Happened
-from ..explanations import Explanation, OfState
-from ..flights import Flight
 from ..language.events import BROKEN, DELIVER, HELD_BACK, PASS, RESTART, TICK
 from ..language.faults import FRAME_FAULTS
 from ..language.forms import DIRECTION
 from ..language.names import Name
-from ..words import counted, seconds
-from .frames import KEPT, besides
+from ..model.branches import Happened
+from ..model.explanations import Explanation, OfState
+from ..model.flights import Flight
+from ..shows.words import counted, seconds
+from .contents import KEPT, besides
 
 
 @dataclass(frozen=True)

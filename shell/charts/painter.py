@@ -3,13 +3,13 @@ from __future__ import annotations
 
 from typing import Iterable, Sequence
 
+from ..language.events import DELIVER, LOSE, RESTART
+from ..model.flights import Flight
 from .elements import BAD, BAND, FAINT, FRAME, INK, NOTE, PAPER, Point, Sheet, Span
 from .geometry import OUTWARDS
 from .layout import HEAD, NOTE_EDGE, NOTE_WIDTH, Layout
 from .marks import Mark
 from .rows import Row
-from ..flights import Flight
-from ..language.events import DELIVER, LOSE, RESTART
 
 
 class Painter:

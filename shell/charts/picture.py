@@ -3,14 +3,14 @@ from __future__ import annotations
 
 from typing import Dict, List, NamedTuple, Sequence, Tuple
 
+from ..console.characters import legible
+from ..model.flights import Flight
 from .elements import FAINT, INK, PAPER, Element, Point, Sheet, Span
 from .geometry import PAGE, PICTURE
 from .layout import BELOW_HEAD, HEAD, Layout
 from .painter import Painter
 from .rows import Chart
 from .svg import svg
-from ..flights import Flight
-from ..stories import legible
 
 # How many rows a sheet of a page has at most.
 ROWS = 100

@@ -5,10 +5,10 @@ import re
 from dataclasses import dataclass, field
 from typing import Callable, Dict, List, Optional, Sequence, Tuple
 
-from ..flights import Flight
 from ..language.events import CUT, FLUSH, REPEAT
-from ..words import counted
-from .frames import record_words
+from ..model.flights import Flight
+from ..shows.words import counted
+from .contents import record_words
 from .marks import Mark
 from .windows import Window
 

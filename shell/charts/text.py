@@ -4,12 +4,12 @@ from __future__ import annotations
 import sys
 from typing import Dict, List, NamedTuple, Optional, Sequence, Tuple
 
-from .frames import KEPT
+from ..console.colours import Paint
+from ..language.events import CUT, DELIVER, REPEAT, RESTART
+from ..model.flights import Flight
+from .contents import KEPT
 from .marks import Mark
 from .rows import Chart, Row, begins_here, broken
-from ..colours import Paint
-from ..flights import Flight
-from ..language.events import CUT, DELIVER, REPEAT, RESTART
 
 
 class Glyphs(NamedTuple):

@@ -4,14 +4,14 @@ from __future__ import annotations
 import re
 from typing import FrozenSet, NamedTuple, Optional, Sequence, Set, Tuple
 
-from ..explanations import Explanation, Judged, Purge
-from ..flights import Flight
-from ..frames import Record
 from ..language.events import CLEAR, HELD_BACK, KILL, PACKET, PURGE, RELEASE, RESTART
 from ..language.forms import NAME
 from ..language.names import ALL_STATES, Name
 from ..language.records import BULK_STATUS, CLEAR as CLEAR_RECORD
-from ..laboratory import Unknown
+from ..link.laboratory import Unknown
+from ..model.explanations import Explanation, Judged, Purge
+from ..model.flights import Flight
+from ..model.frames import Record
 from .marks import ends_of, state_of
 
 # How many states are named if one is not found.

@@ -4,14 +4,14 @@ from __future__ import annotations
 from contextlib import closing
 from typing import List, NamedTuple, Sequence
 
-from ..branches import Branch
-from ..colours import Paint
-from ..laboratory import Laboratory, Unknown
+from ..console.colours import Paint
 from ..language.commands import STEP
+from ..link.laboratory import Laboratory, Unknown
+from ..model.branches import Branch
 from .choices import tried
 from .reasons import Reasons
+from .replayed import Command, Script
 from .report import Report
-from .scripts import Command, Script
 
 ON_A_SERVER = "a server does not report its setup: with --setup FILE, the file that it read, its events are played by other rules"
 

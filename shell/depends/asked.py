@@ -4,8 +4,8 @@ from __future__ import annotations
 import argparse
 from typing import Sequence, Tuple
 
-from ..asking import Asking
-from ..helps import DEPENDS
+from ..language.helps import DEPENDS
+from ..link.asking import Asking
 
 ALL_REPLIES = "--all-replies"
 

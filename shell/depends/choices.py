@@ -4,11 +4,11 @@ from __future__ import annotations
 
 from typing import Container, Dict, FrozenSet, Iterator, List, NamedTuple, Optional, Tuple
 
-from ..kernels import EVERY, PROFILE, Kernel
 from ..language.commands import KERNEL
 from ..language.setups import SWITCHES, Switch
+from ..model.kernels import EVERY, PROFILE, Kernel
 from .comparing import Compared, compared, is_look
-from .scripts import Reply, Script
+from .replayed import Reply, Script
 
 # So many sets of words are looked for that do something together.
 MOST_SETS = 8

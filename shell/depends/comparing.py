@@ -3,14 +3,14 @@ from __future__ import annotations
 
 from typing import Dict, List, NamedTuple, Tuple
 
-from ..kernels import Kernel
 from ..language.commands import BACK, COMMANDS, DROP, EXCISE, FORK, FORWARD, NAMES, RESTORE, STEP, WHY
 from ..language.names import NODES
-from ..pair import read_shown
+from ..model.kernels import Kernel
+from ..model.pair import read_shown
 from ..searches.answers import is_same, read_answer
+from ..shows.words import flow
 from ..whatif.ends import End
-from ..words import flow
-from .scripts import Reply, Script, Spot
+from .replayed import Reply, Script, Spot
 
 # What moves the cursor of a branch, or takes an event out of it.
 _MOVES = (BACK.word, FORWARD.word, EXCISE.word, RESTORE.word)

@@ -4,21 +4,22 @@ from __future__ import annotations
 
 from typing import Dict, List, NamedTuple, Optional, Sequence
 
-from ..colours import PLAIN
-from ..differences import differences
-from ..explanations import Explanation, Judged, OfState, Purge
-from ..histories import History
-from ..kernels import Kernel
-from ..laboratory import Laboratory
+from ..console.colours import PLAIN
 from ..language.commands import KERNEL, PAST, STEP
 from ..language.events import KILL
 from ..language.names import NODES, Name
-from ..pair import read_shown
-from ..programs import Run
+from ..link.histories import History
+from ..link.laboratory import Laboratory
+from ..link.programs import Run
+from ..model.explanations import Explanation, Judged, OfState, Purge
+from ..model.kernels import Kernel
+from ..model.pair import read_shown
+from ..reasons.explained import reasons
 from ..reasons.kernel import THE_KERNEL
 from ..reasons.questions import Question
-from ..reasons.why import reasons, why_ahead
-from .scripts import Script
+from ..shows.differences import differences
+from .replayed import Script
+from .why import why_ahead
 
 # How the words of a reason begin that is a rule of the kernel, or the profile's in its place.
 _BY = (f"by {KERNEL.word} ", "by the profile", THE_KERNEL)

@@ -5,16 +5,16 @@ from dataclasses import dataclass
 from difflib import unified_diff
 from typing import List
 
-from ..differences import differences
-from ..laboratory import outcome_of
 from ..language.commands import PAST, SHOW
-from ..language.events import EVENTS, PACKET
+from ..language.events import PACKET
 from ..language.searches import SEARCH
-from ..pair import read_shown
+from ..link.laboratory import outcome_of
+from ..model.pair import read_shown
 from ..searches.answers import Found, GaveUp, NoRun, read_answer
-from ..words import counted
+from ..shows.differences import differences
+from ..shows.words import counted
 from .comparing import Difference, is_look
-from .scripts import Reply, Spot
+from .replayed import Reply, Spot
 
 # So many differences of a shown pair are named.
 MOST_FIELDS = 3

@@ -3,17 +3,16 @@ from __future__ import annotations
 
 from typing import Container, Dict, Iterator, List, NamedTuple, Sequence, Tuple
 
-from ..colours import Paint
+from ..console.colours import Paint
 from ..language.commands import KERNEL
 from ..language.searches import SEARCH
 from ..language.setups import SWITCHES, Switch
 from ..reasons.kernel import PAGE
-from ..words import counted
+from ..shows.words import counted
 from .choices import Far, Together, Tried, by_rules, together_words
 from .comparing import AtEnd, Compared, Difference, is_look
 from .reasons import Reasons
 from .replies import KINDS, found_words, kind_of, looked_words, outcome_words
-from .scripts import Spot
 
 SAME = "no reply changes: the same by the profile and by the kernel, as far as we know it"
 SAME_OTHERWISE = "no reply changes: the same with each of these words and without it"

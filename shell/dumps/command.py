@@ -4,11 +4,11 @@ from __future__ import annotations
 from collections import deque
 from typing import Dict, List, NamedTuple, Sequence
 
-from ..endings import NotDone
+from ..console.endings import NotDone
 from ..language.names import NODES
 from . import statistics
-from .captures import Say
 from .comparing import Compared, compare
+from .files import Say
 from .reading import Dump
 from .report import Shown, report
 

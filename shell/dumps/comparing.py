@@ -5,9 +5,9 @@ from dataclasses import dataclass, field
 from enum import Enum
 from typing import Dict, Iterable, List, NamedTuple, Optional, Sequence, Set, Tuple
 
-from ..diffs import RULE, unequal_fields
 from ..language.names import NODES
 from ..language.packets import CIRCLE
+from ..shows.diffs import RULE, unequal_fields
 from .forms import clock, numbers, windows
 from .states import Dumped, as_state, ends
 

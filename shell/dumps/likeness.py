@@ -8,12 +8,12 @@ from ..inferring.ways import was_heard
 from ..language.names import NODES
 from ..language.packets import CIRCLE
 from ..language.setups import NO_SYNC
-from ..pair import Node
-from ..setups import Setup
-from ..states import End, State
-from ..words import counted, milliseconds_left
-from .captures import shown
+from ..model.pair import Node
+from ..model.setups import Setup
+from ..model.states import End, State
+from ..shows.words import counted, milliseconds_left
 from .comparing import Compared, Tolerance
+from .files import shown
 from .items import Item, Items, Sort
 from .playing import Play
 from .ruling import NO_FORM, NO_ROOM

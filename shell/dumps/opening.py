@@ -4,17 +4,17 @@ from __future__ import annotations
 import os
 from typing import Dict, List, Mapping, NamedTuple, Optional, Tuple
 
-from .. import scripts
-from ..endings import NotDone
+from ..console.endings import NotDone
 from ..language.commands import OPEN, SET
 from ..language.lines import has_word
 from ..language.names import NODES
 from ..language.setups import AEND, ASTART, CLASSES, DEFER, FRAMES, QUEUE, STATES, TIMEOUT, Limit
-from ..programs import check_setup
-from ..setups import Setup
+from ..link.programs import check_setup
+from ..model.setups import Setup
+from ..scripts import texts
 from .asked import OUT, About
-from .captures import shown
 from .comparing import Compared, Tolerance
+from .files import shown
 from .items import Items, Sort, items_of
 from .likeness import compared_in, in_words, likeness, not_had
 from .playing import Player, judge
@@ -50,7 +50,7 @@ def opening(program: str, found: Compared, files: Dict[str, str], tolerance: Tol
         _check_room(found.sizes)
     items = items_of(found, asked.about)
     _check_made(items, asked)
-    lines = _setup(items, scripts.rules_of(program, asked.rules) if asked.rules else None)
+    lines = _setup(items, texts.rules_of(program, asked.rules) if asked.rules else None)
     fault = check_setup(program, [it for it in lines if has_word(it)])
     if fault:
         raise fault

@@ -11,10 +11,10 @@ from ..language.commands import OPEN, STEP
 from ..language.names import NODES, Name
 from ..language.packets import PacketEvent
 from ..language.setups import FRAMES
-from ..pair import Pair, read_shown
-from ..programs import Run, run_lines
-from ..setups import Setup
-from .captures import shown
+from ..link.programs import Run, run_lines
+from ..model.pair import Pair, read_shown
+from ..model.setups import Setup
+from .files import shown
 from .items import Item, Sort
 from .stages import Stage
 

@@ -5,7 +5,7 @@ import re
 from sys import intern
 from typing import Callable, Dict, Iterator, Match, Optional, Tuple
 
-from .captures import Faults, Say, blocks
+from .files import Faults, Say, blocks
 from .forms import HEAD, LIKE_A_HEAD, RECORD, ROUTE, WINDOWS, Marks, kind_of_route, marks_of, name_of, named, routes, seconds, times
 from .states import NO_MARKS, Dumped
 from .statistics import COUNT, SECTION, title

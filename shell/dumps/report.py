@@ -6,9 +6,9 @@ from functools import partial
 from itertools import chain
 from typing import Callable, Dict, Hashable, Iterable, List, NamedTuple, Optional, Protocol, Sequence, Tuple, TypeVar
 
-from ..colours import Paint
+from ..console.colours import Paint
 from ..language.names import NODES
-from ..words import counted
+from ..shows.words import counted
 from .comparing import Compared, Kind, Tolerance, Two, fields
 from .forms import clock
 from .states import Dumped, ends

@@ -7,12 +7,12 @@ from typing import Dict, List, NamedTuple, Optional, Tuple
 
 from ..inferring.segments import ahead
 from ..inferring.ways import Wanted, Way, renewal, way_to
-from ..kernels import Kernel
 from ..language.packets import PacketEvent, reaches
 from ..language.setups import FLAGS_ANY
-from ..pair import other
-from ..setups import Setup
-from ..states import End, State
+from ..model.kernels import Kernel
+from ..model.pair import other
+from ..model.setups import Setup
+from ..model.states import End, State
 from .comparing import Tolerance
 from .items import Item
 

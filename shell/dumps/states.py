@@ -5,7 +5,7 @@ from typing import NamedTuple, Optional, Tuple
 
 from ..language.names import Name
 from ..language.packets import CIRCLE, Key
-from ..states import End, State
+from ..model.states import End, State
 from . import forms
 from .forms import FLOW, NO_SYNC, Marks, windows
 

@@ -5,9 +5,9 @@ import re
 from itertools import chain, product
 from typing import Dict, List, NamedTuple, Sequence, Tuple
 
-from ..colours import Paint
+from ..console.colours import Paint
 from ..language.names import COUNTERS
-from ..words import counted
+from ..shows.words import counted
 
 SECTION = "pfsync:"
 COUNT = re.compile(r"(\d{1,20})\s+([a-zA-Z].*)", re.ASCII)

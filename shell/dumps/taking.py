@@ -5,11 +5,11 @@ import ipaddress
 from dataclasses import replace
 from typing import NamedTuple, Optional, Tuple, Union
 
-from ..importing.names import ICMP, TCP, UDP, protocol_number
+from ..importing.services import ICMP, TCP, UDP, protocol_number
 from ..inferring.ways import Wanted, keyed
 from ..language.names import OTHER_LEVELS, TCP_LEVELS
 from ..language.packets import Key
-from ..states import End
+from ..model.states import End
 from .asked import in_words
 from .forms import windows
 from .states import Dumped, as_state, ends

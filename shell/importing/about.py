@@ -11,8 +11,8 @@ from itertools import chain
 from typing import Dict, Iterable, Iterator, List, NamedTuple, Optional, Sequence, Tuple
 
 from .addresses import Address, Addresses, Network, Span
-from .names import ICMP, TCP, UDP, WITH_PORTS
 from .regions import Region, Side
+from .services import ICMP, TCP, UDP, WITH_PORTS
 
 _ANY = "any"
 _OTHER = {"in": "out", "out": "in"}

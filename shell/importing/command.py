@@ -2,12 +2,13 @@
 from __future__ import annotations
 
 import sys
-from typing import TYPE_CHECKING, Iterable, List, Optional
+from typing import Iterable, List, Optional
 
-from ..endings import STRICT_STATUS
-from ..fitting import columns_of, fitted
+from ..console.characters import legible
+from ..console.endings import STRICT_STATUS
+from ..console.fitting import columns_of, fitted
 from ..language.names import NODES
-from ..stories import legible
+from .asked import ImportOptions
 from .firewall import Firewall
 from .importer import imported
 from .judged import Verdict
@@ -15,11 +16,8 @@ from .rc import Rc, of_rc
 from .sources import Sources
 from .writing import first_too_many, report, setup_lines
 
-if TYPE_CHECKING:
-    from ..arguments import Words
 
-
-def carry_out(words: Words) -> int:
+def carry_out(words: ImportOptions) -> int:
     """Writes the setup, and reports on standard error what is not exact; returns the status."""
     rc = of_rc(words.rc) if words.rc else Rc()
     its = imported(firewall_of(words), list(Sources().lines(words.conf)), words.about)
@@ -40,7 +38,7 @@ def say(lines: Iterable[str]) -> None:
         print(line, file=sys.stderr)
 
 
-def firewall_of(words: Words) -> Firewall:
+def firewall_of(words: ImportOptions) -> Firewall:
     """What the command line says about the firewall."""
     groups = words.group or []
     firewall = Firewall(words.on, groups={name: {member for group, member in groups if group == name} for name, _ in groups})

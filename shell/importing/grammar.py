@@ -5,7 +5,7 @@ from dataclasses import dataclass, field
 from enum import Enum
 from typing import List, NamedTuple, Optional, Sequence, Tuple, Union
 
-from ..stories import legible
+from ..console.characters import legible
 
 
 # Words with the number that pflog(4) has of a rule: FreeBSD's, and pfSense's own until then.

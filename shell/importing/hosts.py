@@ -8,7 +8,7 @@ from typing import List, NamedTuple, Optional, Sequence, Tuple
 from .addresses import EVERY, NONE, Address, Addresses, Network
 from .firewall import Firewall, Own
 from .grammar import Host, HostKind
-from .names import number_of
+from .services import number_of
 
 _INTERFACE = re.compile(r"[a-z][a-z0-9_.]*[0-9]$|self$")
 _NO_ROUTES = "the laboratory has no routes: every address counts as having one, and no packet fails the reverse path test"

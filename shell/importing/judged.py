@@ -5,7 +5,7 @@ from dataclasses import dataclass, field
 from enum import Enum
 from typing import Iterable, List, NamedTuple, Sequence
 
-from ..stories import legible
+from ..console.characters import legible
 from .grammar import Line
 from .rules import RuleLine
 from .sources import place

@@ -25,8 +25,8 @@ from .grammar import (
     Table,
     Translation,
 )
-from .names import number_of
 from .reader import FAMILIES, MOST_IN_ONE_ANOTHER, Reader
+from .services import number_of
 from .tokens import Kind, NotRead, Statement, Token
 
 LONGEST_MACRO = 65536

@@ -5,10 +5,10 @@ import re
 import shlex
 from typing import Dict, Iterator, List, NamedTuple, Optional, Tuple
 
+from ..console.characters import legible
+from ..language.comments import of_statement
 from ..language.setups import DEFER, MAXUPD, Limit
-from ..stories import legible
-from .comments import of_statement
-from .names import number_of
+from .services import number_of
 from .sources import place, read
 
 _NAMES = ("ifconfig_pfsync0", "pfsync_ifconfig")

@@ -5,7 +5,7 @@ from typing import List, NamedTuple, Optional, Sequence, Tuple
 
 from ..language.setups import MOST_RULES
 from .addresses import FAMILIES, NONE, Addresses, Span, common
-from .names import GREATEST_PORT, WITH_PORTS
+from .services import GREATEST_PORT, WITH_PORTS
 
 Ports = Tuple[Span, ...]
 EVERY_PORT: Ports = ((0, GREATEST_PORT),)

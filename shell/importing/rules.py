@@ -12,8 +12,8 @@ from .about import About
 from .addresses import NETS, Address, Addresses, Network, Span, merged, rest
 from .expansion import PfRule
 from .grammar import NUMBERING, IcmpType, Operation, Option
-from .names import GREATEST_PORT, ICMP, ICMP6, TCP, UDP, WITH_PORTS, icmp_number, number_of, port_number, protocol_number
 from .regions import EVERY_PORT, Ports, Region, Side
+from .services import GREATEST_PORT, ICMP, ICMP6, TCP, UDP, WITH_PORTS, icmp_number, number_of, port_number, protocol_number
 
 CLASS_WORDS = tuple(it.word for it in CLASSES)
 # The kind of translation of which pfctl does not ask whether its protocol has ports.

@@ -12,9 +12,9 @@ from typing import Iterable, Iterator, List, NamedTuple, Optional, Sequence, Tup
 from ..language.setups import MOST_RULES
 from .about import About
 from .addresses import Span
-from .names import ICMP, TCP, UDP
 from .regions import Region, Side, holds
 from .rules import NAT, Out, RuleLine, lines_of, port_text, protocol_text
+from .services import ICMP, TCP, UDP
 from .translations import BINAT, IN, OUT, POOL, RDR, Piece, few_of
 
 _EVERY_ECHO: Span = (1, 65535)

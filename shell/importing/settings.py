@@ -7,8 +7,8 @@ from typing import Dict, List, NamedTuple, Optional, Sequence, Tuple
 from ..language.forms import GREATEST
 from ..language.setups import AEND, ASTART, STATES
 from .grammar import Setting
-from .names import number_of
 from .rules import CLASS_WORDS, Context
+from .services import number_of
 
 # pf's own, if a pf.conf sets none.
 DEFAULT_LIMIT, DEFAULT_START, DEFAULT_END = 100_000, 60_000, 120_000

@@ -4,8 +4,8 @@ from __future__ import annotations
 import os
 from typing import Dict, Iterator, List, Optional
 
-from ..kinds import ENOUGH, PF_CONF, refuse_other
-from ..stories import legible
+from ..console.characters import legible
+from ..scripts.kinds import ENOUGH, PF_CONF, refuse_other
 from .grammar import Content, Faulty, Host, Include, Line, Load, Macro, Source
 from .parser import host_of, parse
 from .tokens import Lexer

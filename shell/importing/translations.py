@@ -10,9 +10,9 @@ from .expansion import PfRule, expanded
 from .firewall import Firewall
 from .grammar import Filter, HostKind, Operation, Translation
 from .hosts import SELF, NotKnown, targets_of
-from .names import ICMP, ICMP6, WITH_PORTS
 from .regions import Ports, Region, Side, holds
 from .rules import NAT, Context, Never, Out, matched, port_of
+from .services import ICMP, ICMP6, WITH_PORTS
 from .tokens import NotRead
 
 RDR, BINAT = "rdr", "binat"

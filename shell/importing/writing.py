@@ -4,11 +4,11 @@ from __future__ import annotations
 from itertools import accumulate, groupby
 from typing import Iterable, Iterator, List, Sequence, Set
 
+from ..console.characters import legible
 from ..language.commands import OPEN, RULE
+from ..language.comments import of_no_rule, of_reason, of_rule, of_statement, of_translated, short
 from ..language.setups import MOST_RULES
-from ..stories import legible
-from ..words import counted
-from .comments import of_no_rule, of_reason, of_rule, of_statement, of_translated, short
+from ..shows.words import counted
 from .importer import Import, is_counted
 from .judged import Judged, Numbered, Verdict
 from .rules import RuleLine

@@ -9,8 +9,8 @@ from ..captures.files import NANOSECONDS
 from ..captures.pflog import MATCH, MISMATCH, Logged
 from ..captures.wording import lasting
 from ..language.names import NODES, Name
-from ..pair import other
-from ..words import counted
+from ..model.pair import other
+from ..shows.words import counted
 from .carrying import event
 from .night import DELETIONS, Night, Told
 from .playing import Playing, passes

@@ -8,7 +8,7 @@ from ..captures.carried import Carried, IpPacket
 from ..captures.decoding import Ends
 from ..language.names import NODES
 from ..language.packets import Key, PacketEvent
-from ..rulings import deciding
+from ..model.rulings import deciding
 from .night import Night, place_of
 from .setting import Setting, passing_rule
 from .ways import keyed

@@ -10,24 +10,23 @@ from ..captures.decoding import Ends, Peer, Record
 from ..captures.files import NANOSECONDS
 from ..captures.pairing import Sent
 from ..captures.wording import timeout_class
-from ..frames import Changes
 from ..language.events import CLEAR, RESTART, RETRY, TURN
 from ..language.names import BULK_END, MULTIPLE, NODES, SINGLE, TIME_WAIT, Name
 from ..language.packets import PacketEvent
 from ..language.records import BULK_STATUS, CLEAR as CLEAR_RECORD, INSERT, SHORT_UPDATE, UPDATE, UPDATE_REQUEST
 from ..language.setups import STATES
-from ..merging import merged
-from ..pair import other
-from ..states import End, Flow, State
-from ..tracking import moved
-from ..words import end_fields
+from ..model.frames import Changes
+from ..model.merging import merged
+from ..model.pair import other
+from ..model.states import End, Flow, State
+from ..model.tracking import moved
+from ..shows.words import end_fields
 from .carrying import Carrying
+from .levels import DESTINATION, SOURCE
 from .night import DELETIONS, Former, Night, is_about_state, place_of
 from .playing import Playing, passes
+from .segments import Flow as FlowOfPackets, ahead
 from .setting import TooMuch
-from .segments import Flow as FlowOfPackets
-from .segments import ahead
-from .levels import DESTINATION, SOURCE
 from .ways import Wanted, keyed, way_to
 
 _REFUSED = "refused"

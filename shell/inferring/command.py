@@ -5,14 +5,14 @@ import os
 from contextlib import closing
 from typing import Callable, Iterator, NamedTuple, Sequence, Tuple, Union
 
-from .. import scripts
 from ..captures.carried import Carried, Unread, carried
 from ..captures.files import BadCapture, Packet, packets
 from ..captures.links import PFSYNC_LINKS
 from ..captures.pairing import Overlay
 from ..captures.pflog import LINK, Logged, Passed, logged
 from ..captures.wording import Times
-from ..laboratory import Unknown
+from ..link.laboratory import Unknown
+from ..scripts import texts
 from .asked import SCRIPT, ScriptOptions, of_nodes
 from .happening import Happening
 from .night import Night, Part, night_of
@@ -42,7 +42,7 @@ def infer(words: ScriptOptions, program: str, captures: Sequence[str], captured:
         _refuse_empty(night)
         _refuse_long(night)
         _add_others(night, sources, captured.overlay)
-        setting = setting_of(night, scripts.rules_of(program, sources.rules) if sources.rules else None)
+        setting = setting_of(night, texts.rules_of(program, sources.rules) if sources.rules else None)
         with closing(Playing(program, setting)) as playing:
             happening = Happening(night, playing, setting)
             happening.play()

@@ -8,13 +8,12 @@ from typing import Counter, Dict, Iterator, List, Optional, Sequence, Tuple
 from ..captures.decoding import Record
 from ..captures.pairing import Sent
 from ..captures.wording import timeout_class
-from ..frames import Carried, Changes, Frame
-from ..frames import Record as OwnRecord
 from ..language.names import Name
 from ..language.packets import Key
 from ..language.records import BULK_STATUS, CLEAR, DELETE, SHORT_DELETE, RecordKind
-from ..states import End
-from ..words import counted
+from ..model.frames import Carried, Changes, Frame, Record as OwnRecord
+from ..model.states import End
+from ..shows.words import counted
 from .causes import end_of
 from .night import Night, is_about_state
 from .setting import Setting

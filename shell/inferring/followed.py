@@ -3,17 +3,17 @@ from __future__ import annotations
 
 from typing import Dict, Iterator, List, Optional, Sequence, Set, Tuple
 
-from ..explanations import TakenRecord
-from ..frames import Frame
 from ..language.names import NODES, Name
 from ..language.packets import Key, PacketEvent
 from ..language.setups import DEFER, NO_SYNC
-from ..pair import Node, Pair
-from ..receiving import received
-from ..rulings import deciding
-from ..setups import Keys, Setup
-from ..states import State, is_closed
-from ..tracking import moved, started
+from ..model.explanations import TakenRecord
+from ..model.frames import Frame
+from ..model.pair import Node, Pair
+from ..model.receiving import received
+from ..model.rulings import deciding
+from ..model.setups import Keys, Setup
+from ..model.states import State, is_closed
+from ..model.tracking import moved, started
 
 _Place = Tuple[str, Key]
 

@@ -4,7 +4,7 @@ from __future__ import annotations
 from typing import Callable, Dict, Iterator, NamedTuple
 
 from ..language.packets import PacketEvent
-from ..pair import other
+from ..model.pair import other
 from .blocking import Blocking
 from .carrying import Carrying
 from .causes import Causes

@@ -5,11 +5,11 @@ from collections import deque
 from functools import lru_cache
 from typing import Dict, NamedTuple, Optional, Tuple
 
-from ..kernels import Kernel
 from ..language.names import SINGLE, SYN_SENT, Name
 from ..language.packets import Key, PacketEvent
-from ..states import End, State
-from ..tracking import is_first, moved
+from ..model.kernels import Kernel
+from ..model.states import End, State
+from ..model.tracking import is_first, moved
 
 # The ends of a state, by their places.
 SOURCE, DESTINATION = 0, 1

@@ -6,8 +6,8 @@ from dataclasses import dataclass, field
 from itertools import chain, takewhile
 from typing import Counter, Dict, Iterable, Iterator, List, NamedTuple, Optional, Set, Tuple
 
-from ..captures.carried import Carried, IpPacket
 from ..captures.asked import Selection
+from ..captures.carried import Carried, IpPacket
 from ..captures.decoding import Ends, Record, address
 from ..captures.pairing import Sent
 from ..captures.pflog import Logged

@@ -3,15 +3,15 @@ from __future__ import annotations
 
 from typing import Dict, List, Optional, Sequence
 
-from ..explanations import read_explanation
-from ..flights import read_flight
-from ..frames import Frame
 from ..language.events import DELIVER, FLUSH, KILL, LAST_MILLISECOND, LOSE, PACKET, TICK
 from ..language.names import NODES, Name
 from ..language.packets import PacketEvent
-from ..laboratory import Unknown
-from ..pair import read_shown
-from ..programs import Run, check_setup
+from ..link.laboratory import Unknown
+from ..link.programs import Run, check_setup
+from ..model.explanations import read_explanation
+from ..model.flights import read_flight
+from ..model.frames import Frame
+from ..model.pair import read_shown
 from .followed import Followed
 from .setting import Setting, TooMuch
 

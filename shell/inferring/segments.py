@@ -4,12 +4,12 @@ from __future__ import annotations
 from dataclasses import dataclass, replace
 from typing import Iterator, List, NamedTuple, Optional, Sequence, Tuple
 
-from ..kernels import Kernel
 from ..language.names import Name
 from ..language.packets import CIRCLE, Key, PacketEvent
 from ..language.setups import SCALE, WINDOW
-from ..states import End, State
-from ..tracking import MOST_APART, MOST_OFFERED, ends_of, moved, segment, started
+from ..model.kernels import Kernel
+from ..model.states import End, State
+from ..model.tracking import MOST_APART, MOST_OFFERED, ends_of, moved, segment, started
 from .levels import DESTINATION, SOURCE, Step
 
 # The greatest length that a packet may have here, and that of packets without sequence numbers.

@@ -7,15 +7,15 @@ from typing import Counter, Dict, Iterator, List, NamedTuple, Optional, Sequence
 from ..captures.decoding import Ends, Record
 from ..captures.layout import SUBHEADER
 from ..captures.pflog import MATCH, Logged
-from ..frames import HEADER
 from ..language.commands import RULE, SET
 from ..language.lines import opens
 from ..language.names import NODES
 from ..language.packets import Key, PacketEvent
 from ..language.records import DELETE, INSERT, SHORT_DELETE
 from ..language.setups import AEND, ASTART, BATCH, BULK_MS, DEFER, FRAMES, MOST_RULES, MTU, QUEUE, STATES, TIMEOUT, Limit
-from ..rulings import deciding
-from ..setups import Rule, Setup
+from ..model.frames import HEADER
+from ..model.rulings import deciding
+from ..model.setups import Rule, Setup
 from .night import Night
 from .ways import keyed
 

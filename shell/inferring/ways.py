@@ -6,13 +6,13 @@ from dataclasses import replace
 from itertools import product
 from typing import Dict, Iterator, List, NamedTuple, Optional, Tuple
 
-from ..kernels import Kernel
 from ..language.names import SYN_SENT, TIME_WAIT, level_name
 from ..language.packets import Key, PacketEvent
 from ..language.setups import WINDOW
-from ..states import End, State
-from ..tracking import MOST_OFFERED, SILENT, moved
-from ..words import end_fields
+from ..model.kernels import Kernel
+from ..model.states import End, State
+from ..model.tracking import MOST_OFFERED, SILENT, moved
+from ..shows.words import end_fields
 from .levels import BEGUN, BEGUN_OTHERWISE, DESTINATION, SOURCE, Path, Place, Step, nearest, paths
 from .segments import Flow, Plan, Walk, ahead
 

@@ -7,7 +7,7 @@ from typing import Iterator, List, NamedTuple, Sequence, Tuple
 
 from ..language.commands import OPEN
 from ..language.names import NODES
-from ..words import counted
+from ..shows.words import counted
 from .comparing import FIELDS
 from .happening import Happening
 from .night import Night

@@ -3,8 +3,8 @@ from __future__ import annotations
 
 from typing import Dict, List, NamedTuple, Sequence
 
-from ..branches import Branch, common
 from ..language.events import plain_event
+from ..model.branches import Branch, common
 
 
 class Stepped(NamedTuple):

@@ -7,17 +7,16 @@ from dataclasses import replace
 from itertools import chain
 from typing import Callable, Dict, Iterator, List, Optional, Sequence, Tuple, TypeVar
 
-from ..branches import Branch, common
-from ..colours import PLAIN
-from ..laboratory import Laboratory, Unknown
-from ..language.commands import EXCISE
-from ..language.commands import STEP as STEPS
-from ..mirror import Taken
-from ..pair import Pair
-from ..programs import Ended
+from ..console.colours import PLAIN
+from ..depends.why import why_ahead
+from ..language.commands import EXCISE, STEP as STEPS
+from ..link.laboratory import Laboratory, Unknown
+from ..link.mirror import Taken
+from ..link.programs import Ended
+from ..model.branches import Branch, common
+from ..model.pair import Pair
 from ..reasons.commands import explain_command, explain_done
-from ..reasons.faults import explain_fault
-from ..reasons.why import why_ahead
+from ..reasons.faulty import explain_fault
 from .authors import Authors
 from .change import Data, Shown, change
 from .former import FormerRuns, Lost

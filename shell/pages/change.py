@@ -3,7 +3,7 @@ from __future__ import annotations
 
 from typing import Any, Dict, List, NamedTuple, Optional, Sequence
 
-from ..branches import Branch
+from ..model.branches import Branch
 from .record import Record
 
 Data = Dict[str, Any]

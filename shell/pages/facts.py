@@ -3,20 +3,20 @@ from __future__ import annotations
 
 from typing import Callable, Dict, Iterator, List, NamedTuple, Sequence, Tuple
 
-from .looks import Eye, Seen
-from .standings import Change, Standings
-from ..colours import PLAIN
-from ..differences import Difference, differences, node_numbers
-from ..diffs import circumstances, is_one_rule_set
-from ..frames import Frame
+from ..console.colours import PLAIN
 from ..language.names import COUNTERS, NODES
 from ..language.records import BULK_STATUS, CLEAR, QUEUES, UPDATE_REQUEST
-from ..pair import Node, Pair
-from ..records import record_line
-from ..setups import Setup
-from ..states import State
-from ..views import frame_head, held_packet
-from ..words import FLAGS, bulk_status, cleared, flow, levels, near_and_far, request, rule_number, scaling, sequence
+from ..model.frames import Frame
+from ..model.pair import Node, Pair
+from ..model.setups import Setup
+from ..model.states import State
+from ..shows.differences import Difference, differences, node_numbers
+from ..shows.diffs import circumstances, is_one_rule_set
+from ..shows.records import record_line
+from ..shows.views import frame_head, held_packet
+from ..shows.words import FLAGS, bulk_status, cleared, flow, levels, near_and_far, request, rule_number, scaling, sequence
+from .looks import Eye, Seen
+from .standings import Change, Standings
 
 # Values for JSON, by key. Among changes, nothing means that a key is gone.
 Facts = Dict[str, object]

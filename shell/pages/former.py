@@ -4,8 +4,8 @@ from __future__ import annotations
 from itertools import count
 from typing import Any, Dict, Iterator, List, NamedTuple, Sequence
 
-from ..branches import Branch
-from ..setups import Setup
+from ..model.branches import Branch
+from ..model.setups import Setup
 from .record import Record
 from .runs import MOST_FORMER
 

@@ -8,12 +8,12 @@ import threading
 from itertools import dropwhile, takewhile
 from typing import Callable, ContextManager, Iterator, Optional, Sequence, TextIO, Tuple, Union
 
-from ..laboratory import Unknown
 from ..language.commands import CHANGING, OPEN
 from ..language.lines import opens
-from ..mirror import Shared, joined as joined_to
-from ..programs import Client
-from ..setups import Setup
+from ..link.laboratory import Unknown
+from ..link.mirror import Shared, joined as joined_to
+from ..link.programs import Client
+from ..model.setups import Setup
 from .bridge import Bridge
 from .door import HERE, Door, make_room
 from .runs import Run, run_of

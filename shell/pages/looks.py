@@ -5,8 +5,8 @@ from dataclasses import dataclass, replace
 from typing import Dict, List, NamedTuple, Sequence, Set, Tuple
 
 from ..language.names import COUNTERS, NODES, Name
-from ..pair import Node, Pair, Queued
-from ..states import State
+from ..model.pair import Node, Pair, Queued
+from ..model.states import State
 
 
 class Changed(NamedTuple):

@@ -4,17 +4,17 @@ from __future__ import annotations
 from dataclasses import dataclass, field
 from typing import Dict, List, Optional, Sequence, Tuple
 
-from .facts import Facts, Look
-from ..colours import PLAIN
-from ..differences import Difference
-from ..explanations import Explanation
-from ..flights import Flight
-from ..histories import History
-from ..laboratory import Laboratory
-from ..logs import tone
+from ..console.colours import PLAIN
+from ..link.histories import History
+from ..link.laboratory import Laboratory
+from ..model.explanations import Explanation
+from ..model.flights import Flight
+from ..reasons.explained import reasons
 from ..reasons.questions import Question
-from ..reasons.why import reasons
-from ..words import counted
+from ..shows.differences import Difference
+from ..shows.logs import tone
+from ..shows.words import counted
+from .facts import Facts, Look
 
 # A page shows the first of many reasons or changes, and how many more there are.
 MOST_LINES = 60

@@ -5,15 +5,15 @@ from __future__ import annotations
 import re
 from typing import List, NamedTuple, Sequence
 
-from ..branches import Branch
-from ..colours import PLAIN
-from ..explanations import Explanation, read_explanation
-from ..histories import History
-from ..laboratory import Laboratory
+from ..console.colours import PLAIN
 from ..language.commands import WHY
 from ..language.events import CLEAR, CUT, DELIVER, FLUSH, KILL, LOSE, PURGE, RELEASE, REPEAT, RESTART, RETRY, TURN
 from ..language.names import Name
-from ..pair import Pair
+from ..link.histories import History
+from ..link.laboratory import Laboratory
+from ..model.branches import Branch
+from ..model.explanations import Explanation, read_explanation
+from ..model.pair import Pair
 from ..reasons.questions import Question
 from ..reasons.refusals import explain_refusal
 

@@ -7,9 +7,9 @@ import json
 import pkgutil
 import re
 from html import escape
-from typing import Dict, List, Mapping, Tuple
+from typing import Dict, Mapping, Tuple
 
-from ..endings import NotDone
+from ..console.endings import NotDone
 
 TEMPLATE, STYLE, FIRST = "page.html", "page.css", "main.js"
 IMPORT = re.compile(r'^import \{ [^}]+ \} from "\./([\w-]+\.js)";\n', re.M)

@@ -4,22 +4,22 @@ from __future__ import annotations
 from dataclasses import replace
 from typing import Dict, List, Mapping, Sequence
 
-from .facts import Facts, Looker
-from .moments import Known, Moment, moment, unseen
-from ..branches import Branch, common
 from ..charts.chart import drawn
 from ..charts.picture import Drawing
-from ..depends.marks import MOST_EVENTS, NONE, marks_of
-from ..held import held_packets, with_packets
-from ..laboratory import Laboratory, Unknown
-from ..explanations import read_explanation
-from ..flights import read_flight
+from ..depends.otherwise import MOST_EVENTS, NONE, marks_of
 from ..language.commands import BACK, FRAME, SHOW, STEP, WHY
 from ..language.events import FLUSH, OF_FRAME, PACKET, REPEAT
 from ..language.names import Name
-from ..pair import Pair
+from ..link.laboratory import Laboratory, Unknown
+from ..model.branches import Branch, common
+from ..model.explanations import read_explanation
+from ..model.flights import read_flight
+from ..model.held import held_packets, with_packets
+from ..model.pair import Pair
+from ..model.setups import Setup
 from ..reasons.questions import at_other_node
-from ..setups import Setup
+from .facts import Facts, Looker
+from .moments import Known, Moment, moment, unseen
 
 # How many lines of shown pairs are read for the new events of a branch, besides those after the last one. In a longer run the pair is
 # not looked at after each event.

@@ -4,12 +4,13 @@ from __future__ import annotations
 from dataclasses import dataclass, replace
 from typing import Dict, Iterator, List, Sequence
 
+from ..console.characters import legible
+from ..link.laboratory import Laboratory
+from ..model.branches import Branch
+from ..model.setups import Setup
+from ..scripts.stories import Former, Places, Story, story_of
+from ..scripts.texts import title_of
 from .record import Record
-from ..branches import Branch
-from ..laboratory import Laboratory
-from ..scripts import title_of
-from ..setups import Setup
-from ..stories import Former, Places, Story, legible, story_of
 
 # How many of the runs that were undone and stepped over, or lost an event, a page keeps: the newest.
 MOST_FORMER = 8

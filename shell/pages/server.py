@@ -6,7 +6,7 @@ import subprocess
 from typing import Sequence
 
 from ..language.commands import OPEN
-from ..programs import Ended
+from ..link.programs import Ended
 
 # How often to look for a free port: another program can take one in the meantime.
 TRIES = 5

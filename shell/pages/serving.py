@@ -12,7 +12,7 @@ from http.server import BaseHTTPRequestHandler
 from itertools import takewhile
 from typing import Callable, Dict, Iterator, List, Optional, Tuple, TypeVar, Union
 
-from ..programs import Ended
+from ..link.programs import Ended
 from .bridge import NO_JOURNAL, STEP, Overtaken
 from .door import Door, Within
 from .news import Stream

@@ -5,12 +5,12 @@ import time
 from dataclasses import replace
 from typing import Dict, List, Optional, Sequence, Union
 
-from ..branches import Branch, read_log
 from ..language.commands import LOG, NAMES, SHOW, STEP
 from ..language.events import plain_event
-from ..mirror import Entry, Shared, Taken
-from ..pair import Pair, read_shown
-from ..programs import FULL, VIEW, Client, Ended, Session, commands_of
+from ..link.mirror import Entry, Shared, Taken
+from ..link.programs import FULL, VIEW, Client, Ended, Session, commands_of
+from ..model.branches import Branch, read_log
+from ..model.pair import Pair, read_shown
 
 # How long to wait, at most, before branches whose numbers look the same are read again.
 LONGEST_PAUSE = 30.0

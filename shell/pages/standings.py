@@ -4,11 +4,11 @@ from __future__ import annotations
 from collections import Counter
 from typing import Counter as Numbers, Dict, Iterator, List, NamedTuple, Optional, Sequence, Set, Tuple
 
-from ..diffs import RULE, Counts, unequal_fields
 from ..language.names import NODES, Name
 from ..language.packets import Key
-from ..pair import Pair, other
-from ..states import State
+from ..model.pair import Pair, other
+from ..model.states import State
+from ..shows.diffs import RULE, Counts, unequal_fields
 
 # A protocol, which of the two keys it is, and the key.
 FlowKey = Tuple[str, str, Key]

@@ -6,9 +6,9 @@ import json
 import re
 from typing import Any, Dict, NamedTuple, Optional, Sequence
 
-from .offers import PLACE
 from ..language.commands import BACK, CHANGING, DROP, EXCISE, FORK, FORWARD, RESTORE
-from ..visits import cleaned
+from ..link.visits import cleaned
+from .offers import PLACE
 
 # The commands that mean something else after another change of their branch.
 COUNTING = tuple(it.word for it in (BACK, FORWARD, FORK, DROP, EXCISE, RESTORE))

@@ -6,16 +6,16 @@ from functools import lru_cache
 from itertools import islice
 from typing import Callable, Container, Iterable, Iterator, List, Optional, Sequence
 
-from ..branches import Happened
-from ..flights import Flight
 from ..language.events import BROKEN, CLEAR, DELIVER, EVENTS, HELD_BACK, KILL, PACKET, PASS, PURGE, RESTART, read_packet
 from ..language.forms import is_tcp
 from ..language.names import Name
 from ..language.packets import PacketEvent
 from ..language.records import INSERT, QUEUES, SHORT_UPDATE, UPDATE, RecordKind
-from ..pair import Node, other
+from ..model.branches import Happened
+from ..model.flights import Flight
+from ..model.pair import Node, other
 from .questions import Question, peer_of, state_words
-from .records import became, came_records
+from .taken import became, came_records
 
 # What brings a state to a node that does not have it, and what else is about one.
 WHOLE = (INSERT, UPDATE)

@@ -4,12 +4,12 @@ from __future__ import annotations
 from difflib import get_close_matches
 from typing import Callable, Dict, List, Sequence
 
-from ..laboratory import Laboratory
 from ..language.commands import EXCISE, FORK, MOST_BRANCHES, PAST
 from ..language.forms import BRANCH
 from ..language.searches import FOUND, GAVE_UP, NONE, SEARCH
-from ..pair import Pair
-from ..words import counted
+from ..link.laboratory import Laboratory
+from ..model.pair import Pair
+from ..shows.words import counted
 
 NOT_SHOWN = "the branches as they are now do not show why: the shell knows no more"
 NAME_FORM = f"a branch's name is {BRANCH.what}"

@@ -3,11 +3,11 @@ from __future__ import annotations
 
 from typing import List
 
-from .absence import WHOLE, explain_lag, yet_to_send
-from ..explanations import Judged
 from ..language.events import DROPPED
-from ..pair import Node
-from ..states import State
+from ..model.explanations import Judged
+from ..model.pair import Node
+from ..model.states import State
+from .absence import WHOLE, explain_lag, yet_to_send
 from .questions import Question, peer_of
 
 

@@ -3,16 +3,16 @@ from __future__ import annotations
 
 from typing import Callable, Container, Dict, List
 
-from ..explanations import Expiry, Purge
-from ..frames import HEADER
 from ..language import events
 from ..language.events import MOST_TRIES, SERVED, Event
 from ..language.names import LOST, Name
 from ..language.records import SHORT_DELETE
 from ..language.setups import BATCH, BULK_MS, DEFER_MS, MTU
-from ..pair import Node, other
-from ..states import State
-from ..words import counted, pending_words, scaled_by
+from ..model.explanations import Expiry, Purge
+from ..model.frames import HEADER
+from ..model.pair import Node, other
+from ..model.states import State
+from ..shows.words import counted, pending_words, scaled_by
 from .expiry import use_words
 from .questions import Question, name_list, state_words
 

@@ -3,9 +3,9 @@ from __future__ import annotations
 
 from typing import List
 
-from ..explanations import Expiry
-from ..pair import Node
-from ..states import State
+from ..model.explanations import Expiry
+from ..model.pair import Node
+from ..model.states import State
 from .questions import Question
 
 

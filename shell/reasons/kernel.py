@@ -5,15 +5,14 @@ from __future__ import annotations
 
 from typing import List, Sequence
 
-from ..explanations import OfState
-from ..kernels import PROFILE, Kernel
-from ..language.commands import KERNEL
 from ..language.names import SYN_SENT, Name
 from ..language.packets import PacketEvent
 from ..language.setups import LOOSE, MERGE, RESET, SCALE, WINDOW, Switch
-from ..pair import Node
-from ..states import Flow, State, is_closed
-from ..tracking import MOST_APART, ends_of, judged
+from ..model.explanations import OfState
+from ..model.kernels import PROFILE, Kernel
+from ..model.pair import Node
+from ..model.states import Flow, State, is_closed
+from ..model.tracking import MOST_APART, ends_of, judged
 
 PAGE = "docs/REAL.md"
 THE_KERNEL = "FreeBSD's kernel, as far as we know its sources,"

@@ -4,16 +4,16 @@ from __future__ import annotations
 from dataclasses import replace
 from typing import Dict, List, Sequence
 
-from ..explanations import TakenRecord
-from ..frames import Frame
-from ..kernels import Kernel
 from ..language.commands import KERNEL
 from ..language.names import Name
 from ..language.setups import EXPIRY
-from ..pair import Node
-from ..receiving import received
-from ..setups import Setup
-from ..words import expires_at
+from ..model.explanations import TakenRecord
+from ..model.frames import Frame
+from ..model.kernels import Kernel
+from ..model.pair import Node
+from ..model.receiving import received
+from ..model.setups import Setup
+from ..shows.words import expires_at
 from .kernel import PAGE, THE_KERNEL
 
 BY = f"{KERNEL.word} {EXPIRY.word}"

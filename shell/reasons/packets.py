@@ -4,21 +4,21 @@ from __future__ import annotations
 from itertools import islice
 from typing import List, Optional
 
-from .absence import explain_absence
-from ..explanations import Judged, OfState
 from ..language.events import DROPPED, HELD_BACK, PASS
 from ..language.names import CLOSING
 from ..language.packets import PacketEvent
 from ..language.setups import DEFER_MS, FLAGS_ANY, HELD, QUICK, RDR
-from .questions import Question, name_list, state_words
-from ..rulings import deciding
-from ..setups import Rule
-from ..states import State, is_closed
-from ..words import counted, levels
+from ..model.explanations import Judged, OfState
+from ..model.rulings import deciding
+from ..model.setups import Rule
+from ..model.states import State, is_closed
+from ..shows.words import counted, levels
+from .absence import explain_absence
 from .elsewhere import explain_drop_elsewhere, explain_elsewhere
 from .expiry import explain_overdue
+from .questions import Question, name_list, state_words
 from .scales import explain_new_scale
-from .windows import explain_way, explain_window
+from .tcp_windows import explain_way, explain_window
 
 
 def explain_packet(question: Question) -> List[str]:

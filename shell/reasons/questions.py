@@ -5,17 +5,17 @@ from dataclasses import dataclass
 from functools import cached_property
 from typing import List, Optional, Sequence
 
-from ..colours import Paint
-from ..explanations import Explanation, Reason
-from ..histories import History
-from ..laboratory import Laboratory
+from ..console.colours import Paint
 from ..language.events import Event, read_packet
 from ..language.names import Name
 from ..language.packets import PacketEvent
-from ..pair import Node, Pair, other
-from ..setups import Rule
-from ..states import State
-from ..words import flow
+from ..link.histories import History
+from ..link.laboratory import Laboratory
+from ..model.explanations import Explanation, Reason
+from ..model.pair import Node, Pair, other
+from ..model.setups import Rule
+from ..model.states import State
+from ..shows.words import flow
 
 
 @dataclass(eq=False)

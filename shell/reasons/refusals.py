@@ -4,14 +4,14 @@ from __future__ import annotations
 from difflib import get_close_matches
 from typing import Callable, Dict, List
 
-from ..explanations import Against
 from ..language.events import OF_FRAME, RELEASE, TURN
 from ..language.forms import GREATEST
 from ..language.names import Name
 from ..language.setups import BULK_MS, DEFER_MS, FRAMES, QUEUE
-from ..pair import Node, other
+from ..model.explanations import Against
+from ..model.pair import Node, other
+from ..shows.words import counted
 from .questions import Question, name_list
-from ..words import counted
 
 
 def _node(question: Question) -> Node:

@@ -5,13 +5,13 @@ from __future__ import annotations
 from dataclasses import replace
 from typing import Iterator, List, NamedTuple, Optional
 
-from ..kernels import Kernel
 from ..language.commands import KERNEL
 from ..language.events import PACKET, read_packet
 from ..language.packets import PacketEvent
 from ..language.setups import LOOSE, RESET, SCALE, WINDOW
-from ..states import End, State
-from ..tracking import answers, ends_of, in_units, is_first, judged, void
+from ..model.kernels import Kernel
+from ..model.states import End, State
+from ..model.tracking import answers, ends_of, in_units, is_first, judged, void
 from .kernel import PAGE, THE_KERNEL, passes
 from .questions import Question
 

@@ -4,15 +4,15 @@ from __future__ import annotations
 from dataclasses import dataclass
 from typing import Callable, List, NamedTuple, Optional, Tuple
 
-from ..branches import Branch, Happened
-from ..flights import read_flight
-from ..frames import Frame
-from ..laboratory import Asked, Laboratory, Unknown, outcome_of
 from ..language.commands import BACK, STEP
 from ..language.events import FLUSH, OF_FRAME
 from ..language.searches import NONE
-from ..pair import Pair, read_shown
-from ..programs import Run
+from ..link.laboratory import Asked, Laboratory, Unknown, outcome_of
+from ..link.programs import Run
+from ..model.branches import Branch, Happened
+from ..model.flights import read_flight
+from ..model.frames import Frame
+from ..model.pair import Pair, read_shown
 from .answers import Answer, Found, GaveUp, NoRun, read_answer
 from .sought import SPLITS, Sought
 

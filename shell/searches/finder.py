@@ -3,20 +3,17 @@ from __future__ import annotations
 
 import time
 from dataclasses import dataclass
-from typing import TYPE_CHECKING, IO, Iterator, Optional, Sequence, Tuple
+from typing import IO, Iterable, Iterator, Optional, Protocol, Sequence, Tuple
 
-from .. import helps
-from ..colours import Paint
-from ..laboratory import Unknown
+from ..console.colours import Paint
+from ..language import helps
 from ..language.searches import SEARCH
+from ..link.laboratory import Asked, Laboratory, Unknown
 from .answers import Found, NoRun, read_answer
 from .deepening import search
 from .otherwise import by_other_rules
 from .reading import is_for_people, read, wrong_goal
 from .report import report, runs
-
-if TYPE_CHECKING:
-    from ..shell import Shell
 
 ON_A_SERVER = (
     "a server does not search: its `log` shows the events of a branch; in a shell of your own, after the same setup, step them "
@@ -55,10 +52,29 @@ class Status:
             print(f"\r\033[K{text}", end="", file=self.out, flush=True)
 
 
+class Dialogue(Protocol):
+    """A dialogue whose user searches."""
+
+    lab: Laboratory
+    out: IO[str]
+    paint: Paint
+    is_typed: bool
+
+    def show(self, lines: Sequence[str]) -> None: ...
+
+    def show_whole(self, lines: Sequence[str]) -> None: ...
+
+    def ask(self, line: str) -> bool: ...
+
+    def record(self, asked: Asked) -> None: ...
+
+    def steps(self, branch: str, events: Iterable[str]) -> None: ...
+
+
 class Finder:
     """Searches for the user of a shell, and steps what was found."""
 
-    def __init__(self, shell: Shell):
+    def __init__(self, shell: Dialogue):
         self.shell, self.lab = shell, shell.lab
         self.way: Optional[Way] = None
         self.has_searched = False

@@ -5,8 +5,7 @@ from typing import List, NamedTuple, Sequence, Tuple
 
 from ..language.events import CUT, EVENTS, OF_FRAME, OF_NODE, PACKET
 from ..language.names import NODES
-from ..language.searches import ANY, OF_PAIR, SCOPES, SEARCH, SPLIT, THEN, words_of
-from ..language.searches import GOALS as GOALS_OF_LINES
+from ..language.searches import ANY, OF_PAIR, SCOPES, SEARCH, SPLIT, THEN, words_of, GOALS as GOALS_OF_LINES
 from .reading import OF_ANY, PARTS, is_for_people
 from .sought import DIES, GOALS
 

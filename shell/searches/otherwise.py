@@ -3,10 +3,10 @@ from __future__ import annotations
 
 from typing import Optional
 
-from ..branches import Branch
-from ..kernels import EVERY, PROFILE
-from ..laboratory import Laboratory
-from ..words import counted
+from ..link.laboratory import Laboratory
+from ..model.branches import Branch
+from ..model.kernels import EVERY, PROFILE
+from ..shows.words import counted
 from .answers import Answer, Found, GaveUp, NoRun, is_same
 from .deepening import Watch, search
 from .sought import Sought

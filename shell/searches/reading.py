@@ -5,14 +5,13 @@ import re
 from dataclasses import dataclass, field
 from typing import Dict, List, Optional, Sequence, Tuple
 
-from .. import macros
-from ..laboratory import Unknown, event_of
 from ..language.events import CUT, DELIVER, EVENTS, FLUSH, LOSE, OF_FRAME, PACKET, REPEAT, TICK
 from ..language.forms import GREATEST, NODE, nearest
 from ..language.lines import LONGEST_LINE
 from ..language.searches import ANY, DEEPEST, MOST_CHOICES, MOST_PHASES, OF_PAIR, PASSED, QUIET, SEARCH, THEN, UNPASSED
-from .sought import ALWAYS, ANY_DELIVERY, ANYWHERE, DIES, DROPS, GOALS, PASSES, RUNS, WHERE, Choice, Phase, Sought
-from .sought import EVENTS as EVENTS_AT_MOST
+from ..link import macros
+from ..link.laboratory import Unknown, event_of
+from .sought import ALWAYS, ANY_DELIVERY, ANYWHERE, DIES, DROPS, GOALS, PASSES, RUNS, WHERE, Choice, Phase, Sought, EVENTS as EVENTS_AT_MOST
 
 PARTS = (*WHERE, "within", "at", DIES, THEN, *EVENTS)
 # What happens to any frame: the number after it says how often, and is not a ticket.

@@ -3,11 +3,11 @@ from __future__ import annotations
 
 from typing import List, Sequence
 
-from ..colours import Paint
-from ..diffs import unequal_fields
+from ..console.colours import Paint
 from ..language.searches import DIFFER, QUIET
-from ..pair import Pair, other
-from ..words import counted
+from ..model.pair import Pair, other
+from ..shows.diffs import unequal_fields
+from ..shows.words import counted
 from .answers import Found, GaveUp, NoRun
 from .deepening import Outcome, Step
 from .sought import ANYWHERE, DIES, DROPS, SPLITS, WHERE, Sought

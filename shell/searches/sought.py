@@ -8,8 +8,8 @@ from typing import Dict, List, Tuple
 from ..language.events import DELIVER, FLUSH
 from ..language.names import NODES
 from ..language.searches import ADMITTED, ANY, APART, DIFFER, DROPPED, LANDED, QUIET, SEARCH, SETTLED, SPLIT, THEN
-from ..pair import other
-from ..words import counted
+from ..model.pair import other
+from ..shows.words import counted
 
 # What people say, and the goal of the line.
 DROPS, PASSES, SPLITS = "drops", "passes", "splits"

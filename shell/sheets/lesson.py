@@ -5,17 +5,18 @@ from contextlib import closing
 from dataclasses import dataclass, field
 from typing import List, NamedTuple, Optional, Sequence
 
-from .outcomes import Answer, answer_of
 from ..charts.chart import chart
 from ..charts.rows import Chart
-from ..colours import PLAIN
-from ..laboratory import Laboratory
+from ..console.characters import legible
+from ..console.colours import PLAIN
 from ..language.commands import COMMANDS, FORK, STEP
 from ..language.lines import has_word
-from ..scripts import title_of
-from ..setups import Setup
-from ..stories import Chapter, Story, legible
-from ..views import view
+from ..link.laboratory import Laboratory
+from ..model.setups import Setup
+from ..scripts.stories import Chapter, Story
+from ..scripts.texts import title_of
+from ..shows.views import view
+from .outcomes import Answer, answer_of
 
 # Lines to write on: for an event, for any other command, and for one whose reply is long.
 FOR_EVENT, FOR_COMMAND, FOR_LONG = 2, 1, 4

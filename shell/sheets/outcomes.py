@@ -4,15 +4,16 @@ from __future__ import annotations
 from dataclasses import dataclass
 from typing import List, Sequence
 
-from ..charts.frames import record_words
+from ..charts.contents import record_words
 from ..charts.marks import PacketMarks, delivery_mark, node_mark
-from ..colours import PLAIN
-from ..explanations import Explanation
-from ..laboratory import Laboratory
+from ..console.colours import PLAIN
+from ..depends.why import why_last
 from ..language.commands import BACK, EXCISE, FORK, FORWARD, STEP
 from ..language.events import CUT, DELIVER, FLUSH, LOSE, PACKET, REPEAT
 from ..language.searches import SEARCH
-from ..reasons.why import INDENT, explained_event, why_last
+from ..link.laboratory import Laboratory
+from ..model.explanations import Explanation
+from ..reasons.explained import INDENT, explained_event
 
 # How many lines of a reason a sheet has; the shell has the others.
 MOST_REASONS = 4

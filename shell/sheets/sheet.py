@@ -4,16 +4,16 @@ from __future__ import annotations
 from itertools import zip_longest
 from typing import Iterator, List
 
-from .drawing import Piece, pieces
-from .lesson import COLUMNS, Ending, Lesson, Line
-from .markup import Markup, element, joined, prose
-from .outcomes import Answer
-from .style import STYLE
-from ..fitting import fitted
+from ..console.fitting import fitted
 from ..language.commands import RULE
 from ..language.names import NODES
+from ..model.setups import Setup
 from ..pages.packing import policy
-from ..setups import Setup
+from .drawing import Piece, pieces
+from .lesson import COLUMNS, Ending, Lesson, Line
+from .markup import Markup, element, prose
+from .outcomes import Answer
+from .style import STYLE
 
 START = '<!DOCTYPE html>\n<html lang="en">\n<head>\n<meta charset="utf-8">\n<meta name="viewport" content="width=device-width">\n'
 WITH_REPLIES = "with the replies"

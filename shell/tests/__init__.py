@@ -11,11 +11,11 @@ from typing import List
 from proving.programs import program_of_tree
 from proving.releases import NoRelease
 
-from ..chosen import NoProgram, chosen
-from ..colours import PLAIN
-from ..laboratory import Laboratory
+from ..console.colours import PLAIN
+from ..depends.why import why_last
 from ..language.lines import has_word
-from ..reasons.why import why_last
+from ..link.chosen import NoProgram, chosen
+from ..link.laboratory import Laboratory
 
 TOP = os.path.dirname(os.path.dirname(os.path.dirname(os.path.realpath(__file__))))
 NO_PROGRAM_STATUS = 125

@@ -13,8 +13,8 @@ import warnings
 from collections import Counter
 from typing import Iterable, Iterator, List, Sequence, Set, Union
 
-from . import TOP, program
 from ..language.forms import nearest
+from . import TOP, program
 
 HERE = f"{TOP}/shell/tests"
 PACKAGE = "shell.tests."

@@ -11,11 +11,11 @@ import unittest
 from typing import Any, Dict, List, NamedTuple, Union
 from unittest import mock
 
+from ..link.programs import Client, Ended
 from ..pages.bridge import Bridge
 from ..pages.door import Door
 from ..pages.live import OPENING, Served, begun, live, watch
 from ..pages.session import Branches
-from ..programs import Client, Ended
 from . import program
 
 PACKET = "step main packet a out udp 10.0.0.1:1000 192.0.2.9:53 40"

@@ -11,14 +11,14 @@ from dataclasses import replace
 from pathlib import Path
 from typing import Dict, Iterator, List
 
-from ..branches import Branch
 from ..captures.encoding import creator_of_bulk_status, message
 from ..captures.runs import ADDRESSES
 from ..captures.writing import LINK_ETHERNET, Written, on_ethernet, pcap
-from ..frames import Carried, Record
-from ..laboratory import Laboratory
 from ..language.events import PACKET, TICK, read_packet
 from ..language.names import ALL_STATES, NODES, Name
+from ..link.laboratory import Laboratory
+from ..model.branches import Branch
+from ..model.frames import Carried, Record
 from . import TOP, laboratory, nights
 from .imports import imported
 

@@ -9,9 +9,9 @@ import re
 import sys
 from typing import Iterable, List
 
-from ..colours import PLAIN
-from ..laboratory import Laboratory
-from ..shell import Shell
+from ..console.colours import PLAIN
+from ..dialogue.shell import Shell
+from ..link.laboratory import Laboratory
 from . import program
 
 MARK = "<!-- dialogue -->\n```text\n"

@@ -5,8 +5,8 @@ import random
 import re
 from typing import Dict, List, NamedTuple, Tuple
 
-from ..pair import Node
-from ..words import flow, levels, near_and_far
+from ..model.pair import Node
+from ..shows.words import flow, levels, near_and_far
 
 HEAD = re.compile(r"^all (\S+ .*?) {7}(\S+)$", re.MULTILINE)
 NUMBERS = re.compile(r"\[(\d+) \+ (\d+)\](?: wscale (\d+))?  \[(\d+) \+ (\d+)\](?: wscale (\d+))?")

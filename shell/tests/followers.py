@@ -8,15 +8,15 @@ import threading
 import unittest
 from typing import List, Optional, Sequence
 
+from ..console.colours import PLAIN
+from ..dialogue.shell import Shell
+from ..link.laboratory import Laboratory
+from ..link.mirror import Shared
+from ..link.programs import Client
+from ..model.setups import Setup
 from . import program
 from .children import SECONDS
 from .servers import RULES, Proved, Server, proved_server, standin_server
-from ..colours import PLAIN
-from ..laboratory import Laboratory
-from ..mirror import Shared
-from ..programs import Client
-from ..setups import Setup
-from ..shell import Shell
 
 QUERY = "packet a out udp 10.0.0.1:1000 192.0.2.9:53 40"
 STEP = f"step main {QUERY}"

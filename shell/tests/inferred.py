@@ -11,16 +11,16 @@ from contextlib import redirect_stderr, redirect_stdout
 from typing import Dict, List, NamedTuple, Optional, Sequence, Tuple
 from unittest.mock import patch
 
-from ..branches import Branch
 from ..captures.encoding import message
 from ..captures.runs import ADDRESSES, Clocks, Seen, capture, captures_of
-from ..frames import Carried, Changes, Record
-from ..laboratory import Laboratory
 from ..language.names import Name
+from ..link.laboratory import Laboratory
 from ..main import main
-from ..pair import Pair
-from ..states import Flow, State
-from ..stories import story_of
+from ..model.branches import Branch
+from ..model.frames import Carried, Changes, Record
+from ..model.pair import Pair
+from ..model.states import Flow, State
+from ..scripts.stories import story_of
 from . import program
 from .nights import data_captures, log_captures
 

@@ -6,11 +6,11 @@ import ipaddress
 import struct
 from typing import Dict, Iterator, List, NamedTuple, Sequence, Tuple
 
-from ..branches import Branch
 from ..captures.runs import Clocks
-from ..laboratory import Laboratory
 from ..language.events import read_packet
 from ..language.packets import PacketEvent
+from ..link.laboratory import Laboratory
+from ..model.branches import Branch
 
 NUMBERS = {"tcp": 6, "udp": 17, "icmp": 1}
 # The names of pf's reasons, by the outcomes of the laboratory.

@@ -5,8 +5,8 @@ from __future__ import annotations
 import random
 from typing import Iterator, List, NamedTuple, Sequence
 
-from ..laboratory import Laboratory
-from ..pair import Pair
+from ..link.laboratory import Laboratory
+from ..model.pair import Pair
 
 NAT = "pass out proto udp from 10.0.1.0/24 nat 203.0.113.1:4000:4999"
 RULES = ("block any", "pass out", "pass in proto tcp tport 80", NAT)

@@ -11,14 +11,14 @@ import threading
 import time
 from typing import IO, Dict, Iterator, List, NamedTuple, Optional, Sequence, Tuple
 
-from . import program
-from .children import bounded
 from ..language.commands import COMMANDS, EVENT
 from ..language.events import plain_event
 from ..language.lines import LONGEST_LINE, has_word, opens
+from ..link.programs import FOLLOW, SETUP_WORD, TOO_LONG, VIEW, Run
+from ..model.pair import read_shown
 from ..pages.server import free_port
-from ..pair import read_shown
-from ..programs import FOLLOW, SETUP_WORD, TOO_LONG, VIEW, Run
+from . import program
+from .children import bounded
 
 RULES = ["rule a pass any", "rule b pass any", "open"]
 # How long an entry takes, in seconds, and how many are to come where the server says that it is behind.

@@ -8,13 +8,12 @@ import ipaddress
 import os
 import struct
 import subprocess
-import unittest
 import xml.etree.ElementTree as ElementTree
 from itertools import groupby
 from typing import Dict, List, NamedTuple, Sequence, Tuple
 
 from ..language.lines import lines_of
-from ..programs import run_lines
+from ..link.programs import run_lines
 from . import TOP, program
 from .children import needs
 

@@ -11,9 +11,9 @@ import time
 import unittest
 from typing import Callable, Dict, List
 
-from ..colours import PLAIN
-from ..laboratory import Laboratory
-from ..shell import Shell
+from ..console.colours import PLAIN
+from ..dialogue.shell import Shell
+from ..link.laboratory import Laboratory
 from . import TOP, program
 
 QUERY = "packet a out udp 10.0.0.1:1000 192.0.2.9:53 40"
@@ -26,7 +26,7 @@ import os, subprocess, sys, time
 
 sys.path.insert(0, {top!r})
 from shell.language.lines import has_word
-from shell.programs import read_reply
+from shell.link.programs import read_reply
 
 PROGRAM, ANSWERS = {program!r}, {answers!r}
 if sys.argv[1:] != ["run"]:

@@ -4,7 +4,7 @@ from __future__ import annotations
 import unittest
 from typing import List
 
-from ..pair import read_shown
+from ..model.pair import read_shown
 from . import laboratory
 
 SETUP = """

@@ -6,8 +6,8 @@ import socket
 import time
 from unittest import mock
 
-from .bridges import PACKET, PROMPT, Answer, Bridged
 from ..pages import packing
+from .bridges import PACKET, PROMPT, Answer, Bridged
 
 LINE = json.dumps({"name": "Ann", "line": PACKET})
 

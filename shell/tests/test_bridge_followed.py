@@ -7,15 +7,15 @@ import time
 import unittest
 from typing import List
 
-from . import program
-from .bridges import PACKET, PROMPT, Bridged
-from .servers import RULES, TOO_LONG_BY_ONE, Server, proved_server, standin_server
-from ..laboratory import Unknown
-from ..mirror import Shared, joined as joined_to
+from ..link.laboratory import Unknown
+from ..link.mirror import Shared, joined as joined_to
+from ..model.setups import Setup
 from ..pages.door import Door
 from ..pages.live import joined, serve
 from ..pages.session import FollowedBranches
-from ..setups import Setup
+from . import program
+from .bridges import PACKET, PROMPT, Bridged
+from .servers import RULES, TOO_LONG_BY_ONE, Server, proved_server, standin_server
 
 IMPORTED = ["# pf.conf:11 @8 pass in proto tcp to port 443", *RULES]
 

@@ -5,12 +5,12 @@ import unittest
 from typing import Dict, List
 from unittest import mock
 
-from . import laboratory
 from ..language.commands import WHY
+from ..link.programs import Stream
 from ..pages.door import Door
 from ..pages.offers import Offer, offers
 from ..pages.typed import MOST_PLACES
-from ..programs import Stream
+from . import laboratory
 from .bridges import PACKET, Answer, Bridged
 
 SETUP = """

@@ -16,17 +16,17 @@ import urllib.request
 from typing import ContextManager, Iterator
 from unittest import mock
 
-from . import TOP, program
-from .bridges import PACKET, PROMPT, Bridged, Data
-from .children import SECONDS, bounded, take_signals
-from .servers import proved_server, standin_server
-from ..laboratory import Unknown
+from ..link.laboratory import Unknown
+from ..link.programs import Run as ProgramRun
+from ..model.setups import Setup
 from ..pages.door import Door
 from ..pages.live import OPENING, begun, joined, live, serve, watch
 from ..pages.runs import Run
 from ..pages.session import PolledBranches
-from ..programs import Run as ProgramRun
-from ..setups import Setup
+from . import TOP, program
+from .bridges import PACKET, PROMPT, Bridged, Data
+from .children import SECONDS, bounded, take_signals
+from .servers import proved_server, standin_server
 
 RULES = ["rule a pass any", "rule b pass any"]
 

@@ -15,7 +15,7 @@ from unittest import mock
 
 from ..captures.findings import Kind
 from ..main import main
-from ..scripts import REPLY
+from ..scripts.verifying import REPLY
 from . import TOP, program
 from .captured_night import EXAMPLES, INTERFACE, NAME, files
 

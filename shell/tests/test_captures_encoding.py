@@ -7,7 +7,7 @@ from ipaddress import IPv4Address
 from ..captures import layout
 from ..captures.encoding import creator_of_bulk_status, message
 from ..captures.writing import LINK_ETHERNET, LINK_PFSYNC, Written, on_ethernet, pcap
-from ..frames import Record
+from ..model.frames import Record
 
 NO_RULES = "d41d8cd98f00b204e9800998ecf8427e"
 # 2.1, the first state of node b: its id, and its creator.

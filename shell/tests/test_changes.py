@@ -3,10 +3,10 @@ from __future__ import annotations
 
 import unittest
 
+from ..console.colours import PLAIN
+from ..link.laboratory import Unknown
+from ..shows.changes import changes
 from . import laboratory
-from ..changes import changes
-from ..colours import PLAIN
-from ..laboratory import Unknown
 
 SCRIPT = """
     rule a pass out

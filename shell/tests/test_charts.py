@@ -5,7 +5,7 @@ import unittest
 from typing import List, Tuple
 
 from ..charts.chart import drawn as drawn_of
-from ..charts.frames import KEPT, record_words
+from ..charts.contents import KEPT, record_words
 from ..charts.marks import duration, end_words
 from ..charts.rows import Chart
 from ..charts.windows import WHOLE

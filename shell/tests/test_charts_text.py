@@ -6,7 +6,7 @@ import unittest
 
 from ..charts.text import text
 from ..charts.windows import WHOLE, Window
-from ..colours import PLAIN, Paint
+from ..console.colours import PLAIN, Paint
 from .drawings import CROSSING, LONG, LOST_INSERTION, QUERY, RULES, drawn, steps
 
 # At 80 columns the link has 26, and each side 19: `192.0.2.9:53 pass 1.1` is too long for a line.

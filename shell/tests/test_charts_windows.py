@@ -7,9 +7,9 @@ from typing import Dict, List, Optional, Tuple
 from ..charts.rows import Chart
 from ..charts.text import text
 from ..charts.windows import Asked, Window, read_asked
-from ..colours import PLAIN
-from ..laboratory import Unknown
+from ..console.colours import PLAIN
 from ..language.names import Name
+from ..link.laboratory import Unknown
 from .drawings import ANSWER, CROSSING, LOST_INSERTION, QUERY, RULES, drawn, steps
 
 # What main has after this are 11 events, the last two of which are undone.

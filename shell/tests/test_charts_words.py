@@ -10,9 +10,9 @@ import unittest
 from typing import List
 from xml.etree import ElementTree
 
-from ..colours import PLAIN
-from ..laboratory import Laboratory
-from ..shell import Shell
+from ..console.colours import PLAIN
+from ..dialogue.shell import Shell
+from ..link.laboratory import Laboratory
 from . import TOP, program
 from .drawings import CROSSING
 

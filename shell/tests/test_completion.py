@@ -6,10 +6,10 @@ import os
 import tempfile
 import unittest
 
-from ..branches import Mark
-from ..colours import PLAIN
-from ..completion import candidates
-from ..dialogue import Loop
+from ..console.colours import PLAIN
+from ..dialogue.completion import candidates
+from ..dialogue.loop import Loop
+from ..model.branches import Mark
 from . import laboratory
 
 SCRIPT = """

@@ -8,15 +8,15 @@ import unittest
 from contextlib import closing
 from typing import List, Sequence, Tuple
 
-from ..colours import PLAIN
+from ..console.colours import PLAIN
 from ..depends.answers import Answer, of_branch, of_script
 from ..depends.choices import by_rules, tried
 from ..depends.comparing import compared
-from ..depends.scripts import Script
-from ..kernels import EVERY, PROFILE, Kernel
+from ..depends.replayed import Script
 from ..language.lines import lines_of
-from ..language.setups import EXPIRY, LOOSE, MERGE, RESET, SCALE, SWITCHES, WINDOW
-from ..scripts import read
+from ..language.setups import LOOSE, MERGE, SCALE, SWITCHES, WINDOW
+from ..model.kernels import EVERY, PROFILE, Kernel
+from ..scripts.texts import read
 from . import TOP, laboratory, program
 from .dependings import MARK, said_by
 from .standins import Dialogue

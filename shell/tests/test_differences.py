@@ -6,11 +6,11 @@ import unittest
 from dataclasses import replace
 from typing import Callable, List
 
-from ..differences import differences
 from ..language.names import Name
 from ..language.packets import Key
-from ..pair import Cleared, Held, Pair, Queued, read_shown
-from ..states import End
+from ..model.pair import Cleared, Held, Pair, Queued, read_shown
+from ..model.states import End
+from ..shows.differences import differences
 from .test_frames import NAME, UDP, frame, framed
 
 SHOWN = [

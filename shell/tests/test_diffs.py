@@ -4,10 +4,10 @@ from __future__ import annotations
 import unittest
 from typing import List, Optional
 
-from ..colours import PLAIN
-from ..diffs import between_branches, between_nodes
-from ..pair import Pair, read_shown
-from ..setups import Setup
+from ..console.colours import PLAIN
+from ..model.pair import Pair, read_shown
+from ..model.setups import Setup
+from ..shows.diffs import between_branches, between_nodes
 from . import laboratory
 
 UDP = "udp out 192.0.2.9:53 10.0.0.1:1000 192.0.2.9:53 10.0.0.1:1000"

@@ -4,7 +4,7 @@ from __future__ import annotations
 import sys
 import unittest
 
-from ..helps import Help
+from ..language.helps import Help
 from . import TOP
 
 sys.path.insert(0, f"{TOP}/docs")

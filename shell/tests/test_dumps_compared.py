@@ -8,7 +8,7 @@ import unittest
 from glob import glob
 from typing import List
 
-from ..scripts import read
+from ..scripts.texts import read
 from . import TOP
 from .dump_cases import ALL, ECHO, NAT, QUERY, SIX, WEB, DumpCase, Said
 

@@ -10,14 +10,14 @@ from contextlib import redirect_stderr, redirect_stdout
 from typing import List, Tuple
 
 from ..arguments import needs_program
-from ..colours import PLAIN
-from ..laboratory import Laboratory
+from ..console.colours import PLAIN
+from ..dialogue.shell import Shell
 from ..language.lines import lines_of
+from ..link.laboratory import Laboratory
+from ..link.programs import run_lines
 from ..main import main
-from ..pair import Pair, read_shown
-from ..programs import run_lines
-from ..scripts import read, title_of
-from ..shell import Shell
+from ..model.pair import Pair, read_shown
+from ..scripts.texts import read, title_of
 from . import TOP, program
 from .dump_cases import ECHO, NAT, QUERY, SIX, TUNNEL, WEB, DumpCase, Said
 from .dump_scripts import printed_in, printed_of, random_dumps

@@ -14,7 +14,7 @@ from unittest import mock
 from installing.archive import archive
 from installing.files import START
 
-from ..dumps.captures import BLOCK, MOST_REPORTED
+from ..dumps.files import BLOCK, MOST_REPORTED
 from . import TOP
 from .dump_cases import ALL, ECHO, NAT, QUERY, SIX, TUNNEL, WEB, DumpCase
 

@@ -4,13 +4,13 @@ from __future__ import annotations
 import unittest
 from typing import List, Optional
 
-from ..explanations import Against, Edge, Expiry, Judged, Loose, NotExplained, OfState, Purge, Reason, TakenRecord, read_explanation
-from ..branches import Happened
 from ..language.events import read_packet
 from ..language.names import Name
 from ..language.records import CLEAR, INSERT, UPDATE
-from ..rulings import deciding
-from ..setups import Adaptive, Rule
+from ..model.branches import Happened
+from ..model.explanations import Against, Edge, Expiry, Judged, Loose, NotExplained, OfState, Purge, Reason, TakenRecord, read_explanation
+from ..model.rulings import deciding
+from ..model.setups import Adaptive, Rule
 
 HEAD = ["why main 3", "event 3 step main deliver 1", "outcome taken 2"]
 

@@ -5,16 +5,16 @@ import random
 import unittest
 from typing import List, Optional
 
-from . import program
-from .. import helps
+from ..language import helps
 from ..language.commands import SETUP as SETUP_WORDS, STEP, TYPED, WHY
 from ..language.events import EVENTS
 from ..language.lines import check_line, wanted_form
 from ..language.readers import LineFault
 from ..language.searches import SEARCH
 from ..language.setups import LIMITS
-from ..reasons.faults import explain_fault
-from ..programs import check_setup, run_lines
+from ..link.programs import check_setup, run_lines
+from ..reasons.faulty import explain_fault
+from . import program
 
 PACKET = "step main packet a in udp 1.2.3.4:1 2.3.4.5:2 3"
 TCP = "step main packet a in tcp 1.2.3.4:1 2.3.4.5:2 S 1 2 3 4"

@@ -8,11 +8,11 @@ import unittest
 from typing import List
 from unittest import mock
 
-from .. import helps
-from ..colours import PLAIN, Paint
-from ..fitting import fitted, length_of
-from ..reasons.faults import explain_fault
-from ..shell import Shell
+from ..console.colours import PLAIN, Paint
+from ..console.fitting import fitted, length_of
+from ..dialogue.shell import Shell
+from ..language import helps
+from ..reasons.faulty import explain_fault
 from . import TOP, laboratory, program
 from .terminals import Terminal
 

@@ -6,10 +6,10 @@ from typing import List
 
 from oracle.frames import contents
 
-from ..branches import Happened
-from ..flights import read_flight
-from ..frames import Frame, Record
-from ..records import record_line
+from ..model.branches import Happened
+from ..model.flights import read_flight
+from ..model.frames import Frame, Record
+from ..shows.records import record_line
 
 NO_RULES = "d41d8cd98f00b204e9800998ecf8427e"
 NAME = "0000000000000001 00000001"

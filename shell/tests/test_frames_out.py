@@ -18,8 +18,9 @@ from typing import Dict, List, Sequence, Tuple
 from ..captures import layout
 from ..main import main
 from . import TOP, program
-from .sharks import BEFORE_MESSAGE, DISSECTOR, HEAD, PACKET_HEAD, Packet, Told
-from .sharks import dissected, needs_tcpdump, needs_tshark, packets, script_lines, shark, told
+from .sharks import (
+    BEFORE_MESSAGE, DISSECTOR, HEAD, PACKET_HEAD, Packet, Told, dissected, needs_tcpdump, needs_tshark, packets, script_lines, shark, told,
+)
 
 LESSONS = sorted(glob(f"{TOP}/examples/*.pfl"))
 ADDRESSES = {"a": "192.168.254.254", "b": "192.168.254.253"}

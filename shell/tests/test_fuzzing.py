@@ -25,7 +25,7 @@ from oracle.subject import Differs, Subject
 from oracle.searches import Search, compare_search, is_allowed, line_of, pair_of
 from oracle.tallies import Seen
 from shell.language.searches import OF_PACKET
-from shell.setups import Setup
+from shell.model.setups import Setup
 
 from . import TOP, program
 

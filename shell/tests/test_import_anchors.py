@@ -6,7 +6,7 @@ import random
 import unittest
 from typing import List, NamedTuple, Optional, Sequence, Tuple, Union
 
-from ..importing.comments import is_of_import, origin
+from ..language.comments import is_of_import, origin
 from .imports import Imported, taken_in
 from .test_import_meaning import Ends
 from .test_import_translated_meaning import BLOCK_ALL, HOSTS, Filters, Flow, Line, of_laboratory, random_ends, random_filter, random_flow

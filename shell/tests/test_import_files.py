@@ -6,13 +6,13 @@ import tempfile
 import unittest
 from typing import Dict, List, Tuple
 
-from ..colours import PLAIN
-from ..laboratory import Laboratory
+from ..console.colours import PLAIN
 from ..language.lines import has_word
+from ..link.laboratory import Laboratory
+from ..link.programs import check_setup
 from ..main import setup_from
-from ..programs import check_setup
-from ..stories import story_of
-from ..views import view
+from ..scripts.stories import story_of
+from ..shows.views import view
 from . import laboratory, program, reasons
 from .imports import CONFS, Imported, imported, taken_in
 

@@ -9,8 +9,8 @@ from glob import glob
 from os.path import basename
 from typing import Dict, List, Tuple
 
-from ..explanations import Judged
-from ..laboratory import Laboratory
+from ..link.laboratory import Laboratory
+from ..model.explanations import Judged
 from . import laboratory
 from .flows import Flow, Flows
 from .imports import CONFS, Imported, imported

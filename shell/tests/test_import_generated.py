@@ -13,7 +13,7 @@ from glob import glob
 from typing import Dict, Iterator
 
 from ..language.lines import has_word
-from ..programs import check_setup
+from ..link.programs import check_setup
 from . import TOP, program
 from .imports import Imported, imported
 from .originals import NotHad, Original

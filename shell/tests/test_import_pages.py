@@ -3,7 +3,7 @@ from __future__ import annotations
 
 import unittest
 
-from ..scripts import read
+from ..scripts.texts import read
 from . import TOP, reasons
 from .imports import taken_in
 

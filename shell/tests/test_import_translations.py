@@ -6,7 +6,7 @@ import unittest
 from ipaddress import IPv4Network
 from typing import List
 
-from ..importing.comments import is_of_import, origin
+from ..language.comments import is_of_import, origin
 from .imports import taken_in
 
 # pf draws one of the ports of a `nat` at random, so none with several ports is exact.

@@ -6,9 +6,9 @@ import glob
 import os
 from typing import Dict, Iterator, List, Tuple
 
-from ..laboratory import Laboratory
 from ..language.lines import lines_of
-from ..scripts import read
+from ..link.laboratory import Laboratory
+from ..scripts.texts import read
 from . import TOP
 from .inferred import Inferred, Nights, differing_frames, differing_tables, frames_of
 

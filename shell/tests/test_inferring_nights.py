@@ -8,7 +8,7 @@ from collections import Counter
 from typing import NamedTuple, Tuple
 
 from ..inferring.playing import event_of
-from ..laboratory import Laboratory
+from ..link.laboratory import Laboratory
 from . import program
 from .inferred import Inferred, Nights, differing_frames, differing_tables, frames_of
 from .nights import packets_of

@@ -9,8 +9,8 @@ from unittest.mock import patch
 
 from ..captures.runs import CLOCKS_BEGAN
 from ..inferring import command
-from ..laboratory import Laboratory
 from ..language.packets import PacketEvent
+from ..link.laboratory import Laboratory
 from . import TOP, program
 from .inferred import Inferred, Nights, differing_frames, differing_tables
 from .nights import Captured, ip, logged, on_ethernet, pcap

@@ -6,10 +6,10 @@ import unittest
 from typing import Dict, List, Tuple
 from unittest.mock import patch
 
-from .. import scripts
-from ..colours import PLAIN
-from ..depends import marks
-from ..reasons.why import why_event
+from ..console.colours import PLAIN
+from ..depends import otherwise
+from ..depends.why import why_event
+from ..scripts import texts
 from . import TOP, laboratory, reasons
 from .test_reasons import FAR_FIN, FIN, OPEN, SYN, SYN_ACK
 
@@ -107,7 +107,7 @@ class Others(unittest.TestCase):
 
     def test_an_update_made_the_difference(self) -> None:
         """As in the lesson of a late update: `why` of the drop names the word by which it is none."""
-        lab = laboratory(scripts.read(f"{TOP}/examples/late-update.pfl"))
+        lab = laboratory(texts.read(f"{TOP}/examples/late-update.pfl"))
         self.addCleanup(lab.close)
         lines = why_event(lab, lab.branch("main"), 13, PLAIN)
         self.assertEqual(lines[-1].strip(), "by kernel merge it is `drop window` (docs/REAL.md)")
@@ -120,7 +120,7 @@ class Others(unittest.TestCase):
         self.assertEqual(others(lines + "step main tick a 1\n"), ["by the profile the run is a different one since event 7 (docs/REAL.md)"])
 
     def test_of_a_long_run_only_depends_asks(self) -> None:
-        with patch.object(marks, "MOST_EVENTS", 3):
+        with patch.object(otherwise, "MOST_EVENTS", 3):
             self.assertEqual(others(UNHEARD + PACKET + "R 4999 0 0 0"), ["by kernel loose it is `pass 1.1` (docs/REAL.md)"])
             self.assertEqual(others(KNOWN + PACKET + "A 5001 9001 100 0\n" + PACKET + "R 4999 0 0 0"), [])
 

@@ -10,13 +10,13 @@ import unittest
 from contextlib import closing
 from typing import List
 
-from .. import scripts
 from ..charts.picture import draw
-from ..colours import PLAIN
-from ..laboratory import Laboratory
+from ..console.colours import PLAIN
+from ..dialogue.shell import Shell
+from ..link.laboratory import Laboratory
 from ..main import drawn_from
 from ..pages.runs import run_of
-from ..shell import Shell
+from ..scripts import texts
 from . import program
 from .followers import ProvedFollowers
 from .imports import taken_in
@@ -215,7 +215,7 @@ class Files(Dialogue):
 
     def test_what_is_saved_has_the_lines(self) -> None:
         shell = self.shell("kernel loose", "kernel", "kernel reset loose", *RULES, *FAILOVER, DATA, "kernel", f"save {self.path}")
-        lines = scripts.read(self.path).splitlines()
+        lines = texts.read(self.path).splitlines()
         self.assertEqual(lines[:8], ["kernel loose", "kernel reset loose", *RULES, f"step main {SYN}"])
         self.assertEqual(lines[-2:], [f"step main {DATA}", "#> step pass 1.1 dropped 0"])
         self.assertEqual(self.said(self.shell(is_typed=False), f"verify {self.path}"), ["1 script: all replies as they say"])
@@ -224,13 +224,13 @@ class Files(Dialogue):
     def test_so_has_what_a_fault_writes(self) -> None:
         shell = self.shell("kernel loose", *RULES, *FAILOVER, DATA)
         self.said(shell, f"whatif --faults lose --out {self.path}")
-        self.assertEqual(scripts.read(self.path).splitlines()[0], "kernel loose")
+        self.assertEqual(texts.read(self.path).splitlines()[0], "kernel loose")
         self.assertEqual(self.said(self.shell(is_typed=False), f"verify {self.path}"), ["1 script: all replies as they say"])
 
     def test_replies_are_written_into_a_script(self) -> None:
-        scripts.write(self.path, "".join(f"{it}\n" for it in script_of("kernel loose", *FAILOVER, DATA)))
+        texts.write(self.path, "".join(f"{it}\n" for it in script_of("kernel loose", *FAILOVER, DATA)))
         self.said(self.shell(), f"annotate {self.path}")
-        self.assertEqual(scripts.read(self.path).splitlines()[-1], "#> step pass 1.1 dropped 0")
+        self.assertEqual(texts.read(self.path).splitlines()[-1], "#> step pass 1.1 dropped 0")
         self.assertEqual(self.said(self.shell(is_typed=False), f"verify {self.path}"), ["1 script: all replies as they say"])
 
 

@@ -5,13 +5,13 @@ import re
 import unittest
 from typing import List, Optional, Tuple
 
-from ..helps import about
-from ..kernels import PROFILE, Kernel
+from ..language.helps import about
 from ..language.lines import check_line, wanted_form
 from ..language.readers import LineFault
 from ..language.setups import EXPIRY, LOOSE, MERGE, RESET, SCALE, SWITCHES, WINDOW, Switch
-from ..reasons.faults import explain_fault
-from ..setups import Setup
+from ..model.kernels import PROFILE, Kernel
+from ..model.setups import Setup
+from ..reasons.faulty import explain_fault
 from . import TOP
 
 

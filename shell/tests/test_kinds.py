@@ -12,12 +12,12 @@ from io import StringIO
 from pathlib import Path
 from typing import Dict, Optional, Tuple
 
+from ..importing import parser
+from ..main import main
+from ..scripts.kinds import CAPTURE, DUMP, ENOUGH, PACKED, PF_CONF, SCRIPT, STATEMENTS, Kind, kind_of
 from . import TOP, program
 from .children import SECONDS
 from .dump_cases import ALL
-from ..importing import parser
-from ..kinds import CAPTURE, DUMP, ENOUGH, PACKED, PF_CONF, SCRIPT, STATEMENTS, Kind, kind_of
-from ..main import main
 
 EXAMPLES = Path(TOP, "examples")
 PF_CONFS = Path(TOP, "shell/tests/pf_confs")

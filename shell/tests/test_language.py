@@ -10,7 +10,6 @@ from fuzzing.timelines import Timeline
 
 from oracle.frames import _READERS, Bytes
 
-from ..frames import Record
 from ..language import faults
 from ..language.commands import COMMANDS, MOST_BRANCHES, SETUP, STEP
 from ..language.events import DELIVER, EVENTS, LAST_MILLISECOND, OF_FRAME, PACKET
@@ -19,7 +18,8 @@ from ..language.lines import LONGEST_LINE
 from ..language.records import BY_WORD, KINDS, QUEUES
 from ..language.searches import ANY, DEEPEST, MOST_CHOICES, MOST_PHASES, OF_PACKET, OF_PAIR, SCOPES, SEARCH, THEN
 from ..language.setups import CLASSES, LIMITS, MOST_RULES, RULE_FORM, STATES
-from ..programs import FOLLOW, SETUP_WORD, VIEW
+from ..link.programs import FOLLOW, SETUP_WORD, VIEW
+from ..model.frames import Record
 from ..reasons import commands, events, refusals
 from . import TOP
 

@@ -3,9 +3,9 @@ from __future__ import annotations
 
 import unittest
 
+from ..console.colours import PLAIN, Paint
+from ..shows.logs import log
 from . import laboratory
-from ..colours import PLAIN, Paint
-from ..logs import log
 
 SCRIPT = """
     rule a pass out

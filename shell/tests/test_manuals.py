@@ -8,11 +8,12 @@ from glob import glob
 from pathlib import Path
 from typing import List
 
-from .. import helps, scripts
+from ..console.endings import INTERRUPTED_STATUS, STRICT_STATUS
 from ..installed import NO_PROGRAM_STATUS
-from ..endings import INTERRUPTED_STATUS, STRICT_STATUS
+from ..language import helps
 from ..language.faults import LIMIT_FAULTS, LINE_FAULTS, RULE_FAULTS
 from ..language.setups import CLASSES, LIMITS
+from ..scripts import verifying
 from . import TOP, program
 from .children import needs
 from .dialogues import printed, typed
@@ -118,7 +119,7 @@ class Examples(unittest.TestCase):
     def test_the_script_is_answered_so(self) -> None:
         text = display("pfl_lab", "script")
         self.assertIn("#> ", text)
-        self.assertEqual(scripts.verify(program(), text), [])
+        self.assertEqual(verifying.verify(program(), text), [])
 
     def test_the_dialogue_is_so(self) -> None:
         text = display("pfl_shell", "dialogue")

@@ -7,12 +7,12 @@ import unittest
 from pathlib import Path
 from typing import List
 
-from .. import helps
-from ..colours import PLAIN
-from ..laboratory import Laboratory
+from ..console.colours import PLAIN
+from ..dialogue.shell import Shell
+from ..language import helps
 from ..language.commands import COMMANDS, WITHOUT_BRANCH
-from ..scripts import read
-from ..shell import Shell
+from ..link.laboratory import Laboratory
+from ..scripts.texts import read
 from . import TOP, program
 
 TICKS = ("open", "tick a 1", "tick a 2", "tick a 3")

@@ -6,15 +6,15 @@ import threading
 import unittest
 from typing import List
 
+from ..console.colours import PLAIN
+from ..dialogue.shell import Shell
+from ..language.commands import CHANGING
+from ..link.laboratory import Laboratory
+from ..link.programs import Client, Ended
+from ..model.setups import Setup
 from .children import SECONDS
 from .followers import QUERY, STEP, Followers, ProvedFollowers, shared
 from .servers import LONGEST, MANY, RULES, TOO_LONG_BY_ONE, standin_server
-from ..colours import PLAIN
-from ..laboratory import Laboratory
-from ..language.commands import CHANGING
-from ..programs import Client, Ended
-from ..setups import Setup
-from ..shell import Shell
 
 # Lines that look, some of them refused or faulty.
 LOOKS = ["show main", "show nobody", "past main 1", "past main 99", "log main", "names", "frame main 1", "frame main 77", "why main 1"]

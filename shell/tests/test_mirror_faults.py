@@ -8,12 +8,12 @@ from contextlib import closing, redirect_stderr
 from typing import List, Tuple
 from unittest import mock
 
+from ..link.laboratory import Laboratory
+from ..link.mirror import Shared
+from ..link.programs import Client, Ended
 from . import program
 from .bridges import PROMPT
 from .followers import QUERY, STEP, Followers, Scripted, shared
-from ..laboratory import Laboratory
-from ..mirror import Shared
-from ..programs import Client, Ended
 
 
 class Broken(Followers):
@@ -84,7 +84,7 @@ class Broken(Followers):
         lab = self.laboratory(its.port)
         assert isinstance(lab.session, Client)
         lab.session.wait()
-        with mock.patch("shell.mirror.PATIENCE", 0.2):
+        with mock.patch("shell.link.mirror.PATIENCE", 0.2):
             lab.join()
             shared(lab).say = self.complaints.append
             self.assertEqual(lab.names(), ["main"])

@@ -8,15 +8,15 @@ import unittest
 from typing import List
 from unittest import mock
 
+from ..console.colours import PLAIN
+from ..dialogue.notes import MOST, PATIENCE, PAUSE, Notes, all_of, in_short
+from ..dialogue.shell import Shell
+from ..dialogue.terminal import above
+from ..link.laboratory import Laboratory
+from ..link.mirror import Entry
 from . import TOP, program
 from .followers import QUERY, STEP, Followers, ProvedFollowers, shared
 from .terminals import Terminal
-from ..colours import PLAIN
-from ..laboratory import Laboratory
-from ..mirror import Entry
-from ..notes import MOST, PATIENCE, PAUSE, Notes, all_of, in_short
-from ..shell import Shell
-from ..terminal import above
 
 NOTE = "[session 2] step main flush a -> sent 1 148"
 

@@ -6,18 +6,18 @@ import unittest
 from glob import glob
 from typing import Dict, List, cast
 
-from ..branches import Branch
-from ..colours import PLAIN
-from ..diffs import between_nodes
+from ..console.colours import PLAIN
 from ..language.lines import lines_of
-from ..proofreading import faulty
+from ..model.branches import Branch
+from ..model.pair import Pair
+from ..model.setups import Setup
 from ..pages import record as records
 from ..pages.facts import Facts, Looker
 from ..pages.record import Record
 from ..pages.runs import run_of
-from ..pair import Pair
-from ..scripts import read
-from ..setups import Setup
+from ..scripts.proofreading import faulty
+from ..scripts.texts import read
+from ..shows.diffs import between_nodes
 from . import TOP, program
 
 RULES = ["rule a pass out", "rule b pass out"]

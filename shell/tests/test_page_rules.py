@@ -6,8 +6,8 @@ from contextlib import closing
 from typing import List
 
 from ..charts.text import text as chart_text
-from ..colours import PLAIN
-from ..depends import marks
+from ..console.colours import PLAIN
+from ..depends import otherwise
 from ..main import drawn_from
 from ..pages.runs import run_of
 from . import program
@@ -42,13 +42,13 @@ class Data(unittest.TestCase):
         ])
 
     def test_only_the_first_events_of_a_long_branch_are_asked_about(self) -> None:
-        most = marks.MOST_EVENTS
-        marks.MOST_EVENTS = 4
+        most = otherwise.MOST_EVENTS
+        otherwise.MOST_EVENTS = 4
         try:
             self.assertEqual(rules(NIGHT)[-1], [])
             self.assertEqual(rules([*SESSION, BLIND])[-1], ["by kernel window: pass 1.1", "by kernel all: drop window"])
         finally:
-            marks.MOST_EVENTS = most
+            otherwise.MOST_EVENTS = most
 
 
 class Pages(PageCase):

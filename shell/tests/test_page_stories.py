@@ -5,10 +5,10 @@ import random
 import unittest
 from typing import Dict, List
 
-from ..laboratory import Laboratory
 from ..language.lines import lines_of
+from ..link.laboratory import Laboratory
 from ..pages.runs import MOST_FORMER, Run, run_of
-from ..stories import Story, story_of
+from ..scripts.stories import Story, story_of
 from . import program
 
 SETUP = "rule a pass out\nrule b pass out\nopen\n"

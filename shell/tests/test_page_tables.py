@@ -6,18 +6,18 @@ import unittest
 from functools import lru_cache
 from typing import Any, Dict, List, Sequence
 
-from ..colours import PLAIN
-from ..diffs import between_nodes
-from ..laboratory import Laboratory
+from ..console.colours import PLAIN
 from ..language.lines import has_word, lines_of
 from ..language.names import COUNTERS, NODES
 from ..language.records import QUEUES
+from ..link.laboratory import Laboratory
+from ..model.pair import Node, Pair, other
+from ..model.setups import Setup
+from ..model.states import State
 from ..pages.packing import page
 from ..pages.runs import run_of
-from ..pair import Node, Pair, other
-from ..setups import Setup
-from ..states import State
-from ..words import FLAGS, expires_at, flow, levels, rule_number
+from ..shows.diffs import between_nodes
+from ..shows.words import FLAGS, expires_at, flow, levels, rule_number
 from . import program
 from .page_cases import QUERY, RULES, RUN, PageCase, desk_folder, example, setUpModule
 

@@ -8,12 +8,12 @@ import unittest
 from contextlib import closing
 from glob import glob
 
-from .. import scripts
 from ..charts.picture import draw
-from ..main import drawn_from
 from ..language.lines import lines_of
+from ..main import drawn_from
 from ..pages.packing import page as page_of
 from ..pages.runs import run_of
+from ..scripts import texts
 from . import TOP, program
 from .dialogues import dialogues, printed, typed
 
@@ -35,15 +35,15 @@ class Pages(unittest.TestCase):
         pictures = glob(f"{TOP}/examples/*.svg")
         self.assertTrue(pictures)
         for it in pictures:
-            script = lines_of(scripts.read(it.replace(".svg", ".pfl")))
-            self.assertEqual(scripts.read(it), draw(drawn_from(program(), script, "main"), scripts.title_of(script)), it)
+            script = lines_of(texts.read(it.replace(".svg", ".pfl")))
+            self.assertEqual(texts.read(it), draw(drawn_from(program(), script, "main"), texts.title_of(script)), it)
 
     def test_pages_of_the_lessons_are_those_of_the_scripts(self) -> None:
         pages = glob(f"{TOP}/examples/*.html")
         self.assertEqual(len(pages), 4)
         for it in pages:
             path = it.replace(".html", ".pfl")
-            with closing(run_of(program(), lines_of(scripts.read(path)), os.path.basename(path))) as run:
+            with closing(run_of(program(), lines_of(texts.read(path)), os.path.basename(path))) as run:
                 is_same = read(it) == page_of(run.as_data())
             self.assertTrue(is_same, f"{it}: ./lab page writes it otherwise")
 

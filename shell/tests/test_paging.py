@@ -9,7 +9,7 @@ import unittest
 from typing import List
 from unittest import mock
 
-from ..paging import paged, pager_for
+from ..console.paging import paged, pager_for
 from . import TOP, program
 from .terminals import Terminal
 from .test_fitting import ToTerminal

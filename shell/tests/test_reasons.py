@@ -5,11 +5,11 @@ import unittest
 from typing import Dict, List, Tuple
 from unittest import mock
 
-from . import laboratory, reasons
-from ..colours import PLAIN
-from ..laboratory import Unknown
+from ..console.colours import PLAIN
+from ..depends.why import why_event, why_last
 from ..language.events import read_packet
-from ..reasons.why import why_event, why_last
+from ..link.laboratory import Unknown
+from . import laboratory, reasons
 
 WALLS = "rule a block any\nrule a pass out\nrule b block any\nrule b pass out\nopen\n"
 OPEN = "rule a pass any flags any\nrule b pass any flags any\nopen\n"

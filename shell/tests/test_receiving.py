@@ -5,15 +5,15 @@ from __future__ import annotations
 import unittest
 from typing import List, Optional, Sequence, Tuple
 
-from ..checksums import rules_checksum
-from ..explanations import TakenRecord
-from ..frames import HEADER, Frame, Record
 from ..language.names import Name
 from ..language.records import BY_WORD
-from ..pair import Node, read_shown
-from ..receiving import Came, received
-from ..setups import Setup
-from ..words import expires_at
+from ..model.checksums import rules_checksum
+from ..model.explanations import TakenRecord
+from ..model.frames import HEADER, Frame, Record
+from ..model.pair import Node, read_shown
+from ..model.receiving import Came, received
+from ..model.setups import Setup
+from ..shows.words import expires_at
 
 KEYS = "192.0.2.9:53 10.0.0.{0}:1000 192.0.2.9:53 10.0.0.{0}:1000"
 SINGLE = "1 - 0 0 0 0 - 0 0 0"

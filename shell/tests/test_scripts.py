@@ -8,7 +8,7 @@ import unittest
 from glob import glob
 from typing import List
 
-from .. import annotating, scripts
+from ..scripts import annotating, texts, verifying
 from . import TOP, program
 
 RIGHT = """# A story.
@@ -24,7 +24,7 @@ names
 
 class Verify(unittest.TestCase):
     def told(self, text: str) -> str:
-        return "\n".join(str(it) for it in scripts.verify(program(), text))
+        return "\n".join(str(it) for it in verifying.verify(program(), text))
 
     def test_a_right_script_says_nothing(self) -> None:
         self.assertEqual(self.told(RIGHT), "")
@@ -48,7 +48,7 @@ class Verify(unittest.TestCase):
 
     def test_each_command_is_compared_by_itself(self) -> None:
         text = RIGHT.replace("1.1", "1.7").replace("names main", "names all")
-        self.assertEqual([it.line for it in scripts.verify(program(), text)], [6, 8])
+        self.assertEqual([it.line for it in verifying.verify(program(), text)], [6, 8])
 
     def test_faults_and_the_status_are_compared(self) -> None:
         self.assertEqual(self.told("rule a pss\nopen\n#! pfl_lab: setup line 1: line 5\n#= 1\n"), "")
@@ -64,7 +64,7 @@ class Verify(unittest.TestCase):
         self.assertEqual([line.split(":")[0] for line in said.splitlines()[::3]], ["9", "10"])
 
     def test_a_script_that_is_not_there_hides_no_other(self) -> None:
-        found = scripts.verified(program(), [f"{TOP}/examples/one-packet.pfl", "nowhere.pfl"])
+        found = verifying.verified(program(), [f"{TOP}/examples/one-packet.pfl", "nowhere.pfl"])
         self.assertEqual(found.lines, ["nowhere.pfl: No such file or directory", "2 scripts: 1 could not be read"])
 
     def test_lines_of_check_are_compared(self) -> None:
@@ -74,15 +74,15 @@ class Verify(unittest.TestCase):
 
     def test_the_examples_reply_as_they_say(self) -> None:
         paths = sorted(glob(f"{TOP}/examples/*.pfl"))
-        found = scripts.verified(program(), paths)
+        found = verifying.verified(program(), paths)
         self.assertEqual(found.lines, [f"{len(paths)} scripts: all replies as they say"])
 
 
     def test_the_time_is_told_to_who_waits(self) -> None:
-        found = scripts.Verified(["one", "1 script: 1 differs"], 1, 1.264)
+        found = verifying.Verified(["one", "1 script: 1 differs"], 1, 1.264)
         self.assertEqual(found.shown(True), ["one", "1 script: 1 differs, in 1.26 s"])
         self.assertEqual(found.shown(False), found.lines)
-        self.assertGreater(scripts.verified(program(), [f"{TOP}/examples/one-packet.pfl"]).seconds, 0)
+        self.assertGreater(verifying.verified(program(), [f"{TOP}/examples/one-packet.pfl"]).seconds, 0)
 
 
 class Annotate(unittest.TestCase):
@@ -101,26 +101,26 @@ class Annotate(unittest.TestCase):
         self.assertEqual(annotating.annotated(program(), "rule a\n").text, "rule a\n#! pfl_lab: setup line 1: line 4\n#= 1\n")
 
     def test_a_run_that_fails_costs_no_replies(self) -> None:
-        with self.assertRaisesRegex(scripts.NotWritten, "^line 2: `rul` is no line of a setup .*: the replies that the script has are kept$"):
+        with self.assertRaisesRegex(annotating.NotWritten, "^line 2: `rul` is no line of a setup .*: the replies that the script has are kept$"):
             annotating.annotated(program(), RIGHT.replace("rule a", "rul a"))
-        with self.assertRaises(scripts.NotWritten):
+        with self.assertRaises(annotating.NotWritten):
             annotating.annotated("/bin/true", RIGHT)
 
     def test_a_dry_run_shows_what_would_change_and_writes_nothing(self) -> None:
         with tempfile.TemporaryDirectory() as folder:
             path, right = f"{folder}/case.pfl", f"{folder}/right.pfl"
             text = "open\nnames\n#> names other"
-            scripts.write(path, text)
-            scripts.write(right, RIGHT)
+            texts.write(path, text)
+            texts.write(right, RIGHT)
             lines = ["@@ -1,3 +1,3 @@", " open", " names", "-#> names other", "\\ No newline at end of file", "+#> names main"]
             said = self.said(path, right)
             self.assertEqual(said, [f"--- {path}", f"+++ {path}", *lines, f"{path}: replies would be written", f"{right}: as it was"])
-            self.assertEqual((scripts.read(path), sorted(os.listdir(folder))), (text, ["case.pfl", "right.pfl"]))
-            scripts.write(path, "open\nnames")
+            self.assertEqual((texts.read(path), sorted(os.listdir(folder))), (text, ["case.pfl", "right.pfl"]))
+            texts.write(path, "open\nnames")
             said = self.said(path)
             self.assertEqual(said[-4:-1], ["\\ No newline at end of file", "+names", "+#> names main"])
-            scripts.write(path, "rule a\nopen\nnames\n")
-            with self.assertRaisesRegex(scripts.NotWritten, "case.pfl: line 1: expected `pass` or `block`, found nothing: nothing is written"):
+            texts.write(path, "rule a\nopen\nnames\n")
+            with self.assertRaisesRegex(annotating.NotWritten, "case.pfl: line 1: expected `pass` or `block`, found nothing: nothing is written"):
                 self.said(path)
 
     def test_the_file_keeps_its_mode_and_nothing_else_is_left(self) -> None:
@@ -131,7 +131,7 @@ class Annotate(unittest.TestCase):
             os.chmod(path, 0o640)
             said = [line for _ in range(2) for it in annotating.annotate(program(), [path]) for line in it.lines]
             self.assertEqual(said, [f"{path}: replies written", f"{path}: as it was"])
-            self.assertEqual(scripts.read(path), "open\nnames\n#> names main\n")
+            self.assertEqual(texts.read(path), "open\nnames\n#> names main\n")
             self.assertEqual((stat.S_IMODE(os.stat(path).st_mode), os.listdir(folder)), (0o640, ["case.pfl"]))
 
 

@@ -5,13 +5,13 @@ import io
 import tempfile
 import unittest
 
-from .. import scripts
-from ..colours import PLAIN
-from ..completion import candidates
-from ..laboratory import Laboratory, Unknown
-from ..programs import run_lines
+from ..console.colours import PLAIN
+from ..dialogue.completion import candidates
+from ..dialogue.shell import Shell
+from ..link.laboratory import Laboratory, Unknown
+from ..link.programs import run_lines
+from ..scripts import texts
 from ..searches.reading import is_for_people, read, wrong_goal
-from ..shell import Shell
 from . import TOP, laboratory, program
 from .standins import ANSWER, NONE, QUERY, SETUP, Dialogue, standin
 from .test_fuzzing import program_with
@@ -372,7 +372,7 @@ class Kept(Dialogue):
         with tempfile.TemporaryDirectory() as folder:
             path = f"{folder}/kept.pfl"
             self.assertEqual(self.said(shell, f"save {path}"), [f"written: {path}"])
-            text = scripts.read(path)
+            text = texts.read(path)
             lines = text.splitlines()
             none = lines.index(f"search main 3 1000000 quiet dropped {ANSWER}; {DEFAULTS}")
             self.assertEqual(lines[none + 1], "#> none any 9 2")
@@ -381,7 +381,7 @@ class Kept(Dialogue):
             run = ["#> event 1 step main flush a", "#> event 2 step main lose 1", "#> end", "fork main 1 found"]
             self.assertEqual(lines[found + 2 : found + 6], run)
             self.assertEqual(self.said(shell, f"verify {path}"), ["1 script: all replies as they say"])
-            scripts.write(path, text.replace("none any 9 2", "none any 9 3"))
+            texts.write(path, text.replace("none any 9 2", "none any 9 3"))
             self.assertEqual(self.said(shell, f"verify {path}")[-1], "1 script: 1 differs")
 
     def test_a_script_that_was_read_is_saved_with_its_searches(self) -> None:
@@ -392,7 +392,7 @@ class Kept(Dialogue):
             self.said(shell, f"read {TOP}/examples/one-packet.pfl", "search apart, landed", f"save {path}")
             # (no event can happen, so the runs end at depth 1)
             wanted = "\nsearch main 1 1000000 landed apart; 8 any deliver; 8 flush a; 8 flush b\n#> none any 2 2\n"
-            self.assertIn(wanted, scripts.read(path))
+            self.assertIn(wanted, texts.read(path))
             self.assertEqual(self.said(shell, f"verify {path}"), ["1 script: all replies as they say"])
 
     def test_a_search_that_is_asked_by_the_program_s_line_is_kept_once(self) -> None:

@@ -14,21 +14,21 @@ import unittest
 from typing import Iterator, List, Optional, Tuple
 from unittest import mock
 
-from . import TOP, program
-from .bridges import PACKET, PROMPT, Bridged
-from .servers import RULES, proved_server, standin_server
-from ..colours import PLAIN
-from ..laboratory import Laboratory, Unknown
-from ..mirror import Shared
+from ..console.colours import PLAIN
+from ..dialogue.shell import Shell
+from ..link.laboratory import Laboratory, Unknown
+from ..link.mirror import Shared
+from ..link.programs import Ended
+from ..link.seats import Journal, introduced, seated
+from ..link.visits import Address, Page, cleaned, printable
+from ..model.setups import Setup
 from ..pages.door import Door
 from ..pages.journal import MOST_CLAIMS, MOST_TOLD, Names
 from ..pages.live import joined, live
 from ..pages.server import free_port
-from ..programs import Ended
-from ..seats import Journal, introduced, seated
-from ..setups import Setup
-from ..shell import Shell
-from ..visits import Address, Page, cleaned, printable
+from . import TOP, program
+from .bridges import PACKET, PROMPT, Bridged
+from .servers import RULES, proved_server, standin_server
 
 IMPORTED = ["# pf.conf:11 @8 pass in proto tcp to port 443", *RULES]
 QUERY = PACKET[len("step main ") :]

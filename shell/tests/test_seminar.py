@@ -9,11 +9,11 @@ import sys
 import unittest
 from typing import List
 
+from ..pages.server import free_port
 from . import TOP, program
 from .followers import QUERY, STEP
 from .servers import proved_server
 from .terminals import Terminal
-from ..pages.server import free_port
 
 MORE = {"PFL_LAB": program(), "PFL_LAB_HISTORY": "", "NO_COLOR": "1", "PYTHONDONTWRITEBYTECODE": "1"}
 # Whoever runs the tests may have these signals ignored, as a shell does for what it starts in the background.

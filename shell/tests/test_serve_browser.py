@@ -11,11 +11,11 @@ import time
 import unittest
 from typing import Iterator, List, Sequence
 
+from ..link.programs import VIEW, Client, commands_of
 from .browsers import Browser, driver_of_module
-from .followers import QUERY, STEP
+from .followers import STEP
 from .served import PROMPT, End, Served
 from .servers import RULES
-from ..programs import VIEW, Client, commands_of
 
 REPORT = "pfl_lab: a browser was turned away"
 LINE = "step main tick a 9"

@@ -8,13 +8,13 @@ import time
 import unittest
 from typing import Collection, Dict, List, Sequence
 
+from ..link.programs import FULL, VIEW, Client, commands_of
 from . import program
 from .children import SECONDS
 from .followers import STEP
 from .served import End, Served
 from .servers import Server
 from .test_silent_clients import Silent
-from ..programs import FULL, VIEW, Client, commands_of
 
 OUT = ["rule a pass out", "rule b pass out", "open"]
 SECOND = "step main packet a out udp 10.0.0.2:1000 192.0.2.9:53 40"

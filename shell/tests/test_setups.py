@@ -5,7 +5,7 @@ import unittest
 from typing import List, Tuple
 
 from ..language.events import read_packet
-from ..setups import Adaptive, Pool, Ports, Rule, Setup
+from ..model.setups import Adaptive, Pool, Ports, Rule, Setup
 
 
 class Scaling(unittest.TestCase):

@@ -7,14 +7,14 @@ import unittest
 from typing import Iterable, List, Tuple
 from unittest import mock
 
+from ..console.colours import PLAIN
+from ..dialogue.shell import Shell
+from ..link.laboratory import Laboratory
+from ..link.programs import check_setup
+from ..model.setups import Setup
+from ..scripts.stories import story_of
 from . import program
 from .standins import Dialogue
-from ..colours import PLAIN
-from ..laboratory import Laboratory
-from ..programs import check_setup
-from ..setups import Setup
-from ..shell import Shell
-from ..stories import story_of
 
 RULES = [f"rule {node} pass {way}" for node in "ab" for way in ("in", "out")] * 20
 WHOLE = ["# Rules.", "kernel loose", "set states 20", *RULES, "", "set timeout udp.first 5", "open", "names"]
@@ -35,7 +35,7 @@ class Tried(Dialogue):
         lab = Laboratory(program())
         self.addCleanup(lab.close)
         shell = Shell(lab, io.StringIO(), PLAIN)
-        with mock.patch("shell.laboratory.check_setup", side_effect=check_setup) as runs:
+        with mock.patch("shell.link.laboratory.check_setup", side_effect=check_setup) as runs:
             shell.take(lines, echo=False)
         out = shell.out
         assert isinstance(out, io.StringIO)
@@ -66,7 +66,7 @@ class Tried(Dialogue):
     def test_a_story_needs_as_few(self) -> None:
         lab = Laboratory(program())
         self.addCleanup(lab.close)
-        with mock.patch("shell.laboratory.check_setup", side_effect=check_setup) as runs:
+        with mock.patch("shell.link.laboratory.check_setup", side_effect=check_setup) as runs:
             story_of(lab, WHOLE)
         self.assertEqual(runs.call_count, 2)
 

@@ -13,12 +13,12 @@ import unittest
 from typing import List
 from unittest import mock
 
-from ..colours import PLAIN
-from ..laboratory import Laboratory
+from ..console.colours import PLAIN
+from ..dialogue.shell import Shell, Stopped
 from ..language.setups import STATES
-from ..programs import Ended
-from ..setups import Setup
-from ..shell import Shell, Stopped
+from ..link.laboratory import Laboratory
+from ..link.programs import Ended
+from ..model.setups import Setup
 from . import TOP, program
 from .children import bounded, take_signals
 
@@ -132,7 +132,7 @@ class Lines(Dialogue):
     def test_a_fault_of_the_shell_costs_no_pair(self) -> None:
         shell = self.shell()
         self.said(shell, *SETUP, QUERY)
-        with mock.patch("shell.views.view", side_effect=KeyError("nothing")):
+        with mock.patch("shell.shows.views.view", side_effect=KeyError("nothing")):
             self.assertRegex(self.said(shell, "view")[0], "the shell failed here, but the pair is as it was: KeyError")
         self.assertEqual(self.said(shell, "names"), ["names main"])
 

@@ -8,8 +8,8 @@ import time
 import unittest
 from typing import Iterable, Iterator
 
+from ..link.programs import FOLLOW, VIEW, Client, commands_of
 from .followers import ProvedFollowers
-from ..programs import FOLLOW, VIEW, Client, commands_of
 
 COMMANDS = 50_000
 BATCH = 500

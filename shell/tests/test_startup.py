@@ -10,8 +10,8 @@ from . import TOP, program
 from .children import SECONDS
 from .trees import SmallTree
 
-# What the others use of a package: the comments that `import` writes.
-COMMON = ("shell.importing.comments",)
+# The packages that any word may import.
+COMMON = ("console", "language", "link", "model", "scripts", "shows")
 # Has the words carried out, and then shows the packages of the shell that were imported.
 SHOWING = f"COMMON = {COMMON}" + """
 import io, sys
@@ -19,13 +19,13 @@ from contextlib import redirect_stderr, redirect_stdout
 from shell.main import main
 with redirect_stdout(io.StringIO()), redirect_stderr(io.StringIO()):
     status = main(sys.argv[1:])
-names = {it.split(".")[1] for it in sys.modules if it.count(".") > 1 and it.startswith("shell.") and it not in COMMON}
-print(status, *sorted(names - {"language"}))
+names = {it.split(".")[1] for it in sys.modules if it.count(".") > 1 and it.startswith("shell.")}
+print(status, *sorted(names.difference(COMMON)))
 """
 
 
 class Needed(unittest.TestCase):
-    """The packages of shell/ that a word imports, besides that of the language."""
+    """The packages of shell/ that a word imports, besides those that any word may."""
 
     def packages(self, *words: str, given: str = "") -> Set[str]:
         command = (sys.executable, "-c", SHOWING, "--program", program(), *words)
@@ -44,7 +44,7 @@ class Needed(unittest.TestCase):
 
     def test_a_dialogue_imports_what_it_is_asked_for(self) -> None:
         tick = "rule a pass any\nopen\ntick a 1\n"
-        self.assertEqual(self.packages("shell", given=f"{tick}view\ndiff\n"), set())
+        self.assertEqual(self.packages("shell", given=f"{tick}view\ndiff\n"), {"dialogue"})
         self.assertIn("reasons", self.packages("shell", given=f"{tick}why 1\n"))
         self.assertIn("charts", self.packages("shell", given=f"{tick}chart\n"))
 
@@ -68,11 +68,11 @@ class Kept(SmallTree):
         return {it.name.partition(".")[0] for it in self.top.glob(f"cache/pfl_lab/python{self.top}/*/*.pyc")}
 
     def test_in_the_cache_folder_of_the_user(self) -> None:
-        self.assertLessEqual({"releases", "crates", "fitting"}, self.kept())
+        self.assertLessEqual({"releases", "crates", "main"}, self.kept())
 
     def test_a_module_that_changed_is_compiled_again(self) -> None:
         self.kept()
-        path = self.top / "shell/outputs.py"
+        path = self.top / "shell/console/outputs.py"
         path.write_text(f"{path.read_text()}print('anew')\n")
         ran = self.start("", "lab", "--help")
         self.assertTrue(ran.communicate(timeout=SECONDS)[0].startswith("anew\n"))

@@ -4,9 +4,10 @@ from __future__ import annotations
 import unittest
 from typing import Dict, List
 
-from ..laboratory import Laboratory
+from ..console.characters import legible
 from ..language.lines import lines_of
-from ..stories import Story, legible, story_of
+from ..link.laboratory import Laboratory
+from ..scripts.stories import Story, story_of
 from . import program
 
 TICK = "step main tick a 1"

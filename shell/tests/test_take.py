@@ -4,7 +4,7 @@ from __future__ import annotations
 import unittest
 from typing import Dict, List
 
-from ..shell import Shell
+from ..dialogue.shell import Shell
 from .standins import QUERY, Dialogue, standin
 
 FOUND: Dict[int, List[str]] = {0: ["none 0 1 1"], 1: ["found main events 1 runs 3", "event 1 step main flush a", "end"]}

@@ -12,13 +12,13 @@ import sys
 import urllib.request
 from typing import Callable, Dict, Iterator, List, NamedTuple, Tuple
 
+from ..language.commands import CHANGING
+from ..language.events import EVENTS
+from ..pages.server import free_port
 from . import TOP, program
 from .dialogues import PROMPT
 from .followers import Followers, ProvedFollowers
 from .terminals import Terminal
-from ..language.commands import CHANGING
-from ..language.events import EVENTS
-from ..pages.server import free_port
 
 PATH = f"{TOP}/docs/SHELL.md"
 # The block of the dialogue, and what is before and after its lines.

@@ -6,15 +6,15 @@ import unittest
 from dataclasses import replace
 from typing import List, Optional, Sequence, Tuple
 
-from ..explanations import Edge, Loose, OfState
-from ..frames import Changes
-from ..kernels import PROFILE, Kernel
 from ..language.events import read_packet
 from ..language.names import Name
 from ..language.packets import Key
-from ..merging import merged
-from ..states import End, State
-from ..tracking import judged, moved, started
+from ..model.explanations import Edge, Loose, OfState
+from ..model.frames import Changes
+from ..model.kernels import PROFILE, Kernel
+from ..model.merging import merged
+from ..model.states import End, State
+from ..model.tracking import judged, moved, started
 
 KEY = Key("192.0.2.9:80", "10.0.0.1:1000")
 SILENT = End(0, None, 0, 0, 0)

@@ -5,14 +5,14 @@ from __future__ import annotations
 import unittest
 from typing import List, Tuple
 
-from ..checksums import canonical_text, rules_checksum
-from ..colours import PLAIN, Paint
-from ..held import with_packets
+from ..console.colours import PLAIN, Paint
 from ..language.names import Name
-from ..pair import NotShown, Pair, read_shown
-from ..setups import Rule, Setup
-from ..views import view
-from ..words import UNKNOWN_SETUP, flow, levels, seconds, sequence
+from ..model.checksums import canonical_text, rules_checksum
+from ..model.held import with_packets
+from ..model.pair import NotShown, Pair, read_shown
+from ..model.setups import Rule, Setup
+from ..shows.views import view
+from ..shows.words import UNKNOWN_SETUP, flow, levels, seconds, sequence
 from . import laboratory
 
 SILENT = "0 - 0 0 0"

@@ -8,15 +8,15 @@ from dataclasses import replace
 from typing import List, Optional, Sequence, Tuple
 
 from ..inferring.ways import Wanted, Way, way_to
-from ..kernels import EVERY, PROFILE, Kernel
 from ..language.commands import OPEN
 from ..language.events import read_packet
 from ..language.names import Name
 from ..language.packets import CIRCLE, Key, PacketEvent
-from ..pair import read_shown
-from ..programs import run_lines
-from ..states import End, State
-from ..tracking import SILENT, judged, moved, started
+from ..link.programs import run_lines
+from ..model.kernels import EVERY, PROFILE, Kernel
+from ..model.pair import read_shown
+from ..model.states import End, State
+from ..model.tracking import SILENT, judged, moved, started
 from . import program
 
 KEY = Key("192.0.2.9:80", "10.0.0.1:1000")

@@ -5,8 +5,8 @@ import unittest
 from typing import List, Sequence
 from unittest.mock import patch
 
-from ..colours import PLAIN
-from ..laboratory import Laboratory, Unknown
+from ..console.colours import PLAIN
+from ..link.laboratory import Laboratory, Unknown
 from ..whatif import tries
 from ..whatif.answers import Answer, answer
 from ..whatif.asked import read

@@ -6,7 +6,7 @@ from typing import List, Sequence
 
 from oracle.whatifs import false_claims, faulty, laboratory, named, same_faults
 
-from ..setups import Setup
+from ..model.setups import Setup
 from . import program
 from .test_whatif import ARRIVES, FLOW, QUERY
 from .test_whatif_causes import DEFERRED

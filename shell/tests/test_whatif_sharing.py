@@ -4,8 +4,8 @@ from __future__ import annotations
 import unittest
 from typing import Dict, List, Set
 
-from ..colours import PLAIN
-from ..laboratory import Laboratory
+from ..console.colours import PLAIN
+from ..link.laboratory import Laboratory
 from ..whatif import report
 from ..whatif.asked import Asked
 from ..whatif.faults import faults_of

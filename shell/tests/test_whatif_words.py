@@ -17,12 +17,12 @@ from glob import glob
 from typing import Dict, List, Tuple
 from unittest.mock import Mock, patch
 
-from .. import scripts
-from ..colours import PLAIN
-from ..completion import candidates
-from ..laboratory import Laboratory
+from ..console.colours import PLAIN
+from ..dialogue.completion import candidates
+from ..dialogue.shell import Shell
+from ..link.laboratory import Laboratory
 from ..main import main
-from ..shell import Shell
+from ..scripts import texts, verifying
 from . import TOP, program
 from .children import take_signals
 from .standins import ANSWER, QUERY, SETUP, Dialogue
@@ -53,11 +53,11 @@ class Written(unittest.TestCase):
 
     def file(self, name: str, text: str) -> str:
         path = os.path.join(self.folder, name)
-        scripts.write(path, text)
+        texts.write(path, text)
         return path
 
     def read(self, name: str) -> List[str]:
-        return scripts.read(os.path.join(self.folder, name)).splitlines()
+        return texts.read(os.path.join(self.folder, name)).splitlines()
 
 
 class Command(Written):
@@ -114,7 +114,7 @@ class Out(Written):
     def written(self, *words: str) -> List[str]:
         status, lines, told = said_by(self.script, *words, "--out", f"{self.folder}/new.pfl")
         self.assertEqual((status, told), (0, ""))
-        self.assertEqual(scripts.verify(program(), scripts.read(f"{self.folder}/new.pfl")), [])
+        self.assertEqual(verifying.verify(program(), texts.read(f"{self.folder}/new.pfl")), [])
         self.assertRegex(lines[-1], rf"^written: {self.folder}/new.pfl, with the branch(es)? whatif-\d")
         return self.read("new.pfl")
 
@@ -242,9 +242,9 @@ class Word(Dialogue):
         with tempfile.TemporaryDirectory() as folder:
             said = self.said(shell, f"whatif --only 1 --out {folder}/found.pfl")
             self.assertEqual(said[-1], f"written: {folder}/found.pfl, with the branch whatif-1")
-            text = scripts.read(f"{folder}/found.pfl")
+            text = texts.read(f"{folder}/found.pfl")
         self.assertEqual(text.splitlines()[:7], [*SETUP, f"step main {QUERY}", "#> step pass 1.1 dropped 0"])
-        self.assertEqual(scripts.verify(program(), text), [])
+        self.assertEqual(verifying.verify(program(), text), [])
 
     def test_the_completing_key(self) -> None:
         shell = self.ready()
@@ -264,7 +264,7 @@ class Pages(unittest.TestCase):
     def test_what_they_print_is_so(self) -> None:
         found: Dict[str, str] = {}
         for path in ("README.md", "docs/SHELL.md"):
-            found.update(MARK.findall(scripts.read(f"{TOP}/{path}")))
+            found.update(MARK.findall(texts.read(f"{TOP}/{path}")))
         self.assertTrue(found)
         for words, text in found.items():
             script, *options = shlex.split(words)

@@ -4,10 +4,10 @@ from __future__ import annotations
 import time
 from typing import IO, Callable, List, NamedTuple, Optional
 
-from ..branches import Branch
-from ..colours import Paint
-from ..laboratory import Laboratory, Unknown
-from ..scripts import NotWritten
+from ..console.colours import Paint
+from ..link.laboratory import Laboratory, Unknown
+from ..model.branches import Branch
+from ..scripts.annotating import NotWritten
 from .asked import Asked
 from .otherwise import NOTHING, otherwise
 from .plays import Player

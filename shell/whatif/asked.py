@@ -5,11 +5,11 @@ import argparse
 from dataclasses import dataclass
 from typing import Optional, Sequence, Tuple
 
-from ..asking import Asking
 from ..charts.windows import read_place
-from ..helps import WHATIF
-from ..laboratory import Unknown
 from ..language.forms import nearest, one_of
+from ..language.helps import WHATIF
+from ..link.asking import Asking
+from ..link.laboratory import Unknown
 from .faults import KINDS, OF_PAIRS
 from .groups import WATCHED, Watch
 

@@ -5,11 +5,11 @@ from enum import Enum
 from functools import lru_cache
 from typing import Dict, FrozenSet, Iterator, List, NamedTuple, Optional, Sequence, Tuple
 
-from ..diffs import is_one_rule_set
 from ..language.names import NODES
-from ..setups import Setup
-from ..states import FLOW_WORDS, State
-from ..words import flow
+from ..model.setups import Setup
+from ..model.states import FLOW_WORDS, State
+from ..shows.diffs import is_one_rule_set
+from ..shows.words import flow
 
 # Where the words of a state begin, after `state NODE`, and the words that say which flow it is, after its name.
 _NAME = 2

@@ -6,11 +6,11 @@ from functools import cached_property
 from itertools import combinations
 from typing import Callable, Dict, FrozenSet, Iterator, List, NamedTuple, Sequence, Tuple
 
-from ..branches import Happened
 from ..language import events
 from ..language.events import CUT, DELIVER, FLUSH, KILL, LOSE, OF_FRAME, PACKET, PURGE, RELEASE, REPEAT, RESTART, RETRY, SENT, TICK, TURN
 from ..language.names import NODES
-from ..words import counted, seconds
+from ..model.branches import Happened
+from ..shows.words import counted, seconds
 
 # How far a clock jumps: further than the 60 s of udp.first and udp.multiple.
 JUMP = 61_000

@@ -6,7 +6,7 @@ from typing import Callable, List, Optional, Sequence, Tuple
 from ..language.commands import PAST
 from ..language.events import DELIVER, FLUSH, SENT, TURN
 from ..language.names import NODES
-from ..pair import read_shown
+from ..model.pair import read_shown
 
 # Nodes that send this often before one event of the run go on answering each other.
 MOST_ROUNDS = 100

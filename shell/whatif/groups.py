@@ -7,7 +7,7 @@ from typing import Callable, Dict, FrozenSet, List, NamedTuple, Optional, Tuple
 
 from ..language import events
 from ..language.events import HELD_BACK, PACKET, PASS
-from ..setups import Setup
+from ..model.setups import Setup
 from .causes import Causes, Hung
 from .ends import Change, End
 from .faults import Course, Variant

@@ -4,10 +4,10 @@ from __future__ import annotations
 
 from typing import Dict, NamedTuple, Sequence
 
-from ..branches import Branch
-from ..colours import PLAIN
-from ..kernels import EVERY, PROFILE
-from ..laboratory import Laboratory
+from ..console.colours import PLAIN
+from ..link.laboratory import Laboratory
+from ..model.branches import Branch
+from ..model.kernels import EVERY, PROFILE
 from .faults import Course
 from .groups import Base
 from .plays import Player

@@ -5,18 +5,18 @@ from collections import deque
 from dataclasses import dataclass, field
 from typing import Deque, Dict, List, NamedTuple, Optional, Sequence, Tuple
 
-from ..branches import Branch
-from ..laboratory import Laboratory, Unknown, outcome_of
 from ..language.commands import BACK, DROP, FORK, PAST, SHOW, STEP
 from ..language.events import DELIVER, FLUSH, HELD_BACK, KILL, LOSE, SENT, TURN
 from ..language.names import NODES
 from ..language.setups import HELD
-from ..macros import next_steps
-from ..pair import Pair, read_shown
+from ..link.laboratory import Laboratory, Unknown, outcome_of
+from ..link.macros import next_steps
+from ..model.branches import Branch
+from ..model.pair import Pair, read_shown
 from .faults import Course, Planned, Variant, place_of, planned
 from .flushing import Idle, idle_nodes, send
 from .holding import Accepted, Fate, OfNode, fates, is_held
-from .names import Names
+from .renaming import Names
 
 # The branch that a variant is played on; the second name is used if the run's own branch has the first.
 NAMES = ("variant", "other")

@@ -5,21 +5,21 @@ from itertools import groupby
 from types import MappingProxyType
 from typing import Dict, List, Mapping, Sequence, Tuple
 
-from ..colours import PLAIN, Paint
-from ..diffs import between_nodes
-from ..explanations import Judged
-from ..histories import History
-from ..laboratory import Unknown
+from ..console.colours import PLAIN, Paint
 from ..language.events import DELIVER
 from ..language.names import NODES
-from ..pair import read_shown
+from ..link.histories import History
+from ..link.laboratory import Unknown
+from ..model.explanations import Judged
+from ..model.pair import read_shown
 from ..reasons.absence import explain_absence
+from ..reasons.explained import explained_ahead, explained_event, reasons
 from ..reasons.questions import Question
-from ..reasons.why import explained_event, reasons, why_ahead
-from ..words import counted, flow, state_fields, state_line
-from .faults import Course, Variant
+from ..shows.diffs import between_nodes
+from ..shows.words import counted, flow, state_fields, state_line
 from .causes import Hung
 from .ends import TIMES, Change, End, Where
+from .faults import Course, Variant
 from .groups import APART, GONE, IMPOSSIBLE, OTHERWISE, REFUSED, Effect, Group, Verdict, goes_on
 from .plays import ENDLESS, Played
 from .tries import Tried
@@ -229,7 +229,7 @@ def _refusal(it: Tried, variant: Variant, played: Played, number: int, paint: Pa
     """What `why` says of an event that is refused in a variant; the variant is played up to there."""
     refused = next(one for one in played.refused if one.number == number)
     it.player.play(variant, until=refused.at)
-    return why_ahead(it.player.lab, it.player.name, refused.line, paint)
+    return explained_ahead(it.player.lab, it.player.name, refused.line, paint)
 
 
 def _answered(it: Tried, played: Played, paint: Paint) -> List[str]:

@@ -7,9 +7,9 @@ from __future__ import annotations
 
 from typing import Dict, List, NamedTuple, Optional
 
-from ..branches import Happened
 from ..language.events import DELIVER, FLUSH, LOSE, OF_NODE, RESTART
-from ..pair import other
+from ..model.branches import Happened
+from ..model.pair import other
 from .faults import Course, Variant
 
 

@@ -4,9 +4,9 @@ from __future__ import annotations
 from dataclasses import dataclass, field
 from typing import Callable, Dict, Iterable, Iterator, List
 
-from ..branches import Branch
-from ..laboratory import Laboratory, Unknown
-from ..setups import Setup
+from ..link.laboratory import Laboratory, Unknown
+from ..model.branches import Branch
+from ..model.setups import Setup
 from .asked import Asked
 from .faults import Course, Fault, Variant, faults_of, pairs_of
 from .groups import Base, Effect, Groups, is_of_one

@@ -4,10 +4,10 @@ from __future__ import annotations
 import textwrap
 from typing import Iterator, List, NamedTuple, Sequence, Set
 
-from ..annotating import annotated
-from ..colours import PLAIN
-from ..laboratory import Unknown
+from ..console.colours import PLAIN
 from ..language.commands import FORK, MOST_BRANCHES, SHOW, STEP
+from ..link.laboratory import Unknown
+from ..scripts.annotating import annotated
 from .groups import Group
 from .report import Numbered, change, text_of
 from .tries import Tried

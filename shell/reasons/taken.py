@@ -1,0 +1,281 @@
+"""What the records of a delivered frame did, one after another: the program reports what became of each, and the node before the frame
+shows what it met there. If an earlier record of the frame has changed that, the words are fewer."""
+from __future__ import annotations
+
+from itertools import takewhile
+from typing import List, NamedTuple, Sequence
+
+from ..language.commands import KERNEL
+from ..language.events import RESTART, RETRY, SERVED
+from ..language.names import ALL_STATES, BULK_END, BULK_START, Name, level_name
+from ..language.records import BULK_STATUS, CLEAR, INSERT, INSERT_ACK, QUEUES, UPDATE_REQUEST
+from ..language.setups import MERGE, STATES
+from ..link.histories import History
+from ..link.laboratory import Laboratory
+from ..model.explanations import TakenRecord
+from ..model.flights import Flight
+from ..model.frames import Carried, Record
+from ..model.merging import is_stale_destination
+from ..model.pair import Node, other
+from ..shows.words import bulk_status, counted
+from .kernel import PAGE, explain_destinations, explain_takeover, gives_way
+from .lifetimes import explain_lifetimes
+from .questions import Question, name_list
+
+
+class Came(NamedTuple):
+    """A record that came, what became of it, the node that it came to, as it was before the frame, and how many states it may have."""
+
+    record: Record
+    taken: TakenRecord
+    node: Node
+    limit: str
+
+    @property
+    def name(self) -> Name:
+        """The name of the state that it is about."""
+        return self.record.name
+
+    def __str__(self) -> str:
+        kind = self.record.kind
+        if kind is BULK_STATUS:
+            return f"{kind.name} {bulk_status(int(self.record.about[0]))}"
+        return kind.name if kind is CLEAR else f"{kind.name} {'of all states' if self.name == ALL_STATES else self.name}"
+
+
+def came_records(history: History, number: int, ticket: int) -> List[Came]:
+    """The records that a delivery brought, by the place of the event."""
+    frame = history.flight(ticket).frame
+    node, limit = history.pair(number - 1).nodes[frame.to], history.lab.limit(STATES)
+    return [Came(*it, node, limit) for it in zip(frame.records, history.explained(number).records)]
+
+
+# ---- what became of a record
+
+
+def became(it: Came) -> str:
+    """What became of a record, and why."""
+    kind, node = it.taken.fate[0], it.node.id
+    held = "; its held packet is dropped" if it.name in [one.name for one in it.node.held] else ""
+    if kind in ("bad", "imported", "merged"):
+        return {"bad": _bad, "imported": _imported, "merged": _merged}[kind](it) + held * (kind == "merged")
+    if it.record.kind is BULK_STATUS:
+        return _heard(int(it.record.about[0]), it.node)
+    if it.record.kind is CLEAR:
+        names = name_list(sorted(name for name in it.node.states if it.taken.takes(name)))
+        of = "of boot {} up to id {}".format(*it.record.about)
+        return f"{node} cleared {counted(int(it.taken.fate[1]), 'state')} {of}" + f": {names}" * bool(names)
+    ends = it.taken.fate[-1] == "ends"
+    return {
+        "asked": f"unknown: {node} has no such state, and {'has asked for it already' if it.name in it.node.asks else 'asks for it'}",
+        "queued": "asked for: the whole state is queued as an update",
+        "bulk": f"{node} has no state to send: the bulk update is over at once" if ends else f"{node} begins a bulk update",
+        "acknowledged": "acknowledged: its held packet is released",
+        "deleted": f"deleted{held}",
+        "nothing": _nothing(it),
+    }[kind]
+
+
+def _bad(it: Came) -> str:
+    """Why a record cannot be used."""
+    why, node = it.taken.fate[1], it.node
+    if isinstance(it.record.state, Carried) and why in ("wire", "stack"):
+        key = it.record.state.wire if why == "wire" else it.record.state.stack
+        return f"bad: its {why} key is in use: {node.id} has state {it.taken.fate[2]} for {key.near} and {key.far}"
+    has = f"{node.id} has a state {it.name} already"
+    known = node.states.get(it.name)
+    return "bad: " + {
+        "unknown": f"{node.id} has no such state to {'send' if it.record.kind is UPDATE_REQUEST else 'delete'}",
+        "known": f"{has} ({known.protocol} {known.wire.near}, {known.wire.far})" if known else has,
+        "notgiven": f"{node.id} is boot {node.boot} itself and has not assigned the id {it.name.id} yet (its next id is {node.next_id})",
+        "deleting": f"{node.id} has deleted the state, and has yet to report that",
+        "full": f"the state table of {node.id} is full: {it.limit}",
+    }[why]
+
+
+def _imported(it: Came) -> str:
+    last = f"last used at {it.taken.last} ms" + f", which is ahead of {it.node.id}'s clock" * ((it.taken.last or 0) > it.node.clock)
+    if it.record.kind is not INSERT:
+        return f"new: inserted, since {it.node.id} did not know the state; {last}"
+    asks = isinstance(it.record.state, Carried) and it.record.state.asks_for_acknowledgement
+    return f"new: inserted; {last}" + "; it asks for an acknowledgement, which is queued" * asks
+
+
+def _merged(it: Came) -> str:
+    """An update of a known state: each end is taken unless it is stale."""
+    stale, taken, last = it.taken.stale, it.taken.taken, f"last used at {it.taken.last} ms"
+    why = "; ".join(_staleness(it, end) for end in stale)
+    if not stale:
+        return f"merged: neither end is behind the one here; {last}"
+    answer = _answer(it)
+    if not taken:
+        return f"stale: {why}{answer}"
+    if len(taken) == 2:
+        together = f"by {KERNEL.word} {MERGE.word} the destination end is taken with the source end"
+        return f"merged, counted as stale: {together}, although {why}; {last}{answer}"
+    return f"merged in part, counted as stale: the {taken[0]} end is taken; {why}; {last}{answer}"
+
+
+def _answer(it: Came) -> str:
+    """What the receiver sends of a state of which an end was stale."""
+    known, node = it.node.states.get(it.name), it.node.id
+    if known is None:
+        return ""
+    queued = next((one.kind for one in it.node.queue if one.name == it.name), INSERT_ACK.queue)
+    if queued == INSERT_ACK.queue:
+        return f"; {node} queues its own state for {other(node)}, as a short update"
+    return f"; {node} has its own state queued for {other(node)} already ({QUEUES[queued]})"
+
+
+def _staleness(it: Came, end: str) -> str:
+    """Why an end that came is behind the one here."""
+    known, carried = it.node.states.get(it.name), it.record.state
+    if known is None or carried is None:
+        return f"the {end} end is behind the one here"
+    came, here = (one.source if end == "source" else one.destination for one in (carried, known))
+    if here.level <= came.level:
+        return f"the {end} end's lo {here.lo} here is after the {came.lo} that came"
+    level = "level " if known.protocol == "icmp" else ""
+    names = [f"{level}{level_name(known.protocol, one.level)}" for one in (came, here)]
+    return f"the {end} end came as {names[0]}, and is {names[1]} here"
+
+
+def _nothing(it: Came) -> str:
+    """Why a request or an acknowledgement changed nothing."""
+    known = it.node.states.get(it.name)
+    if it.record.kind is not INSERT_ACK:
+        is_kept = known is not None and "n" in known.flags
+        return "asked for, but its rule says `no-sync`: it is not sent" if is_kept else "asked for: it is queued already"
+    if known is None:
+        return f"unknown: {it.node.id} has no such state, and ignores it"
+    return "acknowledged: nothing was waiting for it any more"
+
+
+def _heard(status: int, node: Node) -> str:
+    waits = node.sync != "-"
+    if status == BULK_START:
+        return f"the bulk update begins, and {node.id} " + ("continues to wait for its end" if waits else "was not waiting for one")
+    ended = f"{node.id}, which was waiting, no longer waits, whatever arrived" if waits else f"{node.id} was not waiting for it"
+    return f"the server says that it is at the end; {ended}"
+
+
+# ---- the whole frame
+
+
+def explain_taken(question: Question) -> List[str]:
+    """Each record of the frame with what it did, and what else there is to know about them."""
+    ticket, history = int(question.words[1]), question.history
+    came, node = came_records(history, question.place + 1, ticket), question.table(history.flight(ticket).to)
+    return [
+        f"frame {ticket} came to node {node.id} with {counted(len(came), 'record')}:",
+        *(f"{place}. {it}: {became(it)}" for place, it in enumerate(came, 1)),
+        *_begun(came, question.after.nodes[node.id]),
+        *_without_start(history, came, node),
+        *_without_rule(came, question.after.nodes[node.id]),
+        *_endless(came),
+        *_in_the_kernel(question, came),
+        *_lifetimes(question, ticket),
+    ]
+
+
+def _endless(came: List[Came]) -> List[str]:
+    """States whose updates two nodes go on answering: the one has a destination end of a higher level, and the other one of a later
+    number, so that each keeps its own."""
+    kept = (it for it in came if "destination" in it.taken.stale and not it.taken.goes_together)
+    names = [it.name for it in kept if _is_crossed(it)]
+    if not names:
+        return []
+    node = came[0].node.id
+    answered = f"{other(node)} would find {node}'s own {name_list(names)} stale in turn, unless it has heard more since"
+    rest = f"by {KERNEL.word} {MERGE.word} they come to rest, unless their frames keep crossing"
+    return [f"{answered}: by this project's profile the two can continue like this without end; {rest} ({PAGE})"]
+
+
+def _is_crossed(it: Came) -> bool:
+    """Whether the destination end that is here would be stale at the sender as well, which has what came."""
+    known, carried = it.node.states.get(it.name), it.record.state
+    if known is None or carried is None or known.protocol != "tcp":
+        return False
+    came, here = carried.destination, known.destination
+    return is_stale_destination(here, came, True) and is_stale_destination(came, here, True)
+
+
+def _in_the_kernel(question: Question, came: List[Came]) -> List[str]:
+    """Where the kernel does otherwise than the profile with these records."""
+    stale = [it.name for it in came if it.taken.stale == ("destination",) and not it.taken.goes_together]
+    return [*explain_takeover(_in_the_place_of_closed(question.lab, came)), *explain_destinations(stale)]
+
+
+def _lifetimes(question: Question, ticket: int) -> List[str]:
+    """Until when states live by the other rule; nothing where timeouts are not known."""
+    frame = question.history.flight(ticket).frame
+    nodes = (it.nodes[frame.to] for it in (question.pair, question.after))
+    return explain_lifetimes(question.lab.setup, frame, question.explanation.records, *nodes) if question.lab.knows_setup else []
+
+
+def _in_the_place_of_closed(lab: Laboratory, came: List[Came]) -> List[Name]:
+    """The states that are bad here since closed ones have their keys; none unless there is room for all that the frame may bring."""
+    if not lab.knows_setup or len(came[0].node.states) + len(came) > lab.setup.limits[STATES]:
+        return []
+    in_use = [it for it in came if it.taken.fate[:2] in (("bad", "wire"), ("bad", "stack"))]
+    return [it.name for it in in_use if isinstance(it.record.state, Carried) and gives_way(it.record.state, it.node)]
+
+
+def _without_rule(came: List[Came], after: Node) -> List[str]:
+    """States that came with a rule's number and are kept without it."""
+    new = (it.record.state for it in came if it.taken.fate[0] == "imported")
+    with_rule = (it.name for it in new if isinstance(it, Carried) and it.rule is not None)
+    names = sorted(it for it in with_rule if it in after.states and after.states[it].rule is None)
+    if not names:
+        return []
+    return [f"without the number of its rule, since the sender's rules are not those of {after.id}: {name_list(names)}"]
+
+
+# ---- bulk updates, which end for a node when the server sends the end
+
+
+def _begun(came: List[Came], after: Node) -> List[str]:
+    """How many states the turns of a bulk update that begins would queue if nothing else happened."""
+    if not any(it.taken.fate == ("bulk", "begins") for it in came):
+        return []
+    cursor, since = after.serve.split("/")
+    queued = [it.name for it in after.queue]
+    due = [
+        name
+        for name, it in sorted(after.states.items())
+        if name > Name.read(cursor) and name not in queued and "n" not in it.flags and (it.peer or 0) <= int(since)
+    ]
+    passed = "; turns skip states that are already queued or `no-sync`" * (len(due) < len(after.states))
+    names = f": {name_list(due)}" * bool(due)
+    return [f"after this frame the bulk update of {after.id} has {counted(len(due), 'state')} to send{names}{passed}"]
+
+
+def _without_start(history: History, came: List[Came], node: Node) -> List[str]:
+    """A line that a node heard the end of a bulk update, but not its start: what came with the start was lost, or is on its way. A
+    node without states sends no start."""
+    statuses = _statuses([it.record for it in came])
+    if BULK_END not in statuses or BULK_START in statuses[: statuses.index(BULK_END)] or node.sync == "-":
+        return []
+    asks = (f"{RESTART.word} {node.id}", f"{RETRY.word} {node.id}")
+    asking = [number for number, line in enumerate(history.lines, 1) if line in asks]
+    requests = (history.explained(number).event for number in reversed(asking))
+    asked = next(it for it in requests if it.outcome != [SERVED.word])
+    flights = takewhile(lambda it: it.sent.number > asked.number, history.newest_flights())
+    starts = [it for it in flights if it.to == node.id and BULK_START in _statuses(it.frame.records)]
+    if not starts or any(it.is_taken for it in starts):
+        return []
+    since = f"since it asked for all states (event {asked.number}, `{asked.line}`)"
+    return [f"{node.id} has not heard the start {since}: {_start_fate(starts[0])}"]
+
+
+def _statuses(records: Sequence[Record]) -> List[int]:
+    """What records say about a bulk update."""
+    return [int(it.about[0]) for it in records if it.kind is BULK_STATUS]
+
+
+def _start_fate(start: Flight) -> str:
+    """What became of the frame with the start."""
+    if start.ended is None:
+        return f"frame {start.ticket}, which has it, is still in flight"
+    how = "was lost" if start.is_lost else "could not be read"
+    return f"frame {start.ticket}, which had it, {how} (event {start.ended.number})"
