@@ -79,9 +79,9 @@ class _Growing:
         # The newest event that is drawn.
         self.newest: Optional[Happened] = None
 
-    def event(self, it: Explanation, flight: Optional[Flight]) -> None:
-        event, (first, last, _) = it.event, self.chart.window
-        is_meant = self.concern is None or self.concern.has(it, flight)
+    def event(self, explained: Explanation, flight: Optional[Flight]) -> None:
+        event, (first, last, _) = explained.event, self.chart.window
+        is_meant = self.concern is None or self.concern.has(explained, flight)
         if flight and is_meant:
             # (what happens to the frame follows, if that stands)
             self.chart.flights[flight.ticket] = replace(flight, later=[])
@@ -90,7 +90,7 @@ class _Growing:
         if event.number < first and event.kind is RESTART:
             self.chart.boots[event.words[1]] = int(event.outcome[1])
         elif is_meant and first <= event.number <= (last or 0):
-            self._draw(it)
+            self._draw(explained)
             self.newest = event
 
     def leave_out(self) -> None:
@@ -113,51 +113,51 @@ class _Growing:
     # ---- rows
 
     def _draw(self, explained: Explanation) -> None:
-        it = explained.event
-        if it.kind in (DELIVER, LOSE):
-            self._end(explained, self.chart.flights[int(it.words[1])])
-        elif it.kind is PACKET:
-            self._at_node(it, self.packets.mark(explained))
-        elif it.kind in (FLUSH, REPEAT):
-            self._row(it, (), int(it.outcome[1]))
-        elif it.kind is CUT:
-            self._row(it, (), int(it.words[1]))
+        event = explained.event
+        if event.kind in (DELIVER, LOSE):
+            self._end(explained, self.chart.flights[int(event.words[1])])
+        elif event.kind is PACKET:
+            self._at_node(event, self.packets.mark(explained))
+        elif event.kind in (FLUSH, REPEAT):
+            self._row(event, (), int(event.outcome[1]))
+        elif event.kind is CUT:
+            self._row(event, (), int(event.words[1]))
         else:
-            self._at_node(it, node_mark(it))
+            self._at_node(event, node_mark(event))
 
-    def _row(self, it: Happened, marks: Sequence[Mark], ticket: Optional[int] = None) -> None:
-        if it.kind is RESTART:
-            self.chart.restarts[len(self.chart.rows)] = it.words[1], int(it.outcome[1])
-        self.chart.places[it.number] = len(self.chart.rows)
-        self.chart.rows.append(Row(it.number, it.number, it.kind.word, tuple(marks), ticket))
+    def _row(self, event: Happened, marks: Sequence[Mark], ticket: Optional[int] = None) -> None:
+        if event.kind is RESTART:
+            self.chart.restarts[len(self.chart.rows)] = event.words[1], int(event.outcome[1])
+        self.chart.places[event.number] = len(self.chart.rows)
+        self.chart.rows.append(Row(event.number, event.number, event.kind.word, tuple(marks), ticket))
 
-    def _grow(self, it: Happened, marks: Sequence[Mark]) -> None:
+    def _grow(self, event: Happened, marks: Sequence[Mark]) -> None:
         """Adds an event to the newest row."""
-        self.chart.places[it.number] = len(self.chart.rows) - 1
-        self.chart.rows[-1] = replace(self.chart.rows[-1], last=it.number, marks=tuple(marks))
+        self.chart.places[event.number] = len(self.chart.rows) - 1
+        self.chart.rows[-1] = replace(self.chart.rows[-1], last=event.number, marks=tuple(marks))
 
-    def _before(self, it: Happened) -> Optional[Row]:
+    def _before(self, event: Happened) -> Optional[Row]:
         """The row that an event may share: the newest one, if nothing lies between."""
         row = self.chart.rows[-1] if self.chart.rows else None
-        return row if row and row.last == it.number - 1 and row.last not in self.breaks else None
+        return row if row and row.last == event.number - 1 and row.last not in self.breaks else None
 
-    def _at_node(self, it: Happened, mark: Mark) -> None:
+    def _at_node(self, event: Happened, mark: Mark) -> None:
         """An event of one node. A repetition shares its row, and so does the same tick of the other node."""
-        row, newest = self._before(it), self.newest
+        row, newest = self._before(event), self.newest
         if row and newest and row.ticket is None and len(row.marks) == 1:
             one = row.marks[0]
-            if one == mark or (newest.line, newest.came) == (it.line, it.came):
-                self._grow(it, row.marks)
+            if one == mark or (newest.line, newest.came) == (event.line, event.came):
+                self._grow(event, row.marks)
                 return
-            if it.kind is TICK and row.kind == TICK.word and row.times == 1 and one.node != mark.node and one.words == mark.words:
-                self._grow(it, (one, mark))
+            if event.kind is TICK and row.kind == TICK.word and row.times == 1 and one.node != mark.node and one.words == mark.words:
+                self._grow(event, (one, mark))
                 return
-        self._row(it, (mark,))
+        self._row(event, (mark,))
 
     def _end(self, explained: Explanation, flight: Flight) -> None:
         """A frame is delivered or lost, in the row where it was sent if nothing lies between."""
-        it, marks = explained.event, () if flight.is_lost else (delivery_mark(explained, flight),)
-        if self._before(it) and self.chart.sent(flight) == len(self.chart.rows) - 1:
-            self._grow(it, marks)
+        event, marks = explained.event, () if flight.is_lost else (delivery_mark(explained, flight),)
+        if self._before(event) and self.chart.sent(flight) == len(self.chart.rows) - 1:
+            self._grow(event, marks)
         else:
-            self._row(it, marks, flight.ticket)
+            self._row(event, marks, flight.ticket)

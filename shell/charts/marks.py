@@ -53,9 +53,9 @@ def state_of(explained: Explanation) -> Optional[Name]:
     return explained.reason.name if isinstance(explained.reason, OfState) else None
 
 
-def ends_of(it: Happened) -> FrozenSet[str]:
+def ends_of(event: Happened) -> FrozenSet[str]:
     """The two ends of a packet, regardless of which sent it."""
-    return frozenset(it.words[4:6])
+    return frozenset(event.words[4:6])
 
 
 class PacketMarks:
@@ -66,18 +66,18 @@ class PacketMarks:
         self._shown: Set[Tuple[Name, FrozenSet[str]]] = set()
 
     def mark(self, explained: Explanation) -> Mark:
-        it, name = explained.event, state_of(explained)
-        node, direction, protocol, source, target = it.words[1:6]
-        tone = {PASS.word: "good", HELD_BACK.word: "note"}.get(it.outcome[0], "bad")
-        fate = "pass, no state" if it.outcome[-1] == "-" else it.came
+        event, name = explained.event, state_of(explained)
+        node, direction, protocol, source, target = event.words[1:6]
+        tone = {PASS.word: "good", HELD_BACK.word: "note"}.get(event.outcome[0], "bad")
+        fate = "pass, no state" if event.outcome[-1] == "-" else event.came
         ends = (f"{end_words(source)} ->", end_words(target))
         if protocol != "tcp":
             return Mark(node, direction, (protocol, *ends), fate, tone)
-        head, segment = f"tcp [{it.words[6]}]", _segment(it.words[6:11])
-        if name is None or (name, ends_of(it)) not in self._shown:
-            self._shown |= {(name, ends_of(it))} if name else set()
+        head, segment = f"tcp [{event.words[6]}]", _segment(event.words[6:11])
+        if name is None or (name, ends_of(event)) not in self._shown:
+            self._shown |= {(name, ends_of(event))} if name else set()
             return Mark(node, direction, (head, *ends, segment), fate, tone)
-        fate = it.outcome[0] if it.outcome[-1] == str(name) else fate
+        fate = event.outcome[0] if event.outcome[-1] == str(name) else fate
         return Mark(node, direction, (head, f"{name} {direction},", segment), fate, tone)
 
 
@@ -88,13 +88,13 @@ def _segment(words: Sequence[str]) -> str:
     return " ".join(f"{name}{KEPT}{number}" for name, number, is_said in numbers if is_said)
 
 
-def node_mark(it: Happened) -> Mark:
+def node_mark(event: Happened) -> Mark:
     """The mark of an event at one node that is not a packet."""
-    number = int(it.outcome[1]) if len(it.outcome) > 1 else 0
+    number = int(event.outcome[1]) if len(event.outcome) > 1 else 0
     counts = {"states": counted(number, "state"), "packets": counted(number, "held packet"), "clock": duration(number)}
-    fate = it.kind.outcome_of(it.outcome).drawn.format(n=number, **counts)
-    what = it.kind.drawn.format(duration(int(it.words[2])) if it.kind is TICK else it.words[-1])
-    return Mark(it.words[1], it.kind.word, (what,), fate, "note" if it.kind is RESTART else "")
+    fate = event.kind.outcome_of(event.outcome).drawn.format(n=number, **counts)
+    what = event.kind.drawn.format(duration(int(event.words[2])) if event.kind is TICK else event.words[-1])
+    return Mark(event.words[1], event.kind.word, (what,), fate, "note" if event.kind is RESTART else "")
 
 
 def delivery_mark(explained: Explanation, flight: Flight) -> Mark:

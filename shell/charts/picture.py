@@ -115,11 +115,11 @@ def _parts(chart: Chart) -> Tuple[PageChart, List[Part]]:
     layout = Layout(chart, PAGE)
     starts = range(0, max(len(chart.rows), 1), ROWS)
     flights: List[List[Flight]] = [[] for _ in starts]
-    for it in chart.flights.values():
-        ended = chart.ended(it)
+    for flight in chart.flights.values():
+        ended = chart.ended(flight)
         last = len(chart.rows) - 1 if ended is None else ended
-        for at in range((chart.sent(it) or 0) // ROWS, max(last, 0) // ROWS + 1):
-            flights[at].append(it)
+        for at in range((chart.sent(flight) or 0) // ROWS, max(last, 0) // ROWS + 1):
+            flights[at].append(flight)
     edges = [0.0, *(layout.tops[it] for it in starts[1:]), layout.height]
     its_sheets = [Sheet(*ends) for ends in zip(edges, edges[1:])]
     places = [range(start, min(start + ROWS, len(chart.rows))) for start in starts]

@@ -20,16 +20,16 @@ def svg(elements: Sequence[Element], width: float, height: float, title: str) ->
     return "\n".join([head, f"<title>{escape(title, False)}</title>", *map(_element, elements), "</svg>", ""])
 
 
-def _element(it: Element) -> str:
-    attributes = "".join(f' {key}="{_value(key, written(value))}"' for key, value in it.attributes.items())
-    spans = " ".join(map(_span, it.spans))
-    return f"<{it.name}{attributes}>{spans}</{it.name}>" if spans else f"<{it.name}{attributes}/>"
+def _element(element: Element) -> str:
+    attributes = "".join(f' {key}="{_value(key, written(value))}"' for key, value in element.attributes.items())
+    spans = " ".join(map(_span, element.spans))
+    return f"<{element.name}{attributes}>{spans}</{element.name}>" if spans else f"<{element.name}{attributes}/>"
 
 
 def _value(key: str, value: str) -> str:
     return COLOURS[value] if key in _OF_COLOUR else escape(value, False).replace('"', "&quot;")
 
 
-def _span(it: Span) -> str:
-    bold = ' font-weight="bold"' if it.is_bold else ""
-    return f'<tspan fill="{COLOURS[it.tone]}"{bold}>{escape(it.words, False)}</tspan>'
+def _span(span: Span) -> str:
+    bold = ' font-weight="bold"' if span.is_bold else ""
+    return f'<tspan fill="{COLOURS[span.tone]}"{bold}>{escape(span.words, False)}</tspan>'

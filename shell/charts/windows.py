@@ -92,27 +92,27 @@ class Concern:
         self._tickets: Set[int] = set()
         self._holding: Set[str] = set()
 
-    def has(self, it: Explanation, flight: Optional[Flight]) -> bool:
+    def has(self, explained: Explanation, flight: Optional[Flight]) -> bool:
         """Whether the next event is about it."""
-        event = it.event
+        event = explained.event
         if flight:
             return self._has_frame(flight)
         if event.kind is PACKET:
-            return self._has_packet(it)
+            return self._has_packet(explained)
         if event.kind is KILL:
             return event.words[2] == str(self.flow)
         if event.kind is PURGE:
-            return isinstance(it.reason, Purge) and any(due.name == self.flow for due in it.reason.due)
+            return isinstance(explained.reason, Purge) and any(due.name == self.flow for due in explained.reason.due)
         if event.kind is RELEASE:
             return event.words[1] in self._holding
         return event.kind in (CLEAR, RESTART) or (event.words[1].isdecimal() and int(event.words[1]) in self._tickets)
 
-    def _has_packet(self, it: Explanation) -> bool:
-        name = state_of(it)
-        if name == self.flow and it.event.outcome[0] == HELD_BACK.word:
-            self._holding.add(it.event.words[1])
-        met_none = isinstance(it.reason, Judged)
-        return name == self.flow or (met_none and _key(it) in self._ends)
+    def _has_packet(self, explained: Explanation) -> bool:
+        name = state_of(explained)
+        if name == self.flow and explained.event.outcome[0] == HELD_BACK.word:
+            self._holding.add(explained.event.words[1])
+        met_none = isinstance(explained.reason, Judged)
+        return name == self.flow or (met_none and _key(explained) in self._ends)
 
     def _has_frame(self, flight: Flight) -> bool:
         """Whether a frame that is sent is about it; a copy is if the first one is."""
@@ -120,14 +120,14 @@ class Concern:
             self._tickets.add(flight.ticket)
         return flight.ticket in self._tickets
 
-    def _has_record(self, it: Record) -> bool:
-        if it.kind is CLEAR_RECORD:
-            return self.flow.creator == int(it.about[0]) and self.flow.id <= int(it.about[1])
-        return it.kind is not BULK_STATUS and it.name in (self.flow, ALL_STATES)
+    def _has_record(self, record: Record) -> bool:
+        if record.kind is CLEAR_RECORD:
+            return self.flow.creator == int(record.about[0]) and self.flow.id <= int(record.about[1])
+        return record.kind is not BULK_STATUS and record.name in (self.flow, ALL_STATES)
 
 
-def _key(it: Explanation) -> Tuple[str, FrozenSet[str]]:
-    return it.event.words[3], ends_of(it.event)
+def _key(explained: Explanation) -> Tuple[str, FrozenSet[str]]:
+    return explained.event.words[3], ends_of(explained.event)
 
 
 def _made(packets: Sequence[Explanation]) -> str:

@@ -88,16 +88,16 @@ def typed(form: str) -> str:
     return form.replace(f"{word} {BRANCH.name}", f"{word} [{BRANCH.name}]") if word in commands.WITHOUT_BRANCH else form
 
 
-def _of_line(it: Line) -> Help:
-    return Help(typed(it.form), it.what, it.more)
+def _of_line(line: Line) -> Help:
+    return Help(typed(line.form), line.what, line.more)
 
 
-def _of_event(it: Event) -> Help:
+def _of_event(event: Event) -> Help:
     """The help of an event, with what it answers and refuses in words."""
-    *others, last = (f"`{outcome.form}`{outcome.help}" for outcome in it.outcomes)
+    *others, last = (f"`{outcome.form}`{outcome.help}" for outcome in event.outcomes)
     answers = f"{', '.join(others)}{',' * (len(others) > 1)} or {last}" if others else last
-    more = f"Answers {answers}. Refused: {', '.join(it.refused)}. {it.more}".strip()
-    return Help(_written_out("\n".join(it.forms)), _written_out(it.what), _written_out(more))
+    more = f"Answers {answers}. Refused: {', '.join(event.refused)}. {event.more}".strip()
+    return Help(_written_out("\n".join(event.forms)), _written_out(event.what), _written_out(more))
 
 
 SETUP = {word: _of_line(it) for word, it in commands.SETUP.items()}
@@ -285,12 +285,12 @@ def overview(columns: Optional[int] = None) -> List[str]:
 def about(word: str, columns: Optional[int] = None) -> List[str]:
     """Everything about one word."""
     lines: List[str] = []
-    for it in (WORDS[word], *(its for added, its in ADDED.items() if added.split()[0] == word)):
-        lines += [part for form in it.form.split("\n") for part in _wrapped(form, columns, "", "    ")]
-        first, *parts = it.more.split("\n")
-        lines += _wrapped(it.what, columns, "  ", "  ") + _wrapped(first, columns, "  ", "  ")
-        lines += [line for part in (*parts, *map(": ".join, it.parts)) for line in _wrapped(part, columns, "  ", "    ")]
-        lines += _wrapped(it.end, columns, "  ", "  ")
+    for entry in (WORDS[word], *(its for added, its in ADDED.items() if added.split()[0] == word)):
+        lines += [part for form in entry.form.split("\n") for part in _wrapped(form, columns, "", "    ")]
+        first, *parts = entry.more.split("\n")
+        lines += _wrapped(entry.what, columns, "  ", "  ") + _wrapped(first, columns, "  ", "  ")
+        lines += [line for part in (*parts, *map(": ".join, entry.parts)) for line in _wrapped(part, columns, "  ", "    ")]
+        lines += _wrapped(entry.end, columns, "  ", "  ")
     return lines
 
 

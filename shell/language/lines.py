@@ -108,8 +108,8 @@ def _check_rule(reader: Reader) -> None:
             reader.at += 1
             for wanted in option.values:
                 reader.take(wanted)
-    for it in CLASSES:
-        if list(reader.words[reader.at : reader.at + 2]) == [TIMEOUT.word, it.word]:
+    for timeout_class in CLASSES:
+        if list(reader.words[reader.at : reader.at + 2]) == [TIMEOUT.word, timeout_class.word]:
             reader.at += 2
             reader.take(TIMEOUT.values[1])
     _check_rule_end(reader)

@@ -27,8 +27,8 @@ class History:
 
     def flight(self, ticket: int) -> Flight:
         """A frame that an event of the branch sent, and what these events did to it."""
-        it = self.sent(ticket)
-        return replace(it, later=[one for one in it.later if one.number <= len(self.lines)])
+        flight = self.sent(ticket)
+        return replace(flight, later=[one for one in flight.later if one.number <= len(self.lines)])
 
     def _tried(self, event: str) -> Explanation:
         """The answer of a run of its own, since the branch may stand elsewhere."""

@@ -54,9 +54,9 @@ class Asked:
 class Names(Protocol):
     """What knows who gives the commands of a server."""
 
-    def knows(self, it: Entry, seconds: float = 0) -> bool: ...
+    def knows(self, entry: Entry, seconds: float = 0) -> bool: ...
 
-    def name(self, it: Entry) -> str: ...
+    def name(self, entry: Entry) -> str: ...
 
     def close(self) -> None: ...
 
@@ -182,9 +182,9 @@ class Laboratory:
 
     def _keep_ends(self, source: str, destination: str) -> None:
         """Keeps the ends of a packet as the newest, and no more of the oldest than there is room for."""
-        for it in (destination, source):
-            self.ends.pop(it, None)
-            self.ends[it] = None
+        for end in (destination, source):
+            self.ends.pop(end, None)
+            self.ends[end] = None
         for it in [*self.ends][:-MOST_ENDS]:
             del self.ends[it]
 

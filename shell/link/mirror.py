@@ -214,40 +214,40 @@ class Shared(Session):
     def _read(self, line: str) -> Entry:
         return Entry.read(line)
 
-    def _hear(self, it: Entry) -> None:
-        if it.number <= self.entries:
+    def _hear(self, entry: Entry) -> None:
+        if entry.number <= self.entries:
             # (the mirror took it before it came)
-            self.number = it.session
+            self.number = entry.session
             return
-        if it.number > self.entries + 1:
-            self._give_up(f"after entry {self.entries} the server sent entry {it.number}")
-        self._take(it, self._reply_to(it))
+        if entry.number > self.entries + 1:
+            self._give_up(f"after entry {self.entries} the server sent entry {entry.number}")
+        self._take(entry, self._reply_to(entry))
 
-    def _reply_to(self, it: Entry) -> Optional[List[str]]:
+    def _reply_to(self, entry: Entry) -> Optional[List[str]]:
         """The server's reply to an entry, if it is one of this session."""
-        while self._given and self._given[0].after < it.number:
+        while self._given and self._given[0].after < entry.number:
             self._given.popleft()
-        if not self._given or not it.changes:
+        if not self._given or not entry.changes:
             return None
         first = self._given[0]
-        is_own = it.session == self.number if self.number else first.is_alone and it.number == first.after
+        is_own = entry.session == self.number if self.number else first.is_alone and entry.number == first.after
         if not is_own:
             return None
-        self.number = it.session
+        self.number = entry.session
         return self._given.popleft().reply
 
-    def _take(self, it: Entry, reply: Optional[List[str]]) -> None:
+    def _take(self, entry: Entry, reply: Optional[List[str]]) -> None:
         """Takes the next entry, with the server's reply if it is one of this session."""
-        self.entries = it.number
-        if not it.changes:
-            self.taken.append(Taken(it, ()))
+        self.entries = entry.number
+        if not entry.changes:
+            self.taken.append(Taken(entry, ()))
             return
-        its = self._mirrored(it.command)
-        self.taken.append(Taken(it, its or reply or ()))
+        its = self._mirrored(entry.command)
+        self.taken.append(Taken(entry, its or reply or ()))
         if reply is None:
-            self.heard(it, its)
+            self.heard(entry, its)
         elif its not in (None, reply):
-            self._give_up(f"to entry {it.number}, `{it.command}`, it replied `{its[0] if its else ''}`, but the server `{reply[0]}`")
+            self._give_up(f"to entry {entry.number}, `{entry.command}`, it replied `{its[0] if its else ''}`, but the server `{reply[0]}`")
 
 
 class Joined(NamedTuple):
@@ -280,5 +280,5 @@ def _is_same(one: Setup, two: Setup) -> bool:
     return _content(one) == _content(two)
 
 
-def _content(it: Setup) -> Tuple[object, object]:
-    return [line.split() for line in it.lines], it.rules
+def _content(setup: Setup) -> Tuple[object, object]:
+    return [line.split() for line in setup.lines], setup.rules

@@ -31,10 +31,12 @@ class Told(NamedTuple):
     command: str
 
     @classmethod
-    def read(cls, it: object) -> "Told":
-        if not isinstance(it, list) or [*map(type, it)] != [int, int, str, str] or not it[3].isprintable() or not it[3].split():
+    def read(cls, message: object) -> "Told":
+        if not isinstance(message, list) or [*map(type, message)] != [int, int, str, str]:
             raise Ended(NOT_A_PAGE)
-        return cls(it[0], it[1], cleaned(it[2]), it[3])
+        if not message[3].isprintable() or not message[3].split():
+            raise Ended(NOT_A_PAGE)
+        return cls(message[0], message[1], cleaned(message[2]), message[3])
 
 
 class Journal:
@@ -64,10 +66,10 @@ class Journal:
         self.messages.close()
 
 
-def _list(it: object) -> List[object]:
-    if not isinstance(it, list):
+def _list(value: object) -> List[object]:
+    if not isinstance(value, list):
         raise Ended(NOT_A_PAGE)
-    return it
+    return value
 
 
 def _setup(message: Data) -> Sequence[str]:
@@ -100,10 +102,10 @@ class Guest(Session):
     def come(self, seconds: float = 0) -> List[str]:
         """The lines of entries that came, as a server shows them."""
         lines = []
-        for it in self.journal.come(seconds):
+        for told in self.journal.come(seconds):
             self._shown += 1
-            self.who[self._shown] = it.who
-            lines.append(f"{ENTRY}{self._shown} {it.session} {it.command}")
+            self.who[self._shown] = told.who
+            lines.append(f"{ENTRY}{self._shown} {told.session} {told.command}")
         return lines
 
     def _ask(self, lines: Sequence[str]) -> List[List[str]]:
@@ -154,11 +156,11 @@ class Seat(Shared):
         return reply
 
     def _read(self, line: str) -> Entry:
-        it = super()._read(line)
-        return it._replace(who=self._guest.who.pop(it.number, ""))
+        entry = super()._read(line)
+        return entry._replace(who=self._guest.who.pop(entry.number, ""))
 
-    def _reply_to(self, it: Entry) -> Optional[List[str]]:
-        return self._own.pop(it.number, None)
+    def _reply_to(self, entry: Entry) -> Optional[List[str]]:
+        return self._own.pop(entry.number, None)
 
     def _give_up(self, why: str) -> None:
         raise Ended(f"the mirror of the page's pair cannot be used: {why}")
@@ -178,27 +180,27 @@ class People:
     def hear(self, seconds: float = 0) -> None:
         """Takes what the page has reported; if there is nothing, waits at most this many seconds."""
         try:
-            for it in self._journal.come(seconds) if self._is_there else ():
-                self._reached = it.number
-                self._who[it.number] = it.who
-                if it.session:
-                    self._sessions[it.session] = it.who
+            for told in self._journal.come(seconds) if self._is_there else ():
+                self._reached = told.number
+                self._who[told.number] = told.who
+                if told.session:
+                    self._sessions[told.session] = told.who
         except Ended:
             self._is_there = False
         for number in [*self._who][:-MOST_NAMES]:
             del self._who[number]
 
-    def knows(self, it: Entry, seconds: float = 0) -> bool:
+    def knows(self, entry: Entry, seconds: float = 0) -> bool:
         """Whether all is known about who gave a command that can be known; waits for that at most this many seconds."""
         until = time.monotonic() + seconds
         self.hear()
-        while self._is_there and self._reached < it.number and time.monotonic() < until:
+        while self._is_there and self._reached < entry.number and time.monotonic() < until:
             self.hear(until - time.monotonic())
-        return not self._is_there or self._reached >= it.number
+        return not self._is_there or self._reached >= entry.number
 
-    def name(self, it: Entry) -> str:
+    def name(self, entry: Entry) -> str:
         """Who gave a command; empty if that is not known."""
-        return self._who.get(it.number, "") or self._sessions.get(it.session, "")
+        return self._who.get(entry.number, "") or self._sessions.get(entry.session, "")
 
     def close(self) -> None:
         self._journal.close()

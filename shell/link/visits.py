@@ -54,8 +54,8 @@ class Page:
     def get(self, path: str) -> Data:
         return self._asked("GET", path)
 
-    def post(self, path: str, it: Data) -> Data:
-        return self._asked("POST", path, json.dumps(it))
+    def post(self, path: str, content: Data) -> Data:
+        return self._asked("POST", path, json.dumps(content))
 
     def follow(self, path: str) -> "Messages":
         """What the page sends as it comes."""
@@ -144,12 +144,12 @@ def why(status: int, text: str) -> str:
 def object_of(text: str) -> Data:
     """An object of JSON."""
     try:
-        it = json.loads(text)
+        value = json.loads(text)
     except (ValueError, RecursionError):
-        it = None
-    if not isinstance(it, dict):
+        value = None
+    if not isinstance(value, dict):
         raise Ended(NOT_A_PAGE)
-    return it
+    return value
 
 
 def printable(text: str) -> str:

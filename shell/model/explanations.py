@@ -165,8 +165,8 @@ def read_explanation(reply: Sequence[str]) -> Explanation:
     """The explanation that a reply gives."""
     try:
         _, event, came, *lines, _ = reply
-        it, words = Happened.read(event, came), [line.split() for line in lines]
-        return Explanation(it, _against(words) if it.is_refused else _reason(words), lines)
+        happened, words = Happened.read(event, came), [line.split() for line in lines]
+        return Explanation(happened, _against(words) if happened.is_refused else _reason(words), lines)
     except (IndexError, KeyError, ValueError) as error:
         raise NotExplained("\n".join(reply)) from error
 

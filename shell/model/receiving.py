@@ -60,16 +60,16 @@ def received(setup: Setup, kernel: Kernel, node: Node, frame: Frame, fates: Sequ
         yield came
 
 
-def _imported(it: Carried, rule: Optional[int], last: int, now: int) -> State:
-    ends = it.source, it.destination
-    return State(it.name, it.protocol, it.direction, it.wire, it.stack, *ends, it.timeout_class, last, rule, "-", 0, now)
+def _imported(carried: Carried, rule: Optional[int], last: int, now: int) -> State:
+    keys = carried.protocol, carried.direction, carried.wire, carried.stack
+    return State(carried.name, *keys, carried.source, carried.destination, carried.timeout_class, last, rule, "-", 0, now)
 
 
 def _merged(kernel: Kernel, held: State, came: Union[Carried, Changes], last: int) -> Came:
     """The class and the last use are those that came where an end is taken."""
-    it = merged(kernel, held, came)
-    ends = {"source": it.state.source, "destination": it.state.destination}
-    return Came(replace(held, **ends, timeout_class=it.state.timeout_class, last=last if it.taken else held.last), it)
+    merging = merged(kernel, held, came)
+    ends = {"source": merging.state.source, "destination": merging.state.destination}
+    return Came(replace(held, **ends, timeout_class=merging.state.timeout_class, last=last if merging.taken else held.last), merging)
 
 
 def last_of_imported(kernel: Kernel, timeout: Timeout, remaining: int, now: int) -> int:

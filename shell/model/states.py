@@ -38,9 +38,9 @@ class Flow:
     timeout_class: str
 
 
-def is_closed(it: Flow) -> bool:
+def is_closed(state: Flow) -> bool:
     """Whether it is a connection of TCP that both ends have closed."""
-    return it.protocol == "tcp" and min(it.source.level, it.destination.level) >= FIN_WAIT_2
+    return state.protocol == "tcp" and min(state.source.level, state.destination.level) >= FIN_WAIT_2
 
 
 # How many words of a line describe a flow, from its name on.

@@ -93,23 +93,23 @@ def segment(kernel: Kernel, sender: End, receiver: End, packet: PacketEvent) -> 
     is_begun = not is_first(kernel, sender)
     scale = packet.scale if not is_begun and ("S" in packet.flags or not kernel.has(WINDOW)) else sender.scale
     is_scaled = scale is not None and receiver.scale is not None and ("S" not in packet.flags or does_answer)
-    it = Segment(replace(sender, scale=scale), receiver, packet.seq, packet.end, None, window, is_scaled, False)
+    seen = Segment(replace(sender, scale=scale), receiver, packet.seq, packet.end, None, window, is_scaled, False)
     if not is_begun:
-        it = it._replace(sender=_begun(kernel, it))
+        seen = seen._replace(sender=_begun(kernel, seen))
     counts = "A" in packet.flags and receiver.level >= SYN_SENT
     if not kernel.has(WINDOW):
-        return it._replace(ack=packet.ack if counts else None)
+        return seen._replace(ack=packet.ack if counts else None)
     ack = packet.ack if counts and not ("R" in packet.flags and packet.ack == 0) else receiver.lo
-    lo, is_empty = it.sender.lo, packet.seq == packet.end
-    return it._replace(seq=lo if is_empty else packet.seq, end=lo if is_empty else packet.end, ack=ack, is_eased=is_empty)
+    lo, is_empty = seen.sender.lo, packet.seq == packet.end
+    return seen._replace(seq=lo if is_empty else packet.seq, end=lo if is_empty else packet.end, ack=ack, is_eased=is_empty)
 
 
-def _begun(kernel: Kernel, it: Segment) -> End:
+def _begun(kernel: Kernel, seen: Segment) -> End:
     """An end with its first packet. By the kernel it keeps its level and its allowance where these are further on."""
-    sender, hi = it.sender, (it.end + max(1, it.at_scale(it.receiver, it.receiver.window))) % CIRCLE
+    sender, hi = seen.sender, (seen.end + max(1, seen.at_scale(seen.receiver, seen.receiver.window))) % CIRCLE
     if kernel.has(WINDOW) and sender.hi > 1 and not reaches(hi, sender.hi):
         hi = sender.hi
-    return replace(sender, level=max(sender.level, SYN_SENT), window=0, lo=it.seq, hi=hi)
+    return replace(sender, level=max(sender.level, SYN_SENT), window=0, lo=seen.seq, hi=hi)
 
 
 def judged(kernel: Kernel, state: State, packet: PacketEvent) -> OfState:
@@ -120,18 +120,18 @@ def judged(kernel: Kernel, state: State, packet: PacketEvent) -> OfState:
     return tested(kernel, state, segment(kernel, sender, receiver, packet), packet)
 
 
-def tested(kernel: Kernel, state: State, it: Segment, packet: PacketEvent) -> OfState:
+def tested(kernel: Kernel, state: State, seen: Segment, packet: PacketEvent) -> OfState:
     """What a packet of TCP is tested against, as it is judged."""
     edges = {
-        "right": _up_to(it.sender.hi, it.end),
-        "left": _back_to((it.sender.lo - it.at_scale(it.receiver, it.receiver.window)) % CIRCLE, it.seq),
+        "right": _up_to(seen.sender.hi, seen.end),
+        "left": _back_to((seen.sender.lo - seen.at_scale(seen.receiver, seen.receiver.window)) % CIRCLE, seen.seq),
     }
-    if it.ack is not None:
-        edges["ack"] = _near(it.at_scale(it.sender, MOST_APART), it.receiver.lo, it.ack)
-    reset = _beside(it.sender.lo, packet.seq) if kernel.has(RESET) and "R" in packet.flags else None
-    inside = OfState(state.name, edges, it.is_eased, reset)
-    may_be_loose = kernel.has(LOOSE) and not inside.is_inside and is_lenient(it.sender, it.receiver)
-    return inside._replace(loose=_loose(it)) if may_be_loose else inside
+    if seen.ack is not None:
+        edges["ack"] = _near(seen.at_scale(seen.sender, MOST_APART), seen.receiver.lo, seen.ack)
+    reset = _beside(seen.sender.lo, packet.seq) if kernel.has(RESET) and "R" in packet.flags else None
+    inside = OfState(state.name, edges, seen.is_eased, reset)
+    may_be_loose = kernel.has(LOOSE) and not inside.is_inside and is_lenient(seen.sender, seen.receiver)
+    return inside._replace(loose=_loose(seen)) if may_be_loose else inside
 
 
 def is_lenient(sender: End, receiver: End) -> bool:
@@ -139,8 +139,8 @@ def is_lenient(sender: End, receiver: End) -> bool:
     return receiver.level < SYN_SENT or max(sender.level, receiver.level) >= FIN_WAIT_2
 
 
-def _loose(it: Segment) -> Loose:
-    return Loose(_up_to(it.sender.hi + MOST_APART, it.end).missed, _back_to(it.sender.lo - MOST_APART, it.seq).missed)
+def _loose(seen: Segment) -> Loose:
+    return Loose(_up_to(seen.sender.hi + MOST_APART, seen.end).missed, _back_to(seen.sender.lo - MOST_APART, seen.seq).missed)
 
 
 def _up_to(bound: int, number: int) -> Edge:
@@ -176,11 +176,11 @@ def moved(kernel: Kernel, state: State, packet: PacketEvent, now: int) -> Option
     if not packet.is_tcp:
         return _used(_with_ends(state, packet, *_heard(*ends_of(state, packet))), now)
     sender, receiver = ends_of(state, packet)
-    it = segment(kernel, sender, receiver, packet)
-    tests = tested(kernel, state, it, packet)
+    seen = segment(kernel, sender, receiver, packet)
+    tests = tested(kernel, state, seen, packet)
     if tests.is_inside:
-        return _used(_with_ends(state, packet, *_after(it, packet, is_loose=False)), now)
-    return _with_ends(state, packet, *_after(it, packet, is_loose=True)) if tests.passes_loosely else None
+        return _used(_with_ends(state, packet, *_after(seen, packet, is_loose=False)), now)
+    return _with_ends(state, packet, *_after(seen, packet, is_loose=True)) if tests.passes_loosely else None
 
 
 def _with_ends(state: State, packet: PacketEvent, sender: End, receiver: End) -> State:
@@ -194,14 +194,15 @@ def _heard(sender: End, receiver: End) -> Tuple[End, End]:
     return replace(sender, level=max(sender.level, SINGLE)), answered
 
 
-def _after(it: Segment, packet: PacketEvent, is_loose: bool) -> Tuple[End, End]:
+def _after(seen: Segment, packet: PacketEvent, is_loose: bool) -> Tuple[End, End]:
     """The ends after a packet of TCP that passes."""
-    level, other = (_loose_levels if is_loose else _levels)(packet, it.sender.level, it.receiver.level)
-    lo = it.end if it.end != it.sender.lo and reaches(it.end, it.sender.lo) else it.sender.lo
-    offered, hi = it.at_scale(it.sender, it.window), it.receiver.hi
-    if it.ack is not None and reaches(it.ack + offered, hi):
-        hi = (it.ack + max(offered, 1)) % CIRCLE
-    return replace(it.sender, level=level, window=max(it.sender.window, it.window, 1), lo=lo), replace(it.receiver, level=other, hi=hi)
+    level, other = (_loose_levels if is_loose else _levels)(packet, seen.sender.level, seen.receiver.level)
+    lo = seen.end if seen.end != seen.sender.lo and reaches(seen.end, seen.sender.lo) else seen.sender.lo
+    offered, hi = seen.at_scale(seen.sender, seen.window), seen.receiver.hi
+    if seen.ack is not None and reaches(seen.ack + offered, hi):
+        hi = (seen.ack + max(offered, 1)) % CIRCLE
+    sender = replace(seen.sender, level=level, window=max(seen.sender.window, seen.window, 1), lo=lo)
+    return sender, replace(seen.receiver, level=other, hi=hi)
 
 
 def _levels(packet: PacketEvent, sender: int, receiver: int) -> Tuple[int, int]:

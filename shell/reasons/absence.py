@@ -181,9 +181,9 @@ def _fate(question: Question, flight: Flight, name: Name) -> str:
 
 def yet_to_send(node: Node, name: Name, kinds: Container[str] = QUEUES) -> str:
     """A line that a node has yet to send something about a state, by these queues; empty if it has not."""
-    for it in node.queue:
-        if it.name == name and it.kind in kinds:
-            return f"{node.id} has it on its {QUEUES[it.kind]} queue, and has not sent it yet (`flush {node.id}`)"
+    for queued in node.queue:
+        if queued.name == name and queued.kind in kinds:
+            return f"{node.id} has it on its {QUEUES[queued.kind]} queue, and has not sent it yet (`flush {node.id}`)"
     return ""
 
 

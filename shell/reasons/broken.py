@@ -22,9 +22,9 @@ def _cuts(question: Question, ticket: int) -> List[str]:
     while True:
         flight = question.history.flight(ticket)
         size, own = len(flight.frame.data), []
-        for it in (it for it in flight.cuts if it.number < copied):
-            was, size = size, int(it.outcome[1])
-            own += [f"event {it.number} cut frame {ticket} from {was} bytes to {size}"] * (size < was)
+        for cut in (it for it in flight.cuts if it.number < copied):
+            was, size = size, int(cut.outcome[1])
+            own += [f"event {cut.number} cut frame {ticket} from {was} bytes to {size}"] * (size < was)
         lines += reversed(own)
         if flight.origin is None:
             return lines

@@ -40,8 +40,8 @@ def _purged(question: Question) -> List[str]:
     return [*lines, scaled_by(purge.adaptive, node.id, len(left)) or whole]
 
 
-def _expired(question: Question, it: Expiry, state: State) -> str:
-    return f"{state_words(state)} expired at {it.expires} ms: {use_words(question, question.words[1], state, it)}"
+def _expired(question: Question, expiry: Expiry, state: State) -> str:
+    return f"{state_words(state)} expired at {expiry.expires} ms: {use_words(question, question.words[1], state, expiry)}"
 
 
 def _held_lost(node: Node, names: Container[Name]) -> List[str]:

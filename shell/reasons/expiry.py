@@ -15,17 +15,17 @@ def explain_overdue(question: Question, node: Node, state: State) -> List[str]:
     setup = question.lab.setup
     timeout = setup.seconds(node.id, state.rule, state.timeout_class)
     scaled = setup.adaptive.scaled(timeout, len(node.states))
-    it = Expiry(state.name, state.timeout_class, timeout, scaled, state.last + 1000 * scaled)
-    if not question.lab.knows_setup or it.expires > node.clock:
+    expiry = Expiry(state.name, state.timeout_class, timeout, scaled, state.last + 1000 * scaled)
+    if not question.lab.knows_setup or expiry.expires > node.clock:
         return []
-    expired = f"state {state.name} expired at {it.expires} ms ({use_words(question, node.id, state, it)})"
+    expired = f"state {state.name} expired at {expiry.expires} ms ({use_words(question, node.id, state, expiry)})"
     return [f"{expired}; the clock of {node.id} is at {node.clock} ms, and the state is still there because no purge has deleted it"]
 
 
-def use_words(question: Question, node: str, state: State, it: Expiry) -> str:
+def use_words(question: Question, node: str, state: State, expiry: Expiry) -> str:
     """When a state was last used, and its timeout, with what sets that and what shortens it."""
     setup = question.lab.setup
-    said_by = setup.said_by(node, state.rule, it.timeout_class) if question.lab.knows_setup else ""
+    said_by = setup.said_by(node, state.rule, expiry.timeout_class) if question.lab.knows_setup else ""
     said = f" ({said_by})" if said_by else ""
-    scaled = f", scaled to {it.scaled} s" if it.scaled != it.timeout else ""
-    return f"last used at {it.last} ms, and {it.timeout_class} is {it.timeout} s{said}{scaled}"
+    scaled = f", scaled to {expiry.scaled} s" if expiry.scaled != expiry.timeout else ""
+    return f"last used at {expiry.last} ms, and {expiry.timeout_class} is {expiry.timeout} s{said}{scaled}"

@@ -46,14 +46,15 @@ def explained_event(lab: Laboratory, branch: Branch, number: int, paint: Paint, 
 
 def explained_ahead(lab: Laboratory, name: str, event: str, paint: Paint, more: More = no_more) -> List[str]:
     """What would come of an event where a branch stands, and why. If it would be accepted, it happens aside, to see what it would do."""
-    it, branch = lab.explanation(name, event), lab.branch(name)
-    if it.event.is_refused:
-        return _explained(lab, branch, it, paint)
+    explanation, branch = lab.explanation(name, event), lab.branch(name)
+    if explanation.event.is_refused:
+        return _explained(lab, branch, explanation, paint)
     if not lab.knows_setup:
-        return [_head(it, paint), *_indented([*it.lines, "it would be accepted; with --setup FILE, or once it is stepped, `why` says more"])]
+        more_later = "it would be accepted; with --setup FILE, or once it is stepped, `why` says more"
+        return [_head(explanation, paint), *_indented([*explanation.lines, more_later])]
     with lab.beside(branch) as other:
         other.ask(f"{STEP.word} {name} {event}")
-        return explained_event(other, other.branch(name), it.event.number, paint, more)
+        return explained_event(other, other.branch(name), explanation.event.number, paint, more)
 
 
 def explained_last(lab: Laboratory, paint: Paint, columns: Optional[int] = None, more: More = no_more) -> List[str]:
@@ -78,9 +79,9 @@ def explained_last(lab: Laboratory, paint: Paint, columns: Optional[int] = None,
     return lines if lab.is_own else [*lines, *_indented([moved])]
 
 
-def _explained(lab: Laboratory, branch: Branch, it: Explanation, paint: Paint) -> List[str]:
-    before = History(lab, branch.name, branch.events[: it.event.number - 1])
-    return [_head(it, paint), *_indented(reasons(Question(before, it, paint)))]
+def _explained(lab: Laboratory, branch: Branch, explanation: Explanation, paint: Paint) -> List[str]:
+    before = History(lab, branch.name, branch.events[: explanation.event.number - 1])
+    return [_head(explanation, paint), *_indented(reasons(Question(before, explanation, paint)))]
 
 
 def reasons(question: Question) -> List[str]:
@@ -88,8 +89,8 @@ def reasons(question: Question) -> List[str]:
     return _OF_OUTCOMES.get(question.outcome[0], explain_other)(question)
 
 
-def _head(it: Explanation, paint: Paint) -> str:
-    return paint.head(f"{it.event.line}: {it.event.came}")
+def _head(explanation: Explanation, paint: Paint) -> str:
+    return paint.head(f"{explanation.event.line}: {explanation.event.came}")
 
 
 def _indented(lines: Sequence[str]) -> List[str]:

@@ -48,9 +48,9 @@ def _words_for(kernel: Kernel, state: State, packet: PacketEvent) -> str:
     return f"({PAGE})"
 
 
-def passes(it: OfState) -> bool:
+def passes(reason: OfState) -> bool:
     """Whether a packet passes, inside the window or loosely."""
-    return it.is_inside or it.passes_loosely
+    return reason.is_inside or reason.passes_loosely
 
 
 def _by(*switches: Switch) -> str:

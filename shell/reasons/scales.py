@@ -70,14 +70,14 @@ def explain_old_segment(question: Question, state: State) -> List[str]:
     # (most packets are not old: they pass whatever the window is)
     if kernel.has(SCALE) or passes(judged(kernel, _with_window(state, packet, 0), packet)):
         return []
-    it, (_, receiver) = _offered(question, state), ends_of(state, packet)
-    if it is None or receiver.window != it.window or max(it.units, it.later) >= it.window:
+    offered, (_, receiver) = _offered(question, state), ends_of(state, packet)
+    if offered is None or receiver.window != offered.window or max(offered.units, offered.later) >= offered.window:
         return []
-    other = _with_window(state, packet, max(it.units, it.later))
+    other = _with_window(state, packet, max(offered.units, offered.later))
     if any(passes(judged(one, other, packet)) for one in (kernel.with_words([SCALE.word]), _EVERY)):
         return []
     name, missed = _name(state, receiver), judged(kernel, other, packet).edges["left"].missed
-    kept = f"it keeps the window {it.window} of the SYN of the {name} end as {it.units}, in units of the scale {it.scale}"
+    kept = f"it keeps the window {offered.window} of the SYN of the {name} end as {offered.units}, in units of the scale {offered.scale}"
     return [f"{THE_KERNEL} drops this packet: {kept}, and seq {packet.seq} begins {missed} below what that allows (by {BY}; {PAGE})"]
 
 
@@ -87,14 +87,15 @@ def explain_kept_in_units(question: Question, state: State) -> List[str]:
     kernel, packet = question.lab.setup.kernel, question.packet
     if not kernel.has(SCALE) or judged(kernel, state, packet).edges["left"].missed is None:
         return []
-    it, (_, receiver) = _offered(question, state), ends_of(state, packet)
-    if it is None or not it.units <= receiver.window < it.window:
+    offered, (_, receiver) = _offered(question, state), ends_of(state, packet)
+    if offered is None or not offered.units <= receiver.window < offered.window:
         return []
-    if not passes(judged(kernel.without(SCALE), _with_window(state, packet, it.window), packet)):
+    if not passes(judged(kernel.without(SCALE), _with_window(state, packet, offered.window), packet)):
         return []
     name = _name(state, receiver)
-    kept = f"by {BY} the window {it.window} of the SYN of the {name} end was kept as {it.units}, in units of the scale {it.scale}"
-    return [f"{kept}; by the profile it counts as {it.window} such units, and this packet passes"]
+    whose = f"by {BY} the window {offered.window} of the SYN of the {name} end"
+    kept = f"{whose} was kept as {offered.units}, in units of the scale {offered.scale}"
+    return [f"{kept}; by the profile it counts as {offered.window} such units, and this packet passes"]
 
 
 def _offered(question: Question, state: State) -> Optional[Offered]:

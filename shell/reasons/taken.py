@@ -53,61 +53,61 @@ def came_records(history: History, number: int, ticket: int) -> List[Came]:
 # ---- what became of a record
 
 
-def became(it: Came) -> str:
+def became(fate: Came) -> str:
     """What became of a record, and why."""
-    kind, node = it.taken.fate[0], it.node.id
-    held = "; its held packet is dropped" if it.name in [one.name for one in it.node.held] else ""
+    kind, node = fate.taken.fate[0], fate.node.id
+    held = "; its held packet is dropped" if fate.name in [one.name for one in fate.node.held] else ""
     if kind in ("bad", "imported", "merged"):
-        return {"bad": _bad, "imported": _imported, "merged": _merged}[kind](it) + held * (kind == "merged")
-    if it.record.kind is BULK_STATUS:
-        return _heard(int(it.record.about[0]), it.node)
-    if it.record.kind is CLEAR:
-        names = name_list(sorted(name for name in it.node.states if it.taken.takes(name)))
-        of = "of boot {} up to id {}".format(*it.record.about)
-        return f"{node} cleared {counted(int(it.taken.fate[1]), 'state')} {of}" + f": {names}" * bool(names)
-    ends = it.taken.fate[-1] == "ends"
+        return {"bad": _bad, "imported": _imported, "merged": _merged}[kind](fate) + held * (kind == "merged")
+    if fate.record.kind is BULK_STATUS:
+        return _heard(int(fate.record.about[0]), fate.node)
+    if fate.record.kind is CLEAR:
+        names = name_list(sorted(name for name in fate.node.states if fate.taken.takes(name)))
+        of = "of boot {} up to id {}".format(*fate.record.about)
+        return f"{node} cleared {counted(int(fate.taken.fate[1]), 'state')} {of}" + f": {names}" * bool(names)
+    ends = fate.taken.fate[-1] == "ends"
     return {
-        "asked": f"unknown: {node} has no such state, and {'has asked for it already' if it.name in it.node.asks else 'asks for it'}",
+        "asked": f"unknown: {node} has no such state, and {'has asked for it already' if fate.name in fate.node.asks else 'asks for it'}",
         "queued": "asked for: the whole state is queued as an update",
         "bulk": f"{node} has no state to send: the bulk update is over at once" if ends else f"{node} begins a bulk update",
         "acknowledged": "acknowledged: its held packet is released",
         "deleted": f"deleted{held}",
-        "nothing": _nothing(it),
+        "nothing": _nothing(fate),
     }[kind]
 
 
-def _bad(it: Came) -> str:
+def _bad(fate: Came) -> str:
     """Why a record cannot be used."""
-    why, node = it.taken.fate[1], it.node
-    if isinstance(it.record.state, Carried) and why in ("wire", "stack"):
-        key = it.record.state.wire if why == "wire" else it.record.state.stack
-        return f"bad: its {why} key is in use: {node.id} has state {it.taken.fate[2]} for {key.near} and {key.far}"
-    has = f"{node.id} has a state {it.name} already"
-    known = node.states.get(it.name)
+    why, node = fate.taken.fate[1], fate.node
+    if isinstance(fate.record.state, Carried) and why in ("wire", "stack"):
+        key = fate.record.state.wire if why == "wire" else fate.record.state.stack
+        return f"bad: its {why} key is in use: {node.id} has state {fate.taken.fate[2]} for {key.near} and {key.far}"
+    has = f"{node.id} has a state {fate.name} already"
+    known = node.states.get(fate.name)
     return "bad: " + {
-        "unknown": f"{node.id} has no such state to {'send' if it.record.kind is UPDATE_REQUEST else 'delete'}",
+        "unknown": f"{node.id} has no such state to {'send' if fate.record.kind is UPDATE_REQUEST else 'delete'}",
         "known": f"{has} ({known.protocol} {known.wire.near}, {known.wire.far})" if known else has,
-        "notgiven": f"{node.id} is boot {node.boot} itself and has not assigned the id {it.name.id} yet (its next id is {node.next_id})",
+        "notgiven": f"{node.id} is boot {node.boot} itself and has not assigned the id {fate.name.id} yet (its next id is {node.next_id})",
         "deleting": f"{node.id} has deleted the state, and has yet to report that",
-        "full": f"the state table of {node.id} is full: {it.limit}",
+        "full": f"the state table of {node.id} is full: {fate.limit}",
     }[why]
 
 
-def _imported(it: Came) -> str:
-    last = f"last used at {it.taken.last} ms" + f", which is ahead of {it.node.id}'s clock" * ((it.taken.last or 0) > it.node.clock)
-    if it.record.kind is not INSERT:
-        return f"new: inserted, since {it.node.id} did not know the state; {last}"
-    asks = isinstance(it.record.state, Carried) and it.record.state.asks_for_acknowledgement
+def _imported(fate: Came) -> str:
+    last = f"last used at {fate.taken.last} ms" + f", which is ahead of {fate.node.id}'s clock" * ((fate.taken.last or 0) > fate.node.clock)
+    if fate.record.kind is not INSERT:
+        return f"new: inserted, since {fate.node.id} did not know the state; {last}"
+    asks = isinstance(fate.record.state, Carried) and fate.record.state.asks_for_acknowledgement
     return f"new: inserted; {last}" + "; it asks for an acknowledgement, which is queued" * asks
 
 
-def _merged(it: Came) -> str:
+def _merged(fate: Came) -> str:
     """An update of a known state: each end is taken unless it is stale."""
-    stale, taken, last = it.taken.stale, it.taken.taken, f"last used at {it.taken.last} ms"
-    why = "; ".join(_staleness(it, end) for end in stale)
+    stale, taken, last = fate.taken.stale, fate.taken.taken, f"last used at {fate.taken.last} ms"
+    why = "; ".join(_staleness(fate, end) for end in stale)
     if not stale:
         return f"merged: neither end is behind the one here; {last}"
-    answer = _answer(it)
+    answer = _answer(fate)
     if not taken:
         return f"stale: {why}{answer}"
     if len(taken) == 2:
@@ -116,20 +116,20 @@ def _merged(it: Came) -> str:
     return f"merged in part, counted as stale: the {taken[0]} end is taken; {why}; {last}{answer}"
 
 
-def _answer(it: Came) -> str:
+def _answer(fate: Came) -> str:
     """What the receiver sends of a state of which an end was stale."""
-    known, node = it.node.states.get(it.name), it.node.id
+    known, node = fate.node.states.get(fate.name), fate.node.id
     if known is None:
         return ""
-    queued = next((one.kind for one in it.node.queue if one.name == it.name), INSERT_ACK.queue)
+    queued = next((one.kind for one in fate.node.queue if one.name == fate.name), INSERT_ACK.queue)
     if queued == INSERT_ACK.queue:
         return f"; {node} queues its own state for {other(node)}, as a short update"
     return f"; {node} has its own state queued for {other(node)} already ({QUEUES[queued]})"
 
 
-def _staleness(it: Came, end: str) -> str:
+def _staleness(fate: Came, end: str) -> str:
     """Why an end that came is behind the one here."""
-    known, carried = it.node.states.get(it.name), it.record.state
+    known, carried = fate.node.states.get(fate.name), fate.record.state
     if known is None or carried is None:
         return f"the {end} end is behind the one here"
     came, here = (one.source if end == "source" else one.destination for one in (carried, known))
@@ -140,14 +140,14 @@ def _staleness(it: Came, end: str) -> str:
     return f"the {end} end came as {names[0]}, and is {names[1]} here"
 
 
-def _nothing(it: Came) -> str:
+def _nothing(fate: Came) -> str:
     """Why a request or an acknowledgement changed nothing."""
-    known = it.node.states.get(it.name)
-    if it.record.kind is not INSERT_ACK:
+    known = fate.node.states.get(fate.name)
+    if fate.record.kind is not INSERT_ACK:
         is_kept = known is not None and "n" in known.flags
         return "asked for, but its rule says `no-sync`: it is not sent" if is_kept else "asked for: it is queued already"
     if known is None:
-        return f"unknown: {it.node.id} has no such state, and ignores it"
+        return f"unknown: {fate.node.id} has no such state, and ignores it"
     return "acknowledged: nothing was waiting for it any more"
 
 
@@ -191,9 +191,9 @@ def _endless(came: List[Came]) -> List[str]:
     return [f"{answered}: by this project's profile the two can continue like this without end; {rest} ({PAGE})"]
 
 
-def _is_crossed(it: Came) -> bool:
+def _is_crossed(fate: Came) -> bool:
     """Whether the destination end that is here would be stale at the sender as well, which has what came."""
-    known, carried = it.node.states.get(it.name), it.record.state
+    known, carried = fate.node.states.get(fate.name), fate.record.state
     if known is None or carried is None or known.protocol != "tcp":
         return False
     came, here = carried.destination, known.destination
@@ -242,8 +242,8 @@ def _begun(came: List[Came], after: Node) -> List[str]:
     queued = [it.name for it in after.queue]
     due = [
         name
-        for name, it in sorted(after.states.items())
-        if name > Name.read(cursor) and name not in queued and "n" not in it.flags and (it.peer or 0) <= int(since)
+        for name, state in sorted(after.states.items())
+        if name > Name.read(cursor) and name not in queued and "n" not in state.flags and (state.peer or 0) <= int(since)
     ]
     passed = "; turns skip states that are already queued or `no-sync`" * (len(due) < len(after.states))
     names = f": {name_list(due)}" * bool(due)

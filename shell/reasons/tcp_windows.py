@@ -115,8 +115,8 @@ def _edge(which: str, kernel: Kernel, reason: OfState, state: State, packet: Pac
     if which == "left":
         beyond = "not below" if edge.missed is None else f"{edge.missed} below"
         # (an end that had been silent begins with this packet, and the other one's scale may be void by it)
-        it = segment(kernel, sender, receiver, packet)
-        first, receiver = it.sender.lo, it.receiver
+        seen = segment(kernel, sender, receiver, packet)
+        first, receiver = seen.sender.lo, seen.receiver
         window = (first - bound) % CIRCLE
         scaled = "" if window == receiver.window else f" ({receiver.window} at scale {receiver.scale})"
         less = f"lo {first} of the {name} end less the window {window}{scaled} of the {other} end{', mod 2^32' * (first < window)}"

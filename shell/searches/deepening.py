@@ -85,18 +85,18 @@ def _found(run: Run, branch: Branch, sought: Sought, answer: Found, asked: Asked
     """The events that were found, each with what it does."""
     steps: List[Step] = []
     for number, event in enumerate(answer.events, branch.cursor + 1):
-        it = Happened(number, event, outcome_of(_step(run, branch, event)))
-        steps.append(Step(it, _frame(run, branch, it)))
+        happened = Happened(number, event, outcome_of(_step(run, branch, event)))
+        steps.append(Step(happened, _frame(run, branch, happened)))
     last = read_shown(run.ask_freely(f"show {branch.name}"))
     packet = _would(run, branch, sought.packet) if sought.packet else ""
     at_other = _would(run, branch, sought.packet_of_other) if sought.kind == SPLITS else ""
     return Outcome(answer, len(steps), asked, None, tuple(steps), packet, at_other, last)
 
 
-def _frame(run: Run, branch: Branch, it: Happened) -> Optional[Frame]:
-    if it.kind is not FLUSH and it.words[0] not in OF_FRAME:
+def _frame(run: Run, branch: Branch, happened: Happened) -> Optional[Frame]:
+    if happened.kind is not FLUSH and happened.words[0] not in OF_FRAME:
         return None
-    ticket = (it.outcome if it.kind is FLUSH else it.words)[1]
+    ticket = (happened.outcome if happened.kind is FLUSH else happened.words)[1]
     return read_flight(run.ask_freely(f"frame {branch.name} {ticket}")).now
 
 

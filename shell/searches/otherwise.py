@@ -27,11 +27,11 @@ def by_other_rules(lab: Laboratory, branch: Branch, sought: Sought, answer: Opti
     return "" if other and is_same(answer, other) else f"{kernel.by}: {_words(other)}"
 
 
-def _words(it: Optional[Answer]) -> str:
-    if isinstance(it, Found):
-        events = f": {', '.join(it.events)}" if it.events else ""
-        return f"found, {counted(len(it.events), 'event')}{events}"
-    if isinstance(it, NoRun):
-        length = "of any length" if it.depth is None else f"of at most {counted(it.depth, 'event')}"
-        return f"no run {length}" + ", and it was never asked" * (not it.asked)
-    return f"gave up after {counted(it.runs, 'run')}" if isinstance(it, GaveUp) else "interrupted"
+def _words(answer: Optional[Answer]) -> str:
+    if isinstance(answer, Found):
+        events = f": {', '.join(answer.events)}" if answer.events else ""
+        return f"found, {counted(len(answer.events), 'event')}{events}"
+    if isinstance(answer, NoRun):
+        length = "of any length" if answer.depth is None else f"of at most {counted(answer.depth, 'event')}"
+        return f"no run {length}" + ", and it was never asked" * (not answer.asked)
+    return f"gave up after {counted(answer.runs, 'run')}" if isinstance(answer, GaveUp) else "interrupted"

@@ -11,9 +11,9 @@ from .differences import Difference, differences
 
 def changes(lab: Laboratory, branch: Branch, number: int, paint: Paint) -> List[str]:
     """The event with its outcome, and everything that it changed, before and after."""
-    it = lab.explanation(branch.name, number).event
+    event = lab.explanation(branch.name, number).event
     before, after = (lab.with_contents(lab.past(branch.name, place), branch) for place in (number - 1, number))
-    lines = [paint.head(f"event {number}: {it.line}: {it.came}")]
+    lines = [paint.head(f"event {number}: {event.line}: {event.came}")]
     if number > branch.cursor:
         lines.append(paint.dim("  it was undone: this is what it changed before that"))
     found = differences(before, after)

@@ -119,9 +119,9 @@ def _times_apart(pair: Pair, name: Name, setup: Optional[Setup]) -> List[str]:
 def _only_apart(compared: Compared) -> List[str]:
     """The states that agree except for what may differ: one line for those that differ in the same way."""
     names: Dict[str, List[str]] = {}
-    for it in compared.agreeing:
-        if it in compared.apart:
-            names.setdefault(", ".join(compared.apart[it]), []).append(str(it))
+    for name in compared.agreeing:
+        if name in compared.apart:
+            names.setdefault(", ".join(compared.apart[name]), []).append(str(name))
     return [f"agree, but apart: {', '.join(those)}  {apart}" for apart, those in names.items()]
 
 
@@ -215,9 +215,9 @@ def _difference_lines(found: List[Difference], one: str, two: str) -> List[str]:
 def _of_subject(where: str, of: str, group: List[Difference], one: str, two: str) -> List[str]:
     lines: List[str] = []
     parts: List[str] = []
-    for it in group:
-        if it.is_new or it.is_gone:
-            lines.append(f"{where}: {it.of} only in {one if it.is_gone else two}: {it.before or it.after}")
+    for difference in group:
+        if difference.is_new or difference.is_gone:
+            lines.append(f"{where}: {difference.of} only in {one if difference.is_gone else two}: {difference.before or difference.after}")
         else:
-            parts.append(f"{it.part} {it.before} | {it.after}".strip())
+            parts.append(f"{difference.part} {difference.before} | {difference.after}".strip())
     return ([f"{where}: {of}: {', '.join(parts)}"] if parts else []) + lines

@@ -130,12 +130,12 @@ def _to_be_sent(node: Node, paint: Paint, width: int) -> List[str]:
     return [paint.note(" " * (FURTHER if at else 2) + it) for at, it in enumerate(lines)]
 
 
-def held_packet(it: Held, node: Node, setup: Optional[Setup]) -> str:
+def held_packet(held: Held, node: Node, setup: Optional[Setup]) -> str:
     """A held packet with its state, and when it is due."""
-    due = it.since + (setup or Setup()).limits[DEFER_MS]
+    due = held.since + (setup or Setup()).limits[DEFER_MS]
     when = f"due since {seconds(due)}" if due <= node.clock else f"due at {seconds(due)}"
-    packet = f" ({it.packet})" if it.packet else ""
-    return f"held packet of {it.name}{packet}: since {seconds(it.since)}, {when}"
+    packet = f" ({held.packet})" if held.packet else ""
+    return f"held packet of {held.name}{packet}: since {seconds(held.since)}, {when}"
 
 
 def _bulk_update(node: Node, setup: Optional[Setup], paint: Paint) -> List[str]:
@@ -161,12 +161,12 @@ def _link(pair: Pair, setup: Optional[Setup], paint: Paint) -> List[str]:
     return lines
 
 
-def flight(it: Flight, cursor: int, setup: Optional[Setup], paint: Paint) -> List[str]:
+def flight(flight: Flight, cursor: int, setup: Optional[Setup], paint: Paint) -> List[str]:
     """A frame as it was sent, and the events that sent it and happened to it, when this many of the branch's events stand."""
-    lines = [line[2:] for line in _frame(it.frame, setup, paint)]
-    lines += [f"  {one}" if one.number <= cursor else paint.dim(f"  {one}  (undone)") for one in (it.sent, *it.later)]
-    is_over = it.ended is not None and it.ended.number <= cursor
-    return lines + ["  it is in flight"] * (it.sent.number <= cursor and not is_over)
+    lines = [line[2:] for line in _frame(flight.frame, setup, paint)]
+    lines += [f"  {one}" if one.number <= cursor else paint.dim(f"  {one}  (undone)") for one in (flight.sent, *flight.later)]
+    is_over = flight.ended is not None and flight.ended.number <= cursor
+    return lines + ["  it is in flight"] * (flight.sent.number <= cursor and not is_over)
 
 
 def _frame(frame: Frame, setup: Optional[Setup], paint: Paint) -> List[str]:

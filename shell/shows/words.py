@@ -41,33 +41,33 @@ def _with_port_of(end: str, other: str) -> str:
     return f"{end.rpartition(':')[0]}:{other.rpartition(':')[2]}"
 
 
-def flow(it: Flow) -> str:
+def flow(state: Flow) -> str:
     """The flow as pfctl prints a state: the near end, an arrow in the direction of its first packet, the far end; in brackets what
     translation hides."""
-    outward = it.direction == "out"
-    printed, other = (it.wire, it.stack) if outward else (it.stack, it.wire)
+    outward = state.direction == "out"
+    printed, other = (state.wire, state.stack) if outward else (state.stack, state.wire)
     near, far = other.near, other.far
-    if it.protocol == "icmp":
+    if state.protocol == "icmp":
         # An echo has its identifier as both ports; pfctl puts it in brackets at only one end.
         near, far = (near, _with_port_of(far, printed.far)) if outward else (_with_port_of(near, printed.near), far)
     arrow = "->" if outward else "<-"
-    return f"{it.protocol} {_with_other(printed.near, near)} {arrow} {_with_other(printed.far, far)}"
+    return f"{state.protocol} {_with_other(printed.near, near)} {arrow} {_with_other(printed.far, far)}"
 
 
-def near_and_far(it: Flow) -> Tuple[End, End]:
+def near_and_far(state: Flow) -> Tuple[End, End]:
     """The ends of the connection in the order in which pfctl prints them: the near one sent the first packet on its way out."""
-    return (it.source, it.destination) if it.direction == "out" else (it.destination, it.source)
+    return (state.source, state.destination) if state.direction == "out" else (state.destination, state.source)
 
 
-def levels(it: Flow) -> str:
+def levels(state: Flow) -> str:
     """The levels of the near and the far end, as pfctl prints them."""
-    near, far = near_and_far(it)
-    return f"{level_name(it.protocol, near.level)}:{level_name(it.protocol, far.level)}"
+    near, far = near_and_far(state)
+    return f"{level_name(state.protocol, near.level)}:{level_name(state.protocol, far.level)}"
 
 
-def state_line(it: Flow) -> str:
+def state_line(state: Flow) -> str:
     """A state as the first line that pfctl prints of it, after its name."""
-    return f"{it.name}  {flow(it)}  {levels(it)}"
+    return f"{state.name}  {flow(state)}  {levels(state)}"
 
 
 def sequence(end: End) -> str:
@@ -163,8 +163,8 @@ def request(name: Name) -> str:
     return "0.0 (all states)" if name == ALL_STATES else str(name)
 
 
-def cleared(it: Cleared) -> str:
-    return f"creator {it.creator} up to id {it.bound}"
+def cleared(cleared: Cleared) -> str:
+    return f"creator {cleared.creator} up to id {cleared.bound}"
 
 
 def bulk_status(status: int) -> str:
