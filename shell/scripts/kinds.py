@@ -49,11 +49,17 @@ _OF_DUMP = re.compile(
     r"|\[\d+ ?\+ ?\d+\]|age +\d+:\d\d:\d\d,|id: +[0-9a-f]{16}\b|pfsync:$|\d+ [a-z]",
     re.ASCII,
 )
-# The words that begin a statement of a pf.conf, but for `set`, which begins a line of a script, too.
-STATEMENTS = (
-    *("pass", "block", "match", "scrub", "antispoof", "anchor", "load", "table", "include", "altq", "queue", "no"),
-    *(f"{it}{anchor}" for it in ("nat", "rdr", "binat") for anchor in ("", "-anchor")),
-)
+_TRANSLATIONS = ("nat", "rdr", "binat")
+# The words that begin a statement of a pf.conf, each with what may follow it as a regular expression. `set` is not among them: it begins a
+# line of a script, too.
+STATEMENTS = {
+    **dict.fromkeys(("pass", "block", "match", "scrub", "antispoof", "anchor", "altq", "queue"), ""),
+    **{f"{word}{anchor}": "" for word in _TRANSLATIONS for anchor in ("", "-anchor")},
+    "no": "|".join(_TRANSLATIONS),
+    "load": "anchor",
+    "table": "<",
+    "include": '"',
+}
 # What is in files of several kinds: comments, a macro of a pf.conf, and a timeout.
 _OF_SEVERAL = re.compile(rf"#|\w+[ \t]*=|{SET.word} +{TIMEOUT.word} +[^ {{]")
 _OF_SCRIPT = {*SETUP, *COMMANDS, *EVENTS, SEARCH} - {SET.word}
@@ -122,4 +128,4 @@ def _kind_of_line(line: str) -> Optional[Kind]:
         return SCRIPT
     if word == SET.word and others:
         return SCRIPT if others[0] in LIMITS else PF_CONF
-    return PF_CONF if word in STATEMENTS else None
+    return PF_CONF if word in STATEMENTS and re.match(STATEMENTS[word], " ".join(others)) else None

@@ -70,7 +70,7 @@ class Recognised(unittest.TestCase):
         self.assertEqual(kind_of(b"\x1f\x8bdamaged"), PACKED)
 
     def test_a_file_with_faults_may_be_of_any_kind(self) -> None:
-        self.assertEqual(self.kinds("", "# nothing\n", "rul a pass\nopn\n", "set timeout tcp.first 30\n", "a = 1\n", "\x7fELF\n"), (None,) * 6)
+        self.assertEqual(self.kinds("", "# nothing\n", "rul a pass\nopn\n", "set timeout tcp.first 30\n", "a = 1\n", "no file\n", "\x7fELF\n"), (None,) * 7)
         self.assertEqual(self.kinds("rule a pass any\npass out all\nopen\n", f"{ALL[0]}open\n", f"pass out\n{ALL[0]}"), (None,) * 3)
 
     def test_a_line_that_may_be_cut_says_nothing(self) -> None:
