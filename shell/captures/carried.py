@@ -62,12 +62,12 @@ class Carried(NamedTuple):
 
 def carried(packets: Iterable[Packet]) -> Iterator[Union[Carried, Unread]]:
     """The packets of IP among those of a capture."""
-    for it in packets:
-        its = datagram(it)
+    for packet in packets:
+        its = datagram(packet)
         if its is None:
             continue
-        found = ip_packet(its, it.length - (len(it.data) - len(its)))
-        yield found if isinstance(found, Unread) else Carried(it.time, found)
+        found = ip_packet(its, packet.length - (len(packet.data) - len(its)))
+        yield found if isinstance(found, Unread) else Carried(packet.time, found)
 
 
 def ip_packet(its: bytes, length: int) -> Union[IpPacket, Unread]:

@@ -145,13 +145,13 @@ def _later(ordered: Sequence[Both], drift: _Drift) -> Tuple[Dict[str, int], floa
         return {}, 0.0
     apart, gaps = [], []
     former: Optional[Both] = None
-    for it in ordered:
-        if former is None or former.sender == it.sender:
-            former = it
+    for both in ordered:
+        if former is None or former.sender == both.sender:
+            former = both
             continue
-        one, two = (former, it) if former.sender == senders[0] else (it, former)
+        one, two = (former, both) if former.sender == senders[0] else (both, former)
         apart.append(one.apart - two.apart - int((one.a - two.a) * drift.slope))
-        gaps.append(it.a - former.a)
+        gaps.append(both.a - former.a)
         former = None
     later = median_low(apart)
     spread = median([abs(it - later) for it in apart])

@@ -45,17 +45,17 @@ def message(checksum: bytes, records: Sequence[Record], creator: int = 0) -> byt
     return _packed(layout.HEADER, {"version": layout.VERSION, "len": layout.HEADER.size + len(body), "pfcksum": checksum}) + body
 
 
-def record(it: Record, creator: int = 0) -> bytes:
+def record(record: Record, creator: int = 0) -> bytes:
     """A record in the kernel's layout; a bulk status has this creator."""
-    if isinstance(it.state, Carried):
-        return _state(it.state)
-    if isinstance(it.state, Changes):
-        return _short_update(it.name, it.state)
-    if it.kind is CLEAR:
-        return _packed(layout.CLEAR, {"creatorid": int(it.about[0])})
-    if it.kind is BULK_STATUS:
-        return _packed(layout.BULK_STATUS, {"creatorid": creator, "status": int(it.about[0])})
-    return _packed(layout.NAME, {"id": it.name.id, "creatorid": it.name.creator})
+    if isinstance(record.state, Carried):
+        return _state(record.state)
+    if isinstance(record.state, Changes):
+        return _short_update(record.name, record.state)
+    if record.kind is CLEAR:
+        return _packed(layout.CLEAR, {"creatorid": int(record.about[0])})
+    if record.kind is BULK_STATUS:
+        return _packed(layout.BULK_STATUS, {"creatorid": creator, "status": int(record.about[0])})
+    return _packed(layout.NAME, {"id": record.name.id, "creatorid": record.name.creator})
 
 
 def creator_of_bulk_status(frame: bytes) -> int:
@@ -89,49 +89,49 @@ def _field(value: Union[int, bytes], size: int) -> bytes:
     return value.to_bytes(size, "big") if isinstance(value, int) else value[:size].ljust(size, b"\0")
 
 
-def _state(it: Carried) -> bytes:
+def _state(carried: Carried) -> bytes:
     return _packed(
         layout.STATE,
         {
-            "id": it.name.id,
+            "id": carried.name.id,
             "ifname": FLOATING,
-            "key[0].addr[2]": _addresses(it.wire),
-            "key[0].port[2]": _ports(it.wire),
-            "key[1].addr[2]": _addresses(it.stack),
-            "key[1].port[2]": _ports(it.stack),
-            "src": _peer(it.source),
-            "dst": _peer(it.destination),
-            "rule": NO_RULE if it.rule is None else it.rule,
+            "key[0].addr[2]": _addresses(carried.wire),
+            "key[0].port[2]": _ports(carried.wire),
+            "key[1].addr[2]": _addresses(carried.stack),
+            "key[1].port[2]": _ports(carried.stack),
+            "src": _peer(carried.source),
+            "dst": _peer(carried.destination),
+            "rule": NO_RULE if carried.rule is None else carried.rule,
             "anchor": NO_RULE,
             "nat_rule": NO_RULE,
-            "expire": it.remaining,
-            "creatorid": it.name.creator,
-            "af": FAMILIES[family(it.wire.far)],
-            "proto": PROTOCOLS[it.protocol] if it.protocol in PROTOCOLS else int(it.protocol),
-            "direction": DIRECTIONS[it.direction],
-            "state_flags": ASKS_FOR_ACKNOWLEDGEMENT * it.asks_for_acknowledgement,
-            "timeout": _CLASS_NUMBERS[it.timeout_class],
+            "expire": carried.remaining,
+            "creatorid": carried.name.creator,
+            "af": FAMILIES[family(carried.wire.far)],
+            "proto": PROTOCOLS[carried.protocol] if carried.protocol in PROTOCOLS else int(carried.protocol),
+            "direction": DIRECTIONS[carried.direction],
+            "state_flags": ASKS_FOR_ACKNOWLEDGEMENT * carried.asks_for_acknowledgement,
+            "timeout": _CLASS_NUMBERS[carried.timeout_class],
         },
     )
 
 
-def _short_update(name: Name, it: Changes) -> bytes:
+def _short_update(name: Name, changes: Changes) -> bytes:
     return _packed(
         layout.SHORT_UPDATE,
         {
             "id": name.id,
-            "src": _peer(it.source),
-            "dst": _peer(it.destination),
+            "src": _peer(changes.source),
+            "dst": _peer(changes.destination),
             "creatorid": name.creator,
-            "expire": it.remaining,
-            "timeout": _CLASS_NUMBERS[it.timeout_class],
+            "expire": changes.remaining,
+            "timeout": _CLASS_NUMBERS[changes.timeout_class],
         },
     )
 
 
-def _peer(it: End) -> bytes:
-    scale = 0 if it.scale is None else HAS_SCALE | it.scale
-    return _packed(layout.PEER, {"seqlo": it.lo, "seqhi": it.hi, "max_win": it.window, "state": it.level, "wscale": scale})
+def _peer(end: End) -> bytes:
+    scale = 0 if end.scale is None else HAS_SCALE | end.scale
+    return _packed(layout.PEER, {"seqlo": end.lo, "seqhi": end.hi, "max_win": end.window, "state": end.level, "wscale": scale})
 
 
 def _addresses(key: Key) -> bytes:

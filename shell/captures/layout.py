@@ -148,8 +148,8 @@ class Action(NamedTuple):
 # The group that ends a message has a count and no records.
 END = Action(12, "EOF", Layout("none", ()))
 ACTIONS: Dict[int, Action] = {
-    it.number: it
-    for it in (
+    action.number: action
+    for action in (
         Action(0, "CLR", CLEAR),
         Action(1, "INS", STATE),
         Action(2, "INS_ACK", NAME),

@@ -56,10 +56,10 @@ class Overlay:
         shortest = min(it.shortest for it in self.surveys)
         if shortest < WHOLE and len(paths) == 2:
             self.surveys = [surveyed(file, path, max(shortest, LEAST_COMPARED)) for file, path in zip(files, paths)]
-        for it in self.surveys:
-            if not it.messages:
+        for survey in self.surveys:
+            if not survey.messages:
                 alone = "; if it is, its node sent and heard nothing: give the other capture alone" * (len(paths) == 2)
-                raise BadCapture(it.fault or f"{it.name} has no message of pfsync: is it a capture of the sync interface?{alone}")
+                raise BadCapture(survey.fault or f"{survey.name} has no message of pfsync: is it a capture of the sync interface?{alone}")
         self.sides = sides(self.surveys, a)
         # From when to when each capture is, by the clock of a.
         self.covered = [self._period(which, it) for which, it in enumerate(self.surveys)]
@@ -266,10 +266,10 @@ class _Waiting:
 
     def _find_cut(self, head: _Entry) -> None:
         """Marks a message of which fewer bytes came."""
-        for it in self._cut:
-            if it.node == head.node and 0 <= it.time - head.time <= WINDOW and head.payload.startswith(it.payload):
+        for cut in self._cut:
+            if cut.node == head.node and 0 <= cut.time - head.time <= WINDOW and head.payload.startswith(cut.payload):
                 head.is_cut = True
-                self._cut.remove(it)
+                self._cut.remove(cut)
                 return
 
     def _put_back(self, entry: _Entry) -> None:

@@ -63,29 +63,29 @@ class Passed(NamedTuple):
 
 def logged(packets: Iterable[Packet], path: str) -> Iterator[Union[Logged, Passed, Unread]]:
     """The packets of a log."""
-    for it in packets:
-        if it.link != LINK:
+    for packet in packets:
+        if packet.link != LINK:
             other = "one of another interface goes with --data-a or --data-b"
-            raise BadCapture(f"{path}: its link type is {it.link}, and that of a capture of pflog0 is {LINK}; {other}")
-        found = _read(it)
+            raise BadCapture(f"{path}: its link type is {packet.link}, and that of a capture of pflog0 is {LINK}; {other}")
+        found = _read(packet)
         if found:
             yield found
 
 
-def _read(it: Packet) -> Union[Logged, Passed, Unread, None]:
-    if len(it.data) < HEADER.size:
+def _read(captured: Packet) -> Union[Logged, Passed, Unread, None]:
+    if len(captured.data) < HEADER.size:
         return Unread("a packet whose header was captured short: use tcpdump -s 0")
-    size, _, action, reason, interface, anchor, number, inner, *_, direction = _HEADER.unpack_from(it.data)
+    size, _, action, reason, interface, anchor, number, inner, *_, direction = _HEADER.unpack_from(captured.data)
     if size < HEADER.size or direction not in _DIRECTIONS:
         return Unread("a packet whose header is not that of FreeBSD 12 or 13")
     if action != _DROPPED:
-        return Passed(it.time) if action == _PASSED else Unread("a packet that was neither passed nor blocked")
+        return Passed(captured.time) if action == _PASSED else Unread("a packet that was neither passed nor blocked")
     begin = (size + _ALIGNED - 1) // _ALIGNED * _ALIGNED
-    packet = ip_packet(it.data[begin:], it.length - begin)
+    packet = ip_packet(captured.data[begin:], captured.length - begin)
     if isinstance(packet, Unread):
         return packet
     why = REASONS[reason] if reason < len(REASONS) else f"reason {reason}"
-    return Logged(it.time, packet, _DIRECTIONS[direction], _text(interface), _rule(number, inner, _text(anchor)), why)
+    return Logged(captured.time, packet, _DIRECTIONS[direction], _text(interface), _rule(number, inner, _text(anchor)), why)
 
 
 def _rule(number: int, inner: int, anchor: str) -> str:

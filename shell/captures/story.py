@@ -152,9 +152,9 @@ class Story:
                     self._compare(frame, record, state, before, which)
         if ask is not None:
             state.asked[1 - which] = None
-            for it in ask.waiting():
-                it.answer = frame
-                self.answered += self.selects(it.frame, state)
+            for asked in ask.waiting():
+                asked.answer = frame
+                self.answered += self.selects(asked.frame, state)
         self._remember(frame, record, state, which)
         state.whole[which] = frame
         if state.first[which] is None:

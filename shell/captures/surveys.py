@@ -94,9 +94,9 @@ class Survey:
 
 def surveyed(path: str, name: str, compared: int = WHOLE) -> Survey:
     """Reads a capture once. What came before a fault counts."""
-    it = Survey(path, name, compared)
-    senders, before, before_time, before_sender = it.senders, b"", 0, ""
-    for message in messages(_watched(it)):
+    survey = Survey(path, name, compared)
+    senders, before, before_time, before_sender = survey.senders, b"", 0, ""
+    for message in messages(_watched(survey)):
         time, sender, _, length, payload = message
         is_double = payload == before and sender == before_sender and 0 <= time - before_time <= AT_ONCE
         before, before_time, before_sender = payload, time, sender
@@ -105,24 +105,24 @@ def surveyed(path: str, name: str, compared: int = WHOLE) -> Survey:
         elif len(senders) < MOST_SENDERS:
             senders[sender] = 1
         else:
-            it.more_senders += 1
+            survey.more_senders += 1
         if len(payload) < length:
-            it.shortest = min(it.shortest, len(payload))
+            survey.shortest = min(survey.shortest, len(payload))
         if is_double:
-            it.doubles += 1
+            survey.doubles += 1
             continue
         checksum = crc32(payload if compared == WHOLE else payload[:compared])
-        if not checksum & it.mask:
-            it.keep(message, checksum)
-    return it
+        if not checksum & survey.mask:
+            survey.keep(message, checksum)
+    return survey
 
 
-def _watched(it: Survey) -> Iterator[Packet]:
+def _watched(survey: Survey) -> Iterator[Packet]:
     """The packets of a capture, as they are counted."""
     first, last, number = 1 << 100, 0, 0
     begun: Optional[int] = None
     try:
-        for packet in packets(it.path, it.name):
+        for packet in packets(survey.path, survey.name):
             time = packet[0]
             number += 1
             if time > last:
@@ -133,21 +133,21 @@ def _watched(it: Survey) -> Iterator[Packet]:
                 begun = time
             yield packet
     except BadCapture as why:
-        it.fault = str(why)
+        survey.fault = str(why)
     if begun is not None:
-        it.packets, it.first, it.last, it.begun, it.ended = number, first, last, begun, time
+        survey.packets, survey.first, survey.last, survey.begun, survey.ended = number, first, last, begun, time
 
 
-def read_again(it: Survey) -> Iterator[Message]:
+def read_again(survey: Survey) -> Iterator[Message]:
     """The messages of a capture that was surveyed, up to its fault. Where it has messages with addresses, those of pfsync's own link are
     the node's own once more, and are left out."""
-    has_both = "" in it.senders and not it.is_own
+    has_both = "" in survey.senders and not survey.is_own
     try:
-        for message in messages(_with_addresses(it) if has_both else packets(it.path, it.name)):
+        for message in messages(_with_addresses(survey) if has_both else packets(survey.path, survey.name)):
             yield message
     except BadCapture:
         return
 
 
-def _with_addresses(it: Survey) -> Iterator[Packet]:
-    return (packet for packet in packets(it.path, it.name) if packet.link not in PFSYNC_LINKS)
+def _with_addresses(survey: Survey) -> Iterator[Packet]:
+    return (packet for packet in packets(survey.path, survey.name) if packet.link not in PFSYNC_LINKS)

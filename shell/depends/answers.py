@@ -41,6 +41,6 @@ def script_of(lab: Laboratory, branch: Branch) -> Script:
 
 
 def _answer(script: Script, name: str, shows_all: bool, paint: Paint) -> Answer:
-    it = tried(script)
+    trial = tried(script)
     with closing(Reasons(script)) as why:
-        return Answer(Report(it, name, shows_all, why, paint).lines(), it.changes)
+        return Answer(Report(trial, name, shows_all, why, paint).lines(), trial.changes)

@@ -23,8 +23,8 @@ def explain_dependence(lab: Laboratory, events: Sequence[str], number: int, reas
     return [*lines, *(f"{by} the run is a different one since event {since} ({PAGE})" for by, since in found.partings.items() if since < number)]
 
 
-def _words_of(it: Mark) -> str:
-    return f"{it.by} it is `{it.outcome}`{', as here' * it.is_as_here} ({PAGE})"
+def _words_of(mark: Mark) -> str:
+    return f"{mark.by} it is `{mark.outcome}`{', as here' * mark.is_as_here} ({PAGE})"
 
 
 def _words(reason: Sequence[str]) -> Iterator[str]:

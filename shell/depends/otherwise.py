@@ -45,27 +45,27 @@ def marks_of(program: str, setup: Setup, events: Sequence[str], only: Optional[i
     if not events or only and only > MOST_EVENTS:
         return NONE
     script = Script(program, setup.lines, [Command(f"{STEP.word} main {it}") for it in events[:MOST_EVENTS]])
-    it = tried(script, None if only is None else (only - 1,))
-    every = (*it.singles, *(far.its for far in it.far))
+    trial = tried(script, None if only is None else (only - 1,))
+    every = (*trial.singles, *(far.its for far in trial.far))
     places = sorted({place for one in every for place in one.by_place if only in (None, place + 1)})
     partings = {by_rules(script.own, one.kernel): spot.number for one in every for spot in one.partings[:1]}
-    return Marks({at + 1: [*_marks(it, at)] for at in places}, partings)
+    return Marks({at + 1: [*_marks(trial, at)] for at in places}, partings)
 
 
-def _marks(it: Tried, place: int) -> Iterator[Mark]:
+def _marks(trial: Tried, place: int) -> Iterator[Mark]:
     """By each word that changes an event alone, by the words that do it together, and by all rules of the kernel or of the profile, if
     that is something else again."""
-    own = it.script.own
-    for one in it.singles:
+    own = trial.script.own
+    for one in trial.singles:
         if place in one.by_place:
             yield Mark(by_rules(own, one.kernel), outcome_words(one.by_place[place]), _words(own, one.kernel))
-    for far in it.far:
+    for far in trial.far:
         for two in far.together:
             if place in two.places:
                 words = together_words(own, two.its.kernel)
                 yield Mark(words, outcome_words(two.its.by_place[place]), _words(own, two.its.kernel))
         if place in far.undone:
-            yield Mark(by_rules(own, far.its.kernel), outcome_words(it.script.replies(own)[place]), is_as_here=True)
+            yield Mark(by_rules(own, far.its.kernel), outcome_words(trial.script.replies(own)[place]), is_as_here=True)
 
 
 def _words(own: Kernel, kernel: Kernel) -> Tuple[str, ...]:

@@ -48,8 +48,8 @@ class Reasons:
     def reason(self, kernel: Kernel, events: Sequence[str], event: str) -> Reason:
         """Why an event comes to what it does by a kernel, after others."""
         here, there = self._lab(self.script.own, events), self._lab(kernel, events)
-        it = there.lab.explanation("main", event)
-        if it.event.is_refused:
+        explanation = there.lab.explanation("main", event)
+        if explanation.event.is_refused:
             lines = [line.strip() for line in why_ahead(there.lab, "main", event, PLAIN)[1:]]
             return self._cause(here, there, _node_of(there, event), None)._replace(lines=lines[:1])
         there.step(event)
@@ -120,19 +120,19 @@ def _is_by(line: str) -> bool:
     return any(it in line for it in _BY)
 
 
-def _node_of(it: _Lab, event: str) -> str:
+def _node_of(run: _Lab, event: str) -> str:
     """The node at which an event happens: a frame comes to its receiver."""
     words = event.split()
     if words[1] in NODES:
         return words[1]
-    return it.lab.flight("main", int(words[1])).frame.to
+    return run.lab.flight("main", int(words[1])).frame.to
 
 
-def _name_of(it: Explanation) -> Optional[Name]:
+def _name_of(explanation: Explanation) -> Optional[Name]:
     """The state that an event is about, if it is one."""
-    if isinstance(it.reason, OfState):
-        return it.reason.name
-    return Name.read(it.event.words[2]) if it.event.words[0] == KILL.word else None
+    if isinstance(explanation.reason, OfState):
+        return explanation.reason.name
+    return Name.read(explanation.event.words[2]) if explanation.event.words[0] == KILL.word else None
 
 
 def _lines_of(shown: Sequence[str], node: str, name: Optional[Name]) -> List[str]:

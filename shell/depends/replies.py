@@ -63,11 +63,12 @@ def found_words(reply: Reply) -> str:
     return "gave up" if isinstance(answer, GaveUp) else reply[0]
 
 
-def looked_words(spot: Spot, it: Difference, is_whole: bool) -> List[str]:
+def looked_words(spot: Spot, difference: Difference, is_whole: bool) -> List[str]:
     """What a look shows otherwise."""
     if spot.command.word not in (SHOW.word, PAST.word):
-        lines = [line for line in unified_diff(it.before, it.after, lineterm="", n=0) if not line.startswith(("---", "+++", "@@"))]
+        every = unified_diff(difference.before, difference.after, lineterm="", n=0)
+        lines = [line for line in every if not line.startswith(("---", "+++", "@@"))]
     else:
-        lines = [f"{one}" for one in differences(read_shown(it.before), read_shown(it.after))]
+        lines = [f"{one}" for one in differences(read_shown(difference.before), read_shown(difference.after))]
     more = 0 if is_whole else len(lines) - MOST_FIELDS
     return lines if more <= 0 else [*lines[:MOST_FIELDS], f"and {more} more"]

@@ -32,19 +32,19 @@ class Report:
     """The report on a script that was played by other rules than its own. All replies that change are shown, or the first by each of
     these."""
 
-    def __init__(self, it: Tried, name: str, shows_all: bool, why: Reasons, paint: Paint):
-        self.it, self.name, self.shows_all, self.why, self.paint = it, name, shows_all, why, paint
-        self.script, self.spots, self.own = it.script, it.script.spots, it.script.own
-        self.branches = len({one.branch for one in it.script.events})
+    def __init__(self, trial: Tried, name: str, shows_all: bool, why: Reasons, paint: Paint):
+        self.trial, self.name, self.shows_all, self.why, self.paint = trial, name, shows_all, why, paint
+        self.script, self.spots, self.own = trial.script, trial.script.spots, trial.script.own
+        self.branches = len({one.branch for one in trial.script.events})
 
     def lines(self) -> List[str]:
         groups = sorted(self._groups(), key=lambda one: all(is_look(self.spots[it.place]) for it in one.differences))
         lines = [self.paint.head(self._headline())]
         for group in groups:
             lines += self._group(group)
-        for far in self.it.far:
+        for far in self.trial.far:
             lines += self._far(far)
-        if not self.it.changes:
+        if not self.trial.changes:
             lines.append(self.paint.good(SAME if self.own.is_profile else SAME_OTHERWISE))
         words = {word for it in groups for word in self.own.apart(it.its.kernel)}
         return [*lines, *self._only_at_end(), *self._others(words), *self._sure(words)]
@@ -58,18 +58,18 @@ class Report:
     # ---- what changes by which rules
 
     def _groups(self) -> Iterator[_Group]:
-        for it in self.it.singles:
-            if not it.is_same:
-                yield _Group(self._by(it), it, it.differences)
-        for far in self.it.far:
+        for compared in self.trial.singles:
+            if not compared.is_same:
+                yield _Group(self._by(compared), compared, compared.differences)
+        for far in self.trial.far:
             for one in far.together:
                 yield _Group(self._together(one), one.its, [it for it in far.its.differences if it.place in one.places])
 
-    def _by(self, it: Compared) -> str:
-        return by_rules(self.own, it.kernel)
+    def _by(self, compared: Compared) -> str:
+        return by_rules(self.own, compared.kernel)
 
-    def _together(self, it: Together) -> str:
-        return together_words(self.own, it.its.kernel)
+    def _together(self, together: Together) -> str:
+        return together_words(self.own, together.its.kernel)
 
     def _group(self, group: _Group) -> List[str]:
         """The replies that are others by some rules: how many, and the first in full."""
@@ -85,22 +85,23 @@ class Report:
         kinds = [kind_of(self.spots[it]) for it in places]
         return ", ".join(it.counted(kinds.count(it)) for it in KINDS if it in kinds)
 
-    def _reply(self, its: Compared, it: Difference) -> List[str]:
+    def _reply(self, its: Compared, difference: Difference) -> List[str]:
         """A reply before and after; of an event also why it is another one."""
-        spot = self.spots[it.place]
+        spot = self.spots[difference.place]
         line = f" (line {spot.command.number})" if spot.command.number else ""
         if spot.command.word == SEARCH:
-            return [f"{self._spot_words(it.place)}{line}: {found_words(it.before)} -> {self.paint.bad(found_words(it.after))}"]
+            change = f"{found_words(difference.before)} -> {self.paint.bad(found_words(difference.after))}"
+            return [f"{self._spot_words(difference.place)}{line}: {change}"]
         if not spot.is_event:
-            return [f"{self._spot_words(it.place)}{line}: {text}" for text in looked_words(spot, it, self.shows_all)]
-        events = self.script.before(it.place)
+            return [f"{self._spot_words(difference.place)}{line}: {text}" for text in looked_words(spot, difference, self.shows_all)]
+        events = self.script.before(difference.place)
         why = self.why.reason(its.kernel, events, spot.event)
         lines = [spot.event, *why.lines]
         if why.since:
             first, *others = why.caused
             lines += [f"since event {why.since}, `{events[why.since - 1]}`: {first}", *others]
-        change = f"{outcome_words(it.before)} -> {self.paint.bad(outcome_words(it.after))}"
-        return [f"{self._spot_words(it.place)}{line}: {change}", *(f"  {one}" for one in lines)]
+        change = f"{outcome_words(difference.before)} -> {self.paint.bad(outcome_words(difference.after))}"
+        return [f"{self._spot_words(difference.place)}{line}: {change}", *(f"  {one}" for one in lines)]
 
     def _spot_words(self, place: int) -> str:
         """A command: an event by its number, anything else by its line."""
@@ -121,7 +122,7 @@ class Report:
 
     def _far(self, far: Far) -> List[str]:
         """What all words do, by those that do it alone or together."""
-        if not self.it.changes or far.its.kernel in [it.kernel for it in self.it.singles]:
+        if not self.trial.changes or far.its.kernel in [it.kernel for it in self.trial.singles]:
             return []
         its_own = [it for it in far.together if it.its.kernel != far.its.kernel]
         as_by = [*(self._by(it) for it in far.alone), *(self._together(it) for it in its_own)]
@@ -136,16 +137,16 @@ class Report:
     def _only_at_end(self) -> List[str]:
         """The rules by which no reply changes, and the end does."""
         found: Dict[Tuple[AtEnd, ...], List[str]] = {}
-        for it in self.it.singles:
-            if it.is_same and it.ends:
-                found.setdefault(tuple(it.ends), []).append(self._by(it))
+        for compared in self.trial.singles:
+            if compared.is_same and compared.ends:
+                found.setdefault(tuple(compared.ends), []).append(self._by(compared))
         return [line for ends, by in found.items() for line in (f"{_list(by)}: only the end", *(f"  {it}" for it in _ends(ends)))]
 
     def _others(self, words: Container[Switch]) -> List[str]:
         """The words besides some on which nothing depends."""
-        same = [it.kernel for it in self.it.singles if it.is_same and not it.ends]
+        same = [it.kernel for it in self.trial.singles if it.is_same and not it.ends]
         others = [it.word for it in SWITCHES.values() if it not in words and self.own.toggled((it,)) in same]
-        return [self.paint.dim(f"no other word changes anything: {', '.join(others)}")] if others and self.it.changes else []
+        return [self.paint.dim(f"no other word changes anything: {', '.join(others)}")] if others and self.trial.changes else []
 
     def _sure(self, words: Container[Switch]) -> List[str]:
         """How sure we are of these rules."""

@@ -69,14 +69,14 @@ def _or_none(items: Sequence[Item]) -> Sequence[Optional[Item]]:
     return items or (None,)
 
 
-def without_spoofs(it: Antispoof) -> List[Filter]:
+def without_spoofs(antispoof: Antispoof) -> List[Filter]:
     """The block rules that `antispoof` stands for: for each interface its nets anywhere else, and its own addresses."""
     found: List[Filter] = []
-    for host in it.interfaces:
-        elsewhere = Match([Interface(host.text, is_not=True)], it.family, source=_from(host, f"{host.text}:network"))
-        own = Match([], it.family, source=_from(host, host.text))
+    for host in antispoof.interfaces:
+        elsewhere = Match([Interface(host.text, is_not=True)], antispoof.family, source=_from(host, f"{host.text}:network"))
+        own = Match([], antispoof.family, source=_from(host, host.text))
         matches = [elsewhere] if _LOOPBACK.match(host.text) else [elsewhere, own]
-        found += [Filter("block", match, "drop", "in", it.is_quick) for match in matches]
+        found += [Filter("block", match, "drop", "in", antispoof.is_quick) for match in matches]
     return found
 
 

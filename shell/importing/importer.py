@@ -268,15 +268,15 @@ class Import:
             if self.rule_lines > MOST_RULES and not self._looks_ahead:
                 # (more are useless, and there may be very many)
                 break
-            it = taken(rule, self.settings.context, ruleset.direction, ruleset.region, step.is_quick)
-            its[number] = it = pass_translated(self.firewall, rule, it, judged.place, self.about) if rule.words.to else it
-            self.rule_lines += len(it.lines)
-            self.translated += it.translated
+            made = taken(rule, self.settings.context, ruleset.direction, ruleset.region, step.is_quick)
+            its[number] = made = pass_translated(self.firewall, rule, made, judged.place, self.about) if rule.words.to else made
+            self.rule_lines += len(made.lines)
+            self.translated += made.translated
             self._by_number[number] = judged
-            if it.region is not None:
-                asked = Asked(number, judged.place, judged.line.text, it.region, it.base)
+            if made.region is not None:
+                asked = Asked(number, judged.place, judged.line.text, made.region, made.base)
                 self._known.setdefault(id(judged), []).append(asked)
-                self._asked += [asked] * (not it.out)
+                self._asked += [asked] * (not made.out)
         outs = list(dict.fromkeys(it.out for it in its.values() if it.out))
         rules = [Numbered(number, it.lines) for number, it in its.items() if not it.out and (it.lines or not self.about)]
         judged.rules += rules

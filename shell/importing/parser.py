@@ -308,14 +308,14 @@ def _load(reader: Reader, _: str) -> Load:
 
 
 def _antispoof(reader: Reader, _: str) -> Antispoof:
-    it = Filter("block")
-    _begin(reader, it)
+    rule = Filter("block")
+    _begin(reader, rule)
     reader.expect("for")
     interfaces = reader.several(reader.host)
     family = FAMILIES.get(reader.one_of(*FAMILIES), 0)
     while reader.is_next("label", "rtable", *NUMBERING):
         _OPTIONS[reader.take().text](reader)
-    return Antispoof(interfaces, family, it.is_quick)
+    return Antispoof(interfaces, family, rule.is_quick)
 
 
 # ---- translation
@@ -336,12 +336,12 @@ def _translation(reader: Reader, word: str, is_no: bool = False) -> Translation:
     return found
 
 
-def _translated(reader: Reader, it: Translation) -> Translation:
+def _translated(reader: Reader, translation: Translation) -> Translation:
     """Where a translation goes."""
-    it.targets = tuple(reader.several(reader.host))
-    it.port = reader.word("a port") if reader.accept("port") else ""
-    it.options += _pool(reader)
-    return it
+    translation.targets = tuple(reader.several(reader.host))
+    translation.port = reader.word("a port") if reader.accept("port") else ""
+    translation.options += _pool(reader)
+    return translation
 
 
 def _no(reader: Reader, word: str) -> Content:

@@ -150,9 +150,9 @@ def _refused(rule: PfRule, number: Optional[int]) -> None:
         raise Out(f"pfctl takes no `proto {rule.protocol}` with {'inet6' if rule.family == 6 else 'inet'}")
     if words.action == "block" and words.state not in ("", "no"):
         raise Out("pfctl keeps no state by a block rule")
-    for it in (rule.source, rule.destination):
-        if it.out:
-            raise Out(it.out)
+    for side in (rule.source, rule.destination):
+        if side.out:
+            raise Out(side.out)
 
 
 # ---- what packets of the laboratory do not have
@@ -209,21 +209,21 @@ def _of_sockets(owners: Sequence[Operation], number: Optional[int]) -> str:
     return _NO_SOCKETS
 
 
-def _owned_by_none(it: Operation) -> bool:
+def _owned_by_none(operation: Operation) -> bool:
     """Whether a comparison of users is true for a packet that no local socket owns."""
-    return (it.operator, it.first == "unknown") in (("=", True), ("!=", False))
+    return (operation.operator, operation.first == "unknown") in (("=", True), ("!=", False))
 
 
-def _of_icmp(action: str, it: IcmpType) -> str:
+def _of_icmp(action: str, icmp_type: IcmpType) -> str:
     """What is lost by a type of ICMP."""
-    number = icmp_number(it.version, it.text)
+    number = icmp_number(icmp_type.version, icmp_type.text)
     if number is None:
-        raise Out(f"the type of ICMP `{it.text}` is neither a number nor a name known here")
-    if it.version == 4 and number not in _ECHO:
+        raise Out(f"the type of ICMP `{icmp_type.text}` is neither a number nor a name known here")
+    if icmp_type.version == 4 and number not in _ECHO:
         raise Never("every ICMP packet of the laboratory is an echo request or its reply")
     if action == "block":
         raise Out("a block rule of the laboratory has no type of ICMP, and would block all of them")
-    return f"it passes every type of ICMP{'v6' if it.version == 6 else ''}"
+    return f"it passes every type of ICMP{'v6' if icmp_type.version == 6 else ''}"
 
 
 # ---- the lines
@@ -325,8 +325,8 @@ def _lines(region: Region, base: RuleLine, about: Optional[About]) -> Iterator[R
                 yield line._replace(source_port=_span_text(one), destination_port=_span_text(other))
 
 
-def _nets(it: Side, about: Optional[About]) -> Sequence[Optional[Network]]:
-    return [None] if it.addresses is None else [*it.addresses.networks(None if about else MOST_RULES + 1)]
+def _nets(side: Side, about: Optional[About]) -> Sequence[Optional[Network]]:
+    return [None] if side.addresses is None else [*side.addresses.networks(None if about else MOST_RULES + 1)]
 
 
 def _side(net: Optional[Network], span: Optional[Span]) -> Side:
@@ -337,11 +337,11 @@ def _net_text(net: Optional[Network]) -> str:
     return "" if net is None else net.exploded
 
 
-def _ports(it: Optional[Operation]) -> Optional[Ports]:
+def _ports(operation: Optional[Operation]) -> Optional[Ports]:
     """The spans of ports that a comparison is for; None for every port."""
-    if it is None:
+    if operation is None:
         return None
-    spans = tuple((low, min(high, GREATEST_PORT)) for low, high in merged(_spans(it)))
+    spans = tuple((low, min(high, GREATEST_PORT)) for low, high in merged(_spans(operation)))
     return None if spans == EVERY_PORT else spans
 
 
@@ -358,8 +358,8 @@ def port_text(span: Span) -> str:
     return str(span[0]) if span[0] == span[1] else f"{span[0]}:{span[1]}"
 
 
-def _spans(it: Operation) -> List[Span]:
-    first, second = port_of(it.first), port_of(it.second or it.first)
+def _spans(operation: Operation) -> List[Span]:
+    first, second = port_of(operation.first), port_of(operation.second or operation.first)
     return {
         "=": [(first, first)],
         "!=": rest([(first, first)], GREATEST_PORT),
@@ -370,7 +370,7 @@ def _spans(it: Operation) -> List[Span]:
         ":": [(first, second)],
         "><": [(first + 1, second - 1)],
         "<>": [(0, first - 1), (second + 1, GREATEST_PORT)],
-    }[it.operator]
+    }[operation.operator]
 
 
 def port_of(text: str) -> int:

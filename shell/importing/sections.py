@@ -142,9 +142,9 @@ def _entries(section: Section, asked: Sequence[Asked]) -> Iterator[Entry]:
     """The lines for the packets of a translation: those of the rules that match them, up to one that matches all of them."""
     piece, count = section.piece, 0
     seen: List[Tuple[Region, bool]] = []
-    for at, it in enumerate(() if piece.passes else asked):
-        region = _before(piece, it, section.lost)
-        is_full = region is not None and _is_full(it.base, region)
+    for at, rule in enumerate(() if piece.passes else asked):
+        region = _before(piece, rule, section.lost)
+        is_full = region is not None and _is_full(rule.base, region)
         if region is None or any(earlier.holds(region) and full >= is_full for earlier, full in seen):
             continue
         ruled = _of_rule(section, region, asked[at:])
@@ -189,9 +189,9 @@ def _of_rule(section: Section, region: Region, asked: Sequence[Asked]) -> Ruled:
     found = Ruled([*entries, Entry(first, _written(section, whole, first.base, first.place))], whole, few)
     if found.size >= direct.size:
         return direct
-    for it in within:
-        section.lost += it.lost
-        section.untranslated += it.untranslated
+    for part in within:
+        section.lost += part.lost
+        section.untranslated += part.untranslated
     return found
 
 

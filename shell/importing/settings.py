@@ -60,41 +60,41 @@ class Settings:
         """The limit of states, and between which numbers of them timeouts shrink, as far as they are set."""
         return self.limit, self.start, self.end
 
-    def take(self, it: Setting) -> Set:
-        if it.word in ("timeout", "limit"):
-            return self._pairs(it)
-        if it.word == "optimization":
-            return _profile(it.values)
-        if it.word == "block-policy":
-            self.context.answer = it.values[0] if it.values else "drop"
-        elif it.word == "state-defaults":
-            self.context.state_defaults = it.options
-        if it.word in _WITHOUT_EFFECT:
+    def take(self, setting: Setting) -> Set:
+        if setting.word in ("timeout", "limit"):
+            return self._pairs(setting)
+        if setting.word == "optimization":
+            return _profile(setting.values)
+        if setting.word == "block-policy":
+            self.context.answer = setting.values[0] if setting.values else "drop"
+        elif setting.word == "state-defaults":
+            self.context.state_defaults = setting.options
+        if setting.word in _WITHOUT_EFFECT:
             return Set()
-        if it.word == "hostid":
+        if setting.word == "hostid":
             return Set(lost=["`hostid`: a state's creator is the number of its node's boot"])
-        if it.word == "fail-policy":
-            return Set(lost=[_NOT_SENT] if it.values[:1] == ["return"] else [])
-        if it.word == "syncookies":
+        if setting.word == "fail-policy":
+            return Set(lost=[_NOT_SENT] if setting.values[:1] == ["return"] else [])
+        if setting.word == "syncookies":
             return Set(lost=["`syncookies`: the ends shake hands with one another"])
-        return Set(out=f"FreeBSD 13's pf has no `set {it.word}`")
+        return Set(out=f"FreeBSD 13's pf has no `set {setting.word}`")
 
-    def _pairs(self, it: Setting) -> Set:
+    def _pairs(self, setting: Setting) -> Set:
         """Names, each with its number."""
         lines: List[str] = []
         lost: List[str] = []
-        for name, word in zip(it.values[::2], it.values[1::2]):
+        for name, word in zip(setting.values[::2], setting.values[1::2]):
             number = number_of(word, GREATEST)
             if number is None:
                 return Set(out=f"`{name} {word}` has no number up to {GREATEST}")
-            if it.word == "timeout" and name in CLASS_WORDS:
+            if setting.word == "timeout" and name in CLASS_WORDS:
                 lines.append(f"set timeout {name} {number}")
-            elif name in (_START, _END) if it.word == "timeout" else name == "states":
+            elif name in (_START, _END) if setting.word == "timeout" else name == "states":
                 lost += self._number(name, number)
-            elif name in (_LEFT_OUT if it.word == "timeout" else _OTHER_LIMITS):
+            elif name in (_LEFT_OUT if setting.word == "timeout" else _OTHER_LIMITS):
                 lost += [_LEFT_OUT[name]] if name in _LEFT_OUT else []
             else:
-                return Set(out=f"pf has no {it.word} `{name}`")
+                return Set(out=f"pf has no {setting.word} `{name}`")
         return Set(lines, lost)
 
     def _number(self, name: str, number: int) -> List[str]:

@@ -69,17 +69,17 @@ class Sources:
             return Faulty("include", f"{error.filename}: {error.strerror}")
 
 
-    def _loaded(self, path: str, it: Load) -> Content:
+    def _loaded(self, path: str, load: Load) -> Content:
         """The statements of the file of an anchor, which is read after the whole pf.conf, without its macros."""
         if self._is_of_anchor or self._files >= MOST_FILES:
             return Faulty("load", f"`load anchor` is not followed from the file of an anchor, nor into more than {MOST_FILES} files")
         its = Sources(self._files, is_of_anchor=True)
         try:
-            it.lines = list(its.lines(_relative(path, it.path)))
+            load.lines = list(its.lines(_relative(path, load.path)))
         except OSError as error:
-            it.why = f"{error.filename}: {error.strerror}"
+            load.why = f"{error.filename}: {error.strerror}"
         self._files = its._files
-        return it
+        return load
 
 
 def _relative(path: str, named: str) -> str:

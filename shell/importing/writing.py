@@ -57,8 +57,8 @@ def _translated(judged: Judged, sections: Iterable[Section], nodes: Sequence[str
     yield of_statement(judged.place, judged.line.text)
     for piece, entry in ((section.piece, entry) for section in sections for entry in section.entries if entry.lines):
         if entry.asked:
-            kind, it = f"{'no ' * piece.is_no}{piece.kind}", entry.asked
-            yield of_translated(it.place, it.number, it.text, kind, judged.place)
+            kind, rule = f"{'no ' * piece.is_no}{piece.kind}", entry.asked
+            yield of_translated(rule.place, rule.number, rule.text, kind, judged.place)
         elif not piece.passes:
             yield of_no_rule(judged.place, judged.line.text)
         yield from _written(entry.lines, nodes)
@@ -79,10 +79,10 @@ def _rules(judged: Judged, rules: Sequence[Numbered], nodes: Sequence[str], is_a
         yield from _numbered(judged, it, nodes)
 
 
-def _numbered(judged: Judged, it: Numbered, nodes: Sequence[str]) -> Iterator[str]:
+def _numbered(judged: Judged, numbered: Numbered, nodes: Sequence[str]) -> Iterator[str]:
     """The lines of one of pf's rules, below a comment that says which rule it is."""
-    yield of_rule(judged.place, it.number, judged.line.text, bool(it.lines))
-    yield from _written(it.lines, nodes)
+    yield of_rule(judged.place, numbered.number, judged.line.text, bool(numbered.lines))
+    yield from _written(numbered.lines, nodes)
 
 
 def _written(lines: Sequence[RuleLine], nodes: Sequence[str]) -> Iterator[str]:

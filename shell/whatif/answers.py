@@ -33,13 +33,13 @@ def answer(lab: Laboratory, branch: Branch, asked: Asked, paint: Paint, progress
     course, taken = course_of(lab, branch), lab.names()
     with lab.beside(branch) as other:
         player = Player(other, branch, course, asked.flushing)
-        it = tried(player, asked, progress, lambda *found: why_first(*found, paint))
-        groups = shown_groups(it)
-        others = NOTHING if it.is_interrupted else otherwise(lab, branch, it, groups)
-        lines = report(it, groups, paint, others.groups)
-        found = Answer([*lines, *["", paint.note(others.run)] * bool(others.run)], it.is_interrupted)
+        trial = tried(player, asked, progress, lambda *found: why_first(*found, paint))
+        groups = shown_groups(trial)
+        others = NOTHING if trial.is_interrupted else otherwise(lab, branch, trial, groups)
+        lines = report(trial, groups, paint, others.groups)
+        found = Answer([*lines, *["", paint.note(others.run)] * bool(others.run)], trial.is_interrupted)
         try:
-            return found._replace(written=with_variants(it, script(), taken, groups)) if asked.out else found
+            return found._replace(written=with_variants(trial, script(), taken, groups)) if asked.out else found
         except (NotWritten, Unknown) as why:
             # (what was found is not lost)
             return found._replace(fault=str(why))

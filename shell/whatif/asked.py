@@ -88,17 +88,17 @@ def read(words: Sequence[str]) -> Tuple[str, Asked]:
 
 def _kinds(word: str) -> Tuple[str, ...]:
     kinds = tuple(word.split(","))
-    for it in kinds:
-        if it not in KINDS:
-            raise argparse.ArgumentTypeError(f"`{it}` is not a kind of fault{nearest(it, KINDS)}: {one_of(KINDS)}, joined by commas")
+    for kind in kinds:
+        if kind not in KINDS:
+            raise argparse.ArgumentTypeError(f"`{kind}` is not a kind of fault{nearest(kind, KINDS)}: {one_of(KINDS)}, joined by commas")
     return kinds
 
 
 def _watch(word: str) -> Watch:
     parts = word.split(",")
-    for it in parts:
-        if it not in WATCHED and not _is_number(it):
-            raise argparse.ArgumentTypeError(f"`{it}` is not {one_of((*WATCHED, 'the number of an event'))}")
+    for part in parts:
+        if part not in WATCHED and not _is_number(part):
+            raise argparse.ArgumentTypeError(f"`{part}` is not {one_of((*WATCHED, 'the number of an event'))}")
     numbers = frozenset(int(it) for it in parts if it not in WATCHED)
     return Watch(frozenset(it for it in parts if it in WATCHED), numbers)
 

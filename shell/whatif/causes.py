@@ -47,11 +47,11 @@ class _Flow:
         """Whether its beginning is in the run. Of TCP that is a SYN; an answer to something later can have come before that."""
         return not self.first.is_tcp or self.first.is_request
 
-    def add(self, number: int, it: PacketEvent, place: int) -> None:
+    def add(self, number: int, packet: PacketEvent, place: int) -> None:
         """Adds a packet that had gone out after so many events. What goes the way of the first one is no answer if it acknowledges
         nothing."""
-        is_onward = it.direction == self.first.direction
-        is_answer = not is_onward or it.is_tcp and "A" in it.flags
+        is_onward = packet.direction == self.first.direction
+        is_answer = not is_onward or packet.is_tcp and "A" in packet.flags
         causes = (one for one, gone in self.gone[not is_onward] if gone < number)
         self.packets.append(_Packet(number, is_onward, next(causes, 0) if is_answer else 0))
         self.gone[is_onward].append((number, place))
@@ -65,17 +65,17 @@ class Causes:
         flows: List[_Flow] = []
         # Flows by the ends of a packet either way, and by the state that it met.
         known: Dict[object, _Flow] = {}
-        for it in course.events:
-            if it.kind is PACKET:
-                packet = read_packet(it.line)
+        for event in course.events:
+            if event.kind is PACKET:
+                packet = read_packet(event.line)
                 ends = packet.protocol, frozenset({packet.source, packet.destination})
-                state = it.outcome[1] if it.outcome[0] == PASS.word or is_held(it.outcome) else "-"
+                state = event.outcome[1] if event.outcome[0] == PASS.word or is_held(event.outcome) else "-"
                 flow = known.get(state) or known.get(ends) or _Flow(packet)
                 flows += [flow] * (not flow.packets)
                 known.setdefault(ends, flow)
                 if state != "-":
                     known.setdefault(state, flow)
-                flow.add(it.number, packet, _gone_at(it.outcome, it.number, fates.get(it.number)))
+                flow.add(event.number, packet, _gone_at(event.outcome, event.number, fates.get(event.number)))
         self.flows = [it for it in flows if it.begins and any(one.cause for one in it.packets)]
 
     def hung(self, played: Played, fates: Dict[int, Fate]) -> Tuple[Hung, ...]:
@@ -86,14 +86,14 @@ class Causes:
         gone: Dict[bool, List[int]] = {True: [], False: []}
         # By the places of packets that could not have come: what such a packet let go would not have gone either.
         impossible: Dict[int, _Packet] = {}
-        for it in flow.packets:
-            outcome, place = self._came(it.number, played)
+        for packet in flow.packets:
+            outcome, place = self._came(packet.number, played)
             if outcome is None:
                 continue
-            if it.cause and not any(at < place and at not in impossible for at in gone[not it.is_onward]):
-                impossible[place] = it
+            if packet.cause and not any(at < place and at not in impossible for at in gone[not packet.is_onward]):
+                impossible[place] = packet
             else:
-                gone[it.is_onward].append(_gone_at(outcome, place, fates.get(it.number)))
+                gone[packet.is_onward].append(_gone_at(outcome, place, fates.get(packet.number)))
         those = {it.number for it in impossible.values()}
         for cause in dict.fromkeys(it.cause for it in impossible.values()):
             why = _HUNG if cause in those else self._why(cause, played, fates.get(cause))

@@ -69,25 +69,25 @@ class Course:
         self.planned = [self._planned(it) for it in self.events]
         # For the name of a state the first packet that met it, which made it.
         self.makers: Dict[str, int] = {}
-        for it in self.events:
-            if it.kind is PACKET and len(it.outcome) > 1 and it.outcome[0] != events.DROPPED.word:
-                self.makers.setdefault(it.outcome[1], it.number)
+        for event in self.events:
+            if event.kind is PACKET and len(event.outcome) > 1 and event.outcome[0] != events.DROPPED.word:
+                self.makers.setdefault(event.outcome[1], event.number)
 
-    def _planned(self, it: Happened) -> Planned:
-        sends = int(it.outcome[1]) if it.outcome[0] == SENT.word else 0
+    def _planned(self, event: Happened) -> Planned:
+        sends = int(event.outcome[1]) if event.outcome[0] == SENT.word else 0
         if sends:
-            self.frames[sends] = Sent(sends, it.number, int(it.outcome[2]), [])
-        if it.words[0] in OF_FRAME:
-            self.frames[int(it.words[1])].later.append(it)
-        return Planned(it.number, it.line, sends)
+            self.frames[sends] = Sent(sends, event.number, int(event.outcome[2]), [])
+        if event.words[0] in OF_FRAME:
+            self.frames[int(event.words[1])].later.append(event)
+        return Planned(event.number, event.line, sends)
 
     def __len__(self) -> int:
         return len(self.events)
 
     def sender(self, ticket: int) -> str:
         """The node that sent a frame, or the one that it is a copy of."""
-        it = self.events[self.frames[ticket].number - 1]
-        return it.words[1] if it.kind is FLUSH else self.sender(int(it.words[1]))
+        event = self.events[self.frames[ticket].number - 1]
+        return event.words[1] if event.kind is FLUSH else self.sender(int(event.words[1]))
 
     def in_flight(self, place: int) -> List[int]:
         """The frames in flight after the first events."""
@@ -159,17 +159,17 @@ def _before(course: Course, frame: Sent) -> Position:
 
 def _lost(course: Course) -> Iterator[Fault]:
     """A frame is lost. One that is cut would do the same, since nobody can read it."""
-    for it in _delivered(course):
-        at = (it.end, OWN) if it.end else _before(course, it)
-        yield _of_frame("lose", it, "lost", (at, Planned(it.end, f"{LOSE.word} {it.ticket}")), is_moved=True)
+    for frame in _delivered(course):
+        at = (frame.end, OWN) if frame.end else _before(course, frame)
+        yield _of_frame("lose", frame, "lost", (at, Planned(frame.end, f"{LOSE.word} {frame.ticket}")), is_moved=True)
 
 
 def _twice(course: Course) -> Iterator[Fault]:
     """A frame is doubled, and its copy is delivered just after it."""
-    for it in _delivered(course):
-        again = Planned(0, f"{REPEAT.word} {it.ticket}", -it.ticket)
-        second = ((it.end, AFTER), Planned(0, f"{DELIVER.word} {-it.ticket}"))
-        yield _of_frame("twice", it, "twice", (_before(course, it), again), *([second] if it.end else []))
+    for frame in _delivered(course):
+        again = Planned(0, f"{REPEAT.word} {frame.ticket}", -frame.ticket)
+        second = ((frame.end, AFTER), Planned(0, f"{DELIVER.word} {-frame.ticket}"))
+        yield _of_frame("twice", frame, "twice", (_before(course, frame), again), *([second] if frame.end else []))
 
 
 def _late(course: Course) -> Iterator[Fault]:
@@ -181,11 +181,11 @@ def _late(course: Course) -> Iterator[Fault]:
 
 def _last(course: Course) -> Iterator[Fault]:
     """A frame comes after all events, even a frame that the run lost."""
-    for it in course.frames.values():
-        if it.has(LOSE):
-            yield _moved("last", it, len(course), "not lost, but last")
-        elif 0 < it.end < len(course):
-            yield _moved("last", it, len(course), "last")
+    for frame in course.frames.values():
+        if frame.has(LOSE):
+            yield _moved("last", frame, len(course), "not lost, but last")
+        elif 0 < frame.end < len(course):
+            yield _moved("last", frame, len(course), "last")
 
 
 def _moved(kind: str, frame: Sent, after: int, what: str) -> Fault:
@@ -201,16 +201,16 @@ SKIPPED = (PACKET, FLUSH, PURGE, RELEASE, TURN, RETRY)
 OWN_FAULTS = (RESTART, KILL, events.CLEAR)
 
 
-def _without(kind: str, it: Happened) -> Fault:
-    words = it.words
-    what = f"{words[0]} {' '.join(words[1:6])}" if it.kind is PACKET else it.line
-    return Fault(kind, it.number, f"without event {it.number} ({what})", frozenset([it.number]), (), -it.number)
+def _without(kind: str, event: Happened) -> Fault:
+    words = event.words
+    what = f"{words[0]} {' '.join(words[1:6])}" if event.kind is PACKET else event.line
+    return Fault(kind, event.number, f"without event {event.number} ({what})", frozenset([event.number]), (), -event.number)
 
 
 def _skipped(course: Course) -> Iterator[Fault]:
-    for it in course.events:
-        if it.kind in SKIPPED:
-            yield _without("skip", it)
+    for event in course.events:
+        if event.kind in SKIPPED:
+            yield _without("skip", event)
 
 
 def _between(kind: str, course: Course, text: str, line: str) -> Iterator[Fault]:
@@ -231,17 +231,17 @@ def _jumped(course: Course) -> Iterator[Fault]:
 
 def _undone(course: Course) -> Iterator[Fault]:
     """The faults of the run itself, each as if it had not happened."""
-    for it in course.events:
-        if it.kind is LOSE:
-            frame = course.frames[int(it.words[1])]
-            step = Planned(it.number, f"{DELIVER.word} {frame.ticket}")
-            yield _of_frame("undone", frame, "not lost", ((it.number, OWN), step), is_moved=True)
-        elif it.kind in (CUT, REPEAT):
-            what = "not cut" if it.kind is CUT else "not repeated"
-            text = f"frame {it.words[1]} {what} (event {it.number})"
-            yield Fault("undone", it.number, text, frozenset([it.number]), (), int(it.words[1]))
-        elif it.kind in OWN_FAULTS:
-            yield _without("undone", it)
+    for event in course.events:
+        if event.kind is LOSE:
+            frame = course.frames[int(event.words[1])]
+            step = Planned(event.number, f"{DELIVER.word} {frame.ticket}")
+            yield _of_frame("undone", frame, "not lost", ((event.number, OWN), step), is_moved=True)
+        elif event.kind in (CUT, REPEAT):
+            what = "not cut" if event.kind is CUT else "not repeated"
+            text = f"frame {event.words[1]} {what} (event {event.number})"
+            yield Fault("undone", event.number, text, frozenset([event.number]), (), int(event.words[1]))
+        elif event.kind in OWN_FAULTS:
+            yield _without("undone", event)
 
 
 # The kinds of faults, in the order in which they are tried and listed.

@@ -42,14 +42,14 @@ class _Look:
 
     @classmethod
     def at(cls, shown: Sequence[str]) -> "_Look":
-        it = cls()
+        look = cls()
         for line in shown:
             if line.startswith("held "):
-                it.held.add((line.split()[1], line.split()[2]))
+                look.held.add((line.split()[1], line.split()[2]))
             elif line.startswith("count "):
                 words = line.split()
-                it.counts[words[1]] = int(words[_FREED]), int(words[_LOST])
-        return it
+                look.counts[words[1]] = int(words[_FREED]), int(words[_LOST])
+        return look
 
 
 def fates(ask: Ask, branch: str, events: Sequence[Accepted], held: Dict[int, Dict[OfNode, int]], first: int, room: int) -> Dict[int, Fate]:
@@ -76,10 +76,10 @@ def fates(ask: Ask, branch: str, events: Sequence[Accepted], held: Dict[int, Dic
     return found
 
 
-def _can_end(it: Accepted, every: Set[OfNode], is_crowded: bool) -> bool:
+def _can_end(accepted: Accepted, every: Set[OfNode], is_crowded: bool) -> bool:
     """Whether one of these packets can be held no more after an event. A packet lets that of its own state go; or if it is held itself and
     there is no room for it, the one that was held first."""
-    words, outcome = it[0].split(), it[1].split()
+    words, outcome = accepted[0].split(), accepted[1].split()
     if words[0] != PACKET.word:
         return words[0] in _ENDING
     return is_crowded if is_held(outcome) else (words[1], outcome[-1]) in every

@@ -25,7 +25,7 @@ class Otherwise(NamedTuple):
 NOTHING = Otherwise("", {})
 
 
-def otherwise(lab: Laboratory, branch: Branch, it: Tried, groups: Sequence[Numbered]) -> Otherwise:
+def otherwise(lab: Laboratory, branch: Branch, trial: Tried, groups: Sequence[Numbered]) -> Otherwise:
     """Plays the first fault of each of some groups by other rules; says what changes there, where that is something else."""
     kernel = PROFILE if lab.setup.kernel == EVERY else EVERY
     there = Laboratory(lab.program, setup=lab.setup.by(kernel))
@@ -35,12 +35,12 @@ def otherwise(lab: Laboratory, branch: Branch, it: Tried, groups: Sequence[Numbe
     if parted:
         return Otherwise(f"{kernel.by} the run is a different one from event {parted} on, and its faults are not tried", {})
     with there.beside(branch) as other:
-        player = Player(other, branch, Course(lines, outcomes), it.asked.flushing)
+        player = Player(other, branch, Course(lines, outcomes), trial.asked.flushing)
         played = player.play(())
-        its = Tried(player, Base(player.course, played, other.setup), it.asked, it.why, played.shown, [], 0)
+        its = Tried(player, Base(player.course, played, other.setup), trial.asked, trial.why, played.shown, [], 0)
         found = {}
         for number, group in groups:
             text = change(its, its.base.effect(player.play(group.variants[0])), PLAIN)
-            if text != change(it, group.effect, PLAIN):
+            if text != change(trial, group.effect, PLAIN):
                 found[number] = f"{kernel.by}: {text}"
         return Otherwise("", found)

@@ -147,10 +147,10 @@ class Player:
 
     def _held(self, number: int, came: str = "") -> OfNode:
         """The node that holds the packet of an event, and the name of its state."""
-        it = self.course.events[number - 1]
-        return it.words[1], (came or it.came).split()[1]
+        event = self.course.events[number - 1]
+        return event.words[1], (came or event.came).split()[1]
 
-    def _send_before(self, it: Planned, passed: int, played: Played, names: Names) -> None:
+    def _send_before(self, coming: Planned, passed: int, played: Played, names: Names) -> None:
         """If nodes send at once: before an event of the run that comes after so many others, those send that have nothing to send here in
         the run."""
 
@@ -163,7 +163,7 @@ class Player:
             names.count(outcome)
             return outcome
 
-        if self._idle and it.number > passed and not played.trouble and not send(step, self._idle[it.number - 1]):
+        if self._idle and coming.number > passed and not played.trouble and not send(step, self._idle[coming.number - 1]):
             played.trouble = ENDLESS
 
     def _begin(self, place: int) -> None:
@@ -197,18 +197,18 @@ class Player:
         waiting.clear()
         return [(it.at, it.step) for it in reversed(again)]
 
-    def _take(self, it: _Waiting, outcome: str, played: Played, names: Names) -> None:
+    def _take(self, waited: _Waiting, outcome: str, played: Played, names: Names) -> None:
         """Takes what came of an event."""
-        played.steps.append((it.step.number, it.line))
+        played.steps.append((waited.step.number, waited.line))
         if outcome.startswith(_IS_REFUSED):
-            played.refused.append(Refused(it.at, it.step.number, it.line, outcome.split()[-1]))
-            names.forget([it.step])
+            played.refused.append(Refused(waited.at, waited.step.number, waited.line, outcome.split()[-1]))
+            names.forget([waited.step])
         else:
-            played.events.append((it.line, outcome))
-            names.learn(it.step, outcome)
-        if it.step.number:
-            played.came[it.step.number] = outcome
-            played.places[it.step.number] = played.place + len(played.steps) - len(played.refused)
+            played.events.append((waited.line, outcome))
+            names.learn(waited.step, outcome)
+        if waited.step.number:
+            played.came[waited.step.number] = outcome
+            played.places[waited.step.number] = played.place + len(played.steps) - len(played.refused)
 
     def _quiet(self, played: Played) -> None:
         """Goes on as `quiet` does: what is in flight arrives, what is pending is sent, bulk updates take their turns."""

@@ -32,93 +32,93 @@ MOST_STATES = 3
 Numbered = Tuple[int, Group]
 
 
-def shown_groups(it: Tried) -> List[Numbered]:
+def shown_groups(trial: Tried) -> List[Numbered]:
     """The groups that are asked for, each with its number among all of them."""
-    numbered = list(enumerate(it.groups.ordered(), 1))
-    for number in it.asked.only:
+    numbered = list(enumerate(trial.groups.ordered(), 1))
+    for number in trial.asked.only:
         if number > len(numbered):
             groups = f"from 1 to {len(numbered)}" if numbered else "and there is none"
             raise Unknown(f"there is no group {number}: they are numbered {groups}")
-    chosen = [(number, group) for number, group in numbered if not it.asked.only or number in it.asked.only]
-    return [(number, group) for number, group in chosen if it.asked.watch.has(group.effect)]
+    chosen = [(number, group) for number, group in numbered if not trial.asked.only or number in trial.asked.only]
+    return [(number, group) for number, group in chosen if trial.asked.watch.has(group.effect)]
 
 
-def report(it: Tried, groups: Sequence[Numbered], paint: Paint, others: Mapping[int, str] = MappingProxyType({})) -> List[str]:
+def report(trial: Tried, groups: Sequence[Numbered], paint: Paint, others: Mapping[int, str] = MappingProxyType({})) -> List[str]:
     """What was tried, how the run itself ends, and the groups, the most severe first; and by their numbers what the first fault of each
     changes by other rules, where that is something else."""
-    ending = f"once nothing is pending or in flight: {between_nodes(read_shown(it.shown), it.setup, paint)[0]}"
-    lines = [paint.head(_headline(it)), f"as it was, {f'at the end {it.base.trouble}' if it.base.trouble else ending}"]
-    if it.is_interrupted:
-        lines.append(paint.note(f"interrupted: {it.done:,} of {it.total:,} were tried"))
+    ending = f"once nothing is pending or in flight: {between_nodes(read_shown(trial.shown), trial.setup, paint)[0]}"
+    lines = [paint.head(_headline(trial)), f"as it was, {f'at the end {trial.base.trouble}' if trial.base.trouble else ending}"]
+    if trial.is_interrupted:
+        lines.append(paint.note(f"interrupted: {trial.done:,} of {trial.total:,} were tried"))
     for number, group in groups:
-        lines += ["", *_group(it, number, group, others.get(number, ""), paint)]
+        lines += ["", *_group(trial, number, group, others.get(number, ""), paint)]
     if not groups:
-        lines += ["", _nothing(it)]
-    if it.of_one and it.groups.ordered():
-        more = _many(it.of_one, "more pair changes", "more pairs change")
+        lines += ["", _nothing(trial)]
+    if trial.of_one and trial.groups.ordered():
+        more = _many(trial.of_one, "more pair changes", "more pairs change")
         lines += ["", paint.dim(f"{more} what one of the two changes alone, or each of them alone")]
     return lines
 
 
-def _headline(it: Tried) -> str:
-    course, faults = it.course, counted(len(it.faults), "single fault")
+def _headline(trial: Tried) -> str:
+    course, faults = trial.course, counted(len(trial.faults), "single fault")
     where = ""
-    if it.asked.first > 1 or it.asked.last is not None:
-        where = f" at events {it.asked.first} to {it.asked.last or len(course)}"
-    kinds = f" ({', '.join(it.asked.kinds)})" if it.asked.faults else ""
-    how = f", two together: {_many(it.total, 'pair', 'pairs')}" if it.asked.pairs else ", each by itself"
-    return f"{it.player.branch.name}, {counted(len(course), 'event')}: {faults}{where}{kinds}{how}"
+    if trial.asked.first > 1 or trial.asked.last is not None:
+        where = f" at events {trial.asked.first} to {trial.asked.last or len(course)}"
+    kinds = f" ({', '.join(trial.asked.kinds)})" if trial.asked.faults else ""
+    how = f", two together: {_many(trial.total, 'pair', 'pairs')}" if trial.asked.pairs else ", each by itself"
+    return f"{trial.player.branch.name}, {counted(len(course), 'event')}: {faults}{where}{kinds}{how}"
 
 
 def _many(number: int, one: str, many: str) -> str:
     return f"{number:,} {one if number == 1 else many}"
 
 
-def _nothing(it: Tried) -> str:
+def _nothing(trial: Tried) -> str:
     """A line that there is no group to show."""
-    if not it.groups.ordered():
-        return "no pair does more than its two faults alone" if it.asked.pairs and it.done else "nothing was tried"
+    if not trial.groups.ordered():
+        return "no pair does more than its two faults alone" if trial.asked.pairs and trial.done else "nothing was tried"
     return "no fault changes that"
 
 
-def _group(it: Tried, number: int, group: Group, other: str, paint: Paint) -> List[str]:
+def _group(trial: Tried, number: int, group: Group, other: str, paint: Paint) -> List[str]:
     """A group: what changes, with which faults, what the first of them changes by other rules, and why it does what it does."""
-    what = counted(group.many, "pair" if it.asked.pairs else "fault")
-    lines = [f"{paint.head(f'{number}  {what}:')} {change(it, group.effect, paint)}", f"   {_names(it, group)}"]
+    what = counted(group.many, "pair" if trial.asked.pairs else "fault")
+    lines = [f"{paint.head(f'{number}  {what}:')} {change(trial, group.effect, paint)}", f"   {_names(trial, group)}"]
     lines += [f"   {paint.note(_hung(hung))}" for hung in group.effect.hung]
     lines += [f"   {paint.note(other)}"] * bool(other)
     if group.reason is None:
-        group.reason = why_first(it, group.variants[0], group.effect, it.player.play(group.variants[0]), paint)
+        group.reason = why_first(trial, group.variants[0], group.effect, trial.player.play(group.variants[0]), paint)
     return lines + [f"   {line}" for line in group.reason]
 
 
-def change(it: Tried, effect: Effect, paint: Paint) -> str:
+def change(trial: Tried, effect: Effect, paint: Paint) -> str:
     """What changes, in one line. That all is as it was is said only where all of it was compared."""
     parts = [*_verdicts(effect.verdicts, paint), *_changes(effect.changes), *effect.waits]
     if effect.trouble:
         parts.append(paint.bad(f"at the end {effect.trouble}"))
     if not parts:
         but = [f"{counted(len(effect.impossible), 'packet')} could not have come"] * bool(effect.hung)
-        but += [f"refused: {_few([_event(it.course, one) for one in effect.refused])}"] * bool(effect.refused)
+        but += [f"refused: {_few([_event(trial.course, one) for one in effect.refused])}"] * bool(effect.refused)
         same = "every packet and state as it was" if effect.is_compared else "no packet judged differently"
         parts.append(f"{same}, but {but[0]}" if but else paint.good(same) if effect.is_compared else same)
-    return "; ".join([*parts, *_not_compared(it, effect)])
+    return "; ".join([*parts, *_not_compared(trial, effect)])
 
 
-def _not_compared(it: Tried, effect: Effect) -> List[str]:
+def _not_compared(trial: Tried, effect: Effect) -> List[str]:
     """That the end was not compared, and why, where it was not."""
     if effect.is_compared:
         return []
-    if effect.trouble and not it.base.trouble:
+    if effect.trouble and not trial.base.trouble:
         return ["the end was not compared"]
-    return [f"the end was not compared: the run does not come to rest: at the end {it.base.trouble}"]
+    return [f"the end was not compared: the run does not come to rest: at the end {trial.base.trouble}"]
 
 
-def _hung(it: Hung) -> str:
+def _hung(hung: Hung) -> str:
     """The packets that could not have come, and what they hang on."""
-    if len(it.numbers) == 1:
-        return f"event {it.numbers[0]} could not have come: it answers event {it.cause}, {it.why}"
-    return f"events {_few([*map(str, it.numbers)])} could not have come: they answer event {it.cause}, {it.why}"
+    if len(hung.numbers) == 1:
+        return f"event {hung.numbers[0]} could not have come: it answers event {hung.cause}, {hung.why}"
+    return f"events {_few([*map(str, hung.numbers)])} could not have come: they answer event {hung.cause}, {hung.why}"
 
 
 def _verdicts(verdicts: Sequence[Verdict], paint: Paint) -> List[str]:
@@ -154,10 +154,10 @@ def text_of(variant: Variant) -> str:
     return " and ".join(it.name for it in variant)
 
 
-def _names(it: Tried, group: Group) -> str:
+def _names(trial: Tried, group: Group) -> str:
     """The first faults of a group, or all that are kept if only this group is asked for."""
     named = _named(group.variants)
-    shown = named if it.asked.only else named[:MOST_NAMED]
+    shown = named if trial.asked.only else named[:MOST_NAMED]
     more = group.many - sum(many for _, many in shown)
     return "; ".join(name for name, _ in shown) + (f"; and {more:,} more" if more else "")
 
@@ -181,29 +181,29 @@ def _row(place: int, variant: Variant) -> Tuple[str, int]:
 # ---- the first fault of a group
 
 
-def why_first(it: Tried, variant: Variant, effect: Effect, played: Played, paint: Paint) -> List[str]:
+def why_first(trial: Tried, variant: Variant, effect: Effect, played: Played, paint: Paint) -> List[str]:
     """Why the first fault of a group, which was just played, changes what it does, and which events it causes to be refused."""
     if effect.is_nothing:
         return []
     if effect.rank == REFUSED:
-        return _refusal(it, variant, played, effect.refused[0], paint)
+        return _refusal(trial, variant, played, effect.refused[0], paint)
     lines: List[str] = []
     if effect.trouble:
-        lines = _answered(it, played, paint)
+        lines = _answered(trial, played, paint)
     elif effect.rank in (GONE, APART, OTHERWISE, IMPOSSIBLE):
-        lines = _states(it, played, effect, paint)
+        lines = _states(trial, played, effect, paint)
     if effect.possible:
-        lines = [*_verdict(it, variant, played, reason_at(effect), paint), *lines]
-    return lines + [paint.note(line) for line in _refused(it.course, played)]
+        lines = [*_verdict(trial, variant, played, reason_at(effect), paint), *lines]
+    return lines + [paint.note(line) for line in _refused(trial.course, played)]
 
 
-def _verdict(it: Tried, variant: Variant, played: Played, number: int, paint: Paint) -> List[str]:
+def _verdict(trial: Tried, variant: Variant, played: Played, number: int, paint: Paint) -> List[str]:
     """Why a packet gets another verdict in the variant that was played last. Of a packet that was held it is what ended that."""
     if any(one.number == number for one in played.refused):
-        return _refusal(it, variant, played, number, paint)
+        return _refusal(trial, variant, played, number, paint)
     fate = played.fates.get(number)
     place = number if number <= played.place else played.places[number]
-    return _reason(it, fate.place or place if fate else place, paint, ("held" if fate.place else "`defer`") if fate else "")
+    return _reason(trial, fate.place or place if fate else place, paint, ("held" if fate.place else "`defer`") if fate else "")
 
 
 def reason_at(effect: Effect) -> int:
@@ -213,41 +213,41 @@ def reason_at(effect: Effect) -> int:
     return (crossed or [it.number for it in effect.possible])[0]
 
 
-def _reason(it: Tried, place: int, paint: Paint, about: str = "") -> List[str]:
+def _reason(trial: Tried, place: int, paint: Paint, about: str = "") -> List[str]:
     """What `why` says of an event by its place in the variant that was played last: all of it if a group is asked for, else what decided,
     and why no state matched; or the lines about something, if there are any."""
-    lab, branch = it.player.lab, it.player.lab.branch(it.player.name)
+    lab, branch = trial.player.lab, trial.player.lab.branch(trial.player.name)
     question = Question(History(lab, branch.name, branch.events[: place - 1]), lab.explanation(branch.name, place), paint)
     event, lines = question.explanation.event, reasons(question)
     those = [line for line in lines if about and about in line]
-    if not it.asked.only:
+    if not trial.asked.only:
         lines = those or lines[:1] + (explain_absence(question)[:1] if isinstance(question.reason, Judged) else [])
     return [paint.head(f"{event.line}: {event.came}"), *(f"  {line}" for line in lines)]
 
 
-def _refusal(it: Tried, variant: Variant, played: Played, number: int, paint: Paint) -> List[str]:
+def _refusal(trial: Tried, variant: Variant, played: Played, number: int, paint: Paint) -> List[str]:
     """What `why` says of an event that is refused in a variant; the variant is played up to there."""
     refused = next(one for one in played.refused if one.number == number)
-    it.player.play(variant, until=refused.at)
-    return explained_ahead(it.player.lab, it.player.name, refused.line, paint)
+    trial.player.play(variant, until=refused.at)
+    return explained_ahead(trial.player.lab, trial.player.name, refused.line, paint)
 
 
-def _answered(it: Tried, played: Played, paint: Paint) -> List[str]:
+def _answered(trial: Tried, played: Played, paint: Paint) -> List[str]:
     """Why the newest two frames that arrived in a variant are answered, if the nodes go on answering."""
-    branch = it.player.lab.branch(it.player.name)
+    branch = trial.player.lab.branch(trial.player.name)
     places = [place for place, line in enumerate(branch.events, 1) if line.startswith(f"{DELIVER.word} ")]
-    return [line for place in places[-2:] * (played.trouble == ENDLESS) for line in explained_event(it.player.lab, branch, place, paint)]
+    return [line for place in places[-2:] * (played.trouble == ENDLESS) for line in explained_event(trial.player.lab, branch, place, paint)]
 
 
-def _states(it: Tried, played: Played, effect: Effect, paint: Paint) -> List[str]:
+def _states(trial: Tried, played: Played, effect: Effect, paint: Paint) -> List[str]:
     """What the nodes have at the end of a variant: how they are apart, as `diff` says it; and what they had in the run, where that is
     gone or otherwise."""
     apart = {one.flow for one in effect.changes if one.is_apart}
     lines: List[str] = []
     if apart or effect.waits:
-        answer, *differ = between_nodes(played.pair, it.setup, PLAIN)
+        answer, *differ = between_nodes(played.pair, trial.setup, PLAIN)
         lines = [paint.bad(answer), *_some([line for line in differ if any(flow in line for flow in apart)])]
-    return lines + _some(_otherwise(it.base.end, End(played.shown, it.setup)))
+    return lines + _some(_otherwise(trial.base.end, End(played.shown, trial.setup)))
 
 
 def _some(lines: Sequence[str]) -> List[str]:

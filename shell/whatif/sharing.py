@@ -40,22 +40,22 @@ class Sharing:
     def _of(self, line: str) -> List[int]:
         if line not in self._least:
             least, words = [0], line.split()
-            for it in self.course.events:
-                least.append(least[-1] if self._is_apart(words, it) else it.number)
+            for event in self.course.events:
+                least.append(least[-1] if self._is_apart(words, event) else event.number)
             self._least[line] = least
         return self._least[line]
 
-    def _is_apart(self, words: List[str], it: Happened) -> bool:
+    def _is_apart(self, words: List[str], event: Happened) -> bool:
         """Whether an event of the run has nothing to do with the node of an added event."""
-        node, its = words[1], it.words
-        if it.kind is LOSE:
+        node, its = words[1], event.words
+        if event.kind is LOSE:
             return True
-        if it.kind is DELIVER:
+        if event.kind is DELIVER:
             # (a frame comes to the node that did not send it)
             return self.course.sender(int(its[1])) == node
-        if it.kind is RESTART and words[0] == RESTART.word:
+        if event.kind is RESTART and words[0] == RESTART.word:
             return False
-        return (its[0] in OF_NODE or it.kind in (FLUSH, RESTART)) and its[1] == other(node)
+        return (its[0] in OF_NODE or event.kind in (FLUSH, RESTART)) and its[1] == other(node)
 
 
 def _is_of_one_node(words: List[str]) -> bool:

@@ -72,12 +72,12 @@ def tried(player: Player, asked: Asked, progress: Progress, why: Why) -> Tried:
     played = player.play(())
     base = Base(course, played, setup)
     total = sum(1 for _ in pairs_of(faults)) if asked.pairs else len(faults)
-    it = Tried(player, base, asked, why, played.shown, faults, total)
+    trial = Tried(player, base, asked, why, played.shown, faults, total)
     try:
-        (_try_pairs if asked.pairs else _try_each)(it, progress)
+        (_try_pairs if asked.pairs else _try_each)(trial, progress)
     except KeyboardInterrupt:
-        it.is_interrupted = True
-    return it
+        trial.is_interrupted = True
+    return trial
 
 
 def _bounded(branch: str, course: Course, faults: List[Fault]) -> None:
@@ -91,54 +91,54 @@ def _bounded(branch: str, course: Course, faults: List[Fault]) -> None:
         )
 
 
-def _effect(it: Tried, variant: Variant) -> Effect:
-    return it.base.effect(it.player.play(variant))
+def _effect(trial: Tried, variant: Variant) -> Effect:
+    return trial.base.effect(trial.player.play(variant))
 
 
-def _add(it: Tried, variant: Variant, effect: Effect, played: Played) -> None:
+def _add(trial: Tried, variant: Variant, effect: Effect, played: Played) -> None:
     """Adds a variant that was just played to its group. If it is the first one, and its group will be shown, it is asked why at once, since
     later it would have to be played again."""
-    group = it.groups.add(variant, effect)
-    if group.many == 1 and not it.asked.only and it.asked.watch.has(effect):
-        group.reason = it.why(it, variant, effect, played)
+    group = trial.groups.add(variant, effect)
+    if group.many == 1 and not trial.asked.only and trial.asked.watch.has(effect):
+        group.reason = trial.why(trial, variant, effect, played)
 
 
-def _counted(it: Tried, variants: Iterable[Variant], progress: Progress) -> Iterator[Variant]:
+def _counted(trial: Tried, variants: Iterable[Variant], progress: Progress) -> Iterator[Variant]:
     """The variants, each counted once it is done."""
     for variant in variants:
-        progress(it.done, it.total)
+        progress(trial.done, trial.total)
         yield variant
-        it.done += 1
+        trial.done += 1
 
 
-def _watched(it: Tried, progress: Progress) -> Iterator[Fault]:
+def _watched(trial: Tried, progress: Progress) -> Iterator[Fault]:
     """The faults, which are tried before any pair."""
-    for fault in it.faults:
-        progress(0, it.total)
+    for fault in trial.faults:
+        progress(0, trial.total)
         yield fault
 
 
-def _try_each(it: Tried, progress: Progress) -> None:
-    sharing = Sharing(it.course)
-    for variant in _counted(it, ((fault,) for fault in it.faults), progress):
-        alike = None if it.asked.flushing else sharing.alike(variant)
-        if alike in it.known:
-            it.groups.add(variant, it.known[alike])
+def _try_each(trial: Tried, progress: Progress) -> None:
+    sharing = Sharing(trial.course)
+    for variant in _counted(trial, ((fault,) for fault in trial.faults), progress):
+        alike = None if trial.asked.flushing else sharing.alike(variant)
+        if alike in trial.known:
+            trial.groups.add(variant, trial.known[alike])
             continue
-        played = it.player.play(variant)
-        effect = it.base.effect(played)
+        played = trial.player.play(variant)
+        effect = trial.base.effect(played)
         if alike:
-            it.known[alike] = effect
-        _add(it, variant, effect, played)
+            trial.known[alike] = effect
+        _add(trial, variant, effect, played)
 
 
-def _try_pairs(it: Tried, progress: Progress) -> None:
+def _try_pairs(trial: Tried, progress: Progress) -> None:
     """Tries each fault by itself first: only a pair that does something else counts."""
-    alone = {fault: _effect(it, (fault,)) for fault in _watched(it, progress)}
-    for one, two in _counted(it, pairs_of(it.faults), progress):
-        played = it.player.play((one, two))
-        effect = it.base.effect(played)
+    alone = {fault: _effect(trial, (fault,)) for fault in _watched(trial, progress)}
+    for one, two in _counted(trial, pairs_of(trial.faults), progress):
+        played = trial.player.play((one, two))
+        effect = trial.base.effect(played)
         if is_of_one(effect, alone[one], alone[two], one.left_out | two.left_out):
-            it.of_one += 1
+            trial.of_one += 1
         else:
-            _add(it, (one, two), effect, played)
+            _add(trial, (one, two), effect, played)

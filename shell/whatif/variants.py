@@ -25,10 +25,10 @@ class Written(NamedTuple):
         return f"written: {path}, with {'the branch' if len(self.names) == 1 else 'the branches'} {', '.join(self.names)}"
 
 
-def with_variants(it: Tried, text: str, taken: Sequence[str], shown: Sequence[Numbered]) -> Written:
+def with_variants(trial: Tried, text: str, taken: Sequence[str], shown: Sequence[Numbered]) -> Written:
     """A script with a branch for the first fault of each group that is shown and changes something, or is asked for by its number; the
     branches exist at its end."""
-    groups = [(number, group) for number, group in shown if it.asked.only or not group.effect.is_nothing]
+    groups = [(number, group) for number, group in shown if trial.asked.only or not group.effect.is_nothing]
     room = MOST_BRANCHES - len(taken)
     if not groups:
         raise Unknown("nothing is written: no group that is shown changes anything")
@@ -40,8 +40,8 @@ def with_variants(it: Tried, text: str, taken: Sequence[str], shown: Sequence[Nu
     for number, group in groups:
         written.names.append(_name(number, names))
         names.add(written.names[-1])
-        lines += [f"{line}\n" for line in _branch(it, written.names[-1], group)]
-    return written._replace(text=annotated(it.player.lab.program, "".join(lines)).text)
+        lines += [f"{line}\n" for line in _branch(trial, written.names[-1], group)]
+    return written._replace(text=annotated(trial.player.lab.program, "".join(lines)).text)
 
 
 def _name(number: int, taken: Set[str]) -> str:
@@ -51,12 +51,12 @@ def _name(number: int, taken: Set[str]) -> str:
     return name if name not in taken else next(one for one in more if one not in taken)
 
 
-def _branch(it: Tried, name: str, group: Group) -> Iterator[str]:
+def _branch(trial: Tried, name: str, group: Group) -> Iterator[str]:
     """The lines of a variant's branch; if there is something else at its end, the steps to that point come too, and what is there."""
-    played, branch, effect = it.player.play(group.variants[0]), it.player.branch.name, group.effect
+    played, branch, effect = trial.player.play(group.variants[0]), trial.player.branch.name, group.effect
     before = {one.number: one.before for one in effect.verdicts}
     yield ""
-    yield from _comment(f"What if: {text_of(group.variants[0])}? Then {change(it, effect, PLAIN)}.")
+    yield from _comment(f"What if: {text_of(group.variants[0])}? Then {change(trial, effect, PLAIN)}.")
     yield f"{FORK.word} {branch} {played.place} {name}"
     for number, line in played.steps:
         yield from _comment(f"On {branch} this is {before[number]}.") if number in before else ()
