@@ -382,21 +382,21 @@ def page_address(word: str) -> Address:
     """The address of a page, which may be asked for: arguments can be seen in the list of processes."""
     from .link.visits import ASKED_FOR, NO_ADDRESS, Address
 
-    it = ASKED_FOR if word == "-" else Address.read(word)
-    if it is None:
+    address = ASKED_FOR if word == "-" else Address.read(word)
+    if address is None:
         # (the token in it is not repeated)
         raise argparse.ArgumentTypeError(NO_ADDRESS)
-    return it
+    return address
 
 
 def person(word: str) -> str:
     """A name, as others are shown it."""
     from .link.visits import cleaned
 
-    it = cleaned(word)
-    if not it:
+    name = cleaned(word)
+    if not name:
         raise argparse.ArgumentTypeError("a name has a character that prints")
-    return it
+    return name
 
 
 def shell_fault(words: Words) -> str:

@@ -21,16 +21,16 @@ from .console.paging import paged
 
 # (a word imports what it needs when it is carried out, so that none waits for what others need)
 if TYPE_CHECKING:
-    from .model.branches import Branch
     from .charts.chart import Texts
     from .charts.rows import Chart
     from .charts.windows import Window
+    from .dialogue.shell import Shell
     from .link.laboratory import Laboratory
     from .link.programs import Client
-    from .model.setups import Setup
-    from .dialogue.shell import Shell
-    from .scripts.stories import Story
     from .link.visits import Address, Page
+    from .model.branches import Branch
+    from .model.setups import Setup
+    from .scripts.stories import Story
 
 HISTORY = "~/.pfl_lab_history"
 
@@ -123,11 +123,11 @@ def annotate(words: Words) -> int:
 
 
 def chart(words: Words) -> int:
-    from .scripts import texts
     from .charts.picture import draw
     from .charts.text import WIDEST, text as chart_text
     from .charts.windows import Window
     from .language.lines import lines_of
+    from .scripts import texts
 
     script = lines_of(texts.read(words.file))
     if says_faults(words, words.file, script):
@@ -143,11 +143,11 @@ def chart(words: Words) -> int:
 
 def page(words: Words) -> int:
     """Writes the run of a script as a page, or serves the page of a pair."""
-    from .scripts import texts
     from .language.lines import lines_of
     from .pages.live import OPENING, begun, joined, serve
     from .pages.packing import page as page_of
     from .pages.runs import run_of
+    from .scripts import texts
 
     script: Sequence[str] = lines_of(texts.read(words.script)) if words.script else OPENING
     if words.script and says_faults(words, words.script, script):
@@ -164,8 +164,8 @@ def page(words: Words) -> int:
 
 def sheet(words: Words) -> int:
     """Writes a script as a sheet of paper."""
-    from .scripts import texts
     from .language.lines import lines_of
+    from .scripts import texts
     from .sheets.lesson import lesson_of
     from .sheets.sheet import sheet as sheet_of
 
@@ -183,10 +183,10 @@ def sheet(words: Words) -> int:
 
 def frames(words: Words) -> int:
     """Writes the frames of a script as captures, one at each node."""
-    from .scripts import texts
     from .captures import runs
-    from .link.laboratory import Laboratory
     from .language.lines import lines_of
+    from .link.laboratory import Laboratory
+    from .scripts import texts
     from .scripts.stories import story_of
 
     paths = (words.capture_a, words.capture_b)
@@ -202,9 +202,9 @@ def frames(words: Words) -> int:
 
 def whatif(words: Words) -> int:
     """Tries the faults of what happened in a script."""
-    from .scripts import texts
-    from .link.laboratory import Laboratory, Unknown
     from .language.lines import lines_of
+    from .link.laboratory import Laboratory, Unknown
+    from .scripts import texts
     from .scripts.stories import story_of
     from .whatif.answers import Counter, answer
     from .whatif.asked import asked
@@ -232,9 +232,9 @@ def whatif(words: Words) -> int:
 
 def depends(words: Words) -> int:
     """Plays scripts by other rules than their own; the status is that of diff(1)."""
-    from .scripts import texts
     from .depends.answers import of_script
     from .language.lines import lines_of
+    from .scripts import texts
 
     status = 0
     for number, path in enumerate(words.files):
@@ -260,9 +260,9 @@ def compare(words: Words) -> int:
     said: Sequence[str] = ()
     try:
         if words.out:
-            from .scripts import texts
             from .dumps.opening import Asked, opening
             from .language.names import NODES
+            from .scripts import texts
 
             asked_for = Asked(words.out, words.rules, words.of_flow)
             made = opening(words.program, answer.found, dict(zip(NODES, words.dumps)), tolerance, asked_for)
@@ -286,9 +286,9 @@ def capture(words: Words) -> int:
         show_answer(answer.lines)
         return answer.status
     lines = answer.lines
-    from .scripts import texts
     from .inferring.command import Captured, infer
     from .inferring.night import Part
+    from .scripts import texts
 
     try:
         asked_for = Captured(answer.overlay, Part.of(answer.selection), answer.times)
@@ -368,27 +368,27 @@ def paint(is_terminal: bool) -> Paint:
 
 
 def shell(words: Words) -> int:
-    from .scripts import texts
-    from .language.lines import lines_of
-    from .dialogue.shell import Shell, Stopped
     from .console.characters import without_mark
+    from .dialogue.shell import Shell, Stopped
+    from .language.lines import lines_of
+    from .scripts import texts
 
     is_typed = sys.stdin.isatty()
     lab = laboratory_of(words)
-    it = Shell(lab, sys.stdout, paint(sys.stdout.isatty()), words.strict, is_typed)
+    loop = Shell(lab, sys.stdout, paint(sys.stdout.isatty()), words.strict, is_typed)
     try:
-        ended = any(it.take(lines_of(without_mark(texts.read(path))), echo=is_typed or words.echo) for path in words.files)
+        ended = any(loop.take(lines_of(without_mark(texts.read(path))), echo=is_typed or words.echo) for path in words.files)
         if not ended and is_typed:
-            (it.suggest if words.files else it.greet)()
-            dialogue(it)
+            (loop.suggest if words.files else loop.greet)()
+            dialogue(loop)
         elif not ended:
-            it.take(lines_of_input(), words.echo)
+            loop.take(lines_of_input(), words.echo)
     except Stopped as why:
         say(words, f"stopped at {why}")
         return STRICT_STATUS
     finally:
         lab.close()
-    return int(it.has_faults and not is_typed)
+    return int(loop.has_faults and not is_typed)
 
 
 def laboratory_of(words: Words) -> Laboratory:
@@ -412,10 +412,10 @@ def page_at(address: Address) -> Page:
 
     if address == ASKED_FOR:
         print("address of the page: ", end="", file=sys.stderr, flush=True)
-    it = Address.read(sys.stdin.readline()) if address == ASKED_FOR else address
-    if it is None:
+    given = Address.read(sys.stdin.readline()) if address == ASKED_FOR else address
+    if given is None:
         raise Unknown(NO_ADDRESS)
-    return Page(it)
+    return Page(given)
 
 
 def joined_to(words: Words, port: int, page: Optional[Page]) -> Laboratory:
@@ -478,12 +478,12 @@ def command_of(words: Words) -> str:
 
 def setup_from(program: str, path: str) -> Setup:
     """The setup in a file, up to `open` if that is there, if the program finds no fault in it."""
-    from .scripts import texts
-    from .link.laboratory import Unknown
     from .language.lines import lines_of, opens
+    from .link.laboratory import Unknown
     from .link.programs import check_setup
-    from .scripts.proofreading import setup_slip
     from .model.setups import Setup
+    from .scripts import texts
+    from .scripts.proofreading import setup_slip
 
     lines = list(takewhile(lambda line: not opens(line), lines_of(texts.read(path))))
     fault = check_setup(program, lines)
@@ -492,14 +492,14 @@ def setup_from(program: str, path: str) -> Setup:
     return Setup.of(lines)
 
 
-def dialogue(it: Shell) -> None:
+def dialogue(loop: Shell) -> None:
     """Takes lines from a terminal, with a history; an interrupt gives up only the line."""
     history = os.path.expanduser(os.environ.get("PFL_LAB_HISTORY", HISTORY))
     keep_history(history)
-    it.watch()
+    loop.watch()
     while True:
         try:
-            it.cmdloop()
+            loop.cmdloop()
             return
         except KeyboardInterrupt:
             print("^C")

@@ -40,20 +40,20 @@ class Notes:
         shared.heard = self._hear
         shared.say = lambda text: self.show_lines([self.paint.bad(text)])
 
-    def _hear(self, it: Entry, reply: Optional[List[str]]) -> None:
+    def _hear(self, entry: Entry, reply: Optional[List[str]]) -> None:
         if self.is_on:
             now = time.monotonic()
             self._since_pause = 1 if now - self._newest >= PAUSE else self._since_pause + 1
             self._newest = now
-            self._held.append(Held(it, reply))
+            self._held.append(Held(entry, reply))
             self._count += 1
             if len(self._held) > MOST:
                 self._others.add(self._who(self._held.popleft().entry))
 
-    def _who(self, it: Entry) -> Tuple[str, int]:
+    def _who(self, entry: Entry) -> Tuple[str, int]:
         """Who gave a command: a name, or else the number of a session."""
-        name = it.who or (self.names.name(it) if self.names else "")
-        return (name, 0) if name else ("", it.session)
+        name = entry.who or (self.names.name(entry) if self.names else "")
+        return (name, 0) if name else ("", entry.session)
 
     def _knows_names(self, seconds: float) -> bool:
         """Whether it is known who gave the held commands, or has been waited for long enough."""
@@ -88,9 +88,9 @@ class Notes:
         self._count = 0
 
 
-def note(it: Held, who: Tuple[str, int]) -> str:
+def note(held: Held, who: Tuple[str, int]) -> str:
     """A command of another session, who gave it, and what the mirror replied."""
-    return f"[{all_of({who})}] {it.entry.command}" + ("" if it.reply is None else f" -> {in_short(it.reply[0])}")
+    return f"[{all_of({who})}] {held.entry.command}" + ("" if held.reply is None else f" -> {in_short(held.reply[0])}")
 
 
 def all_of(people: Set[Tuple[str, int]]) -> str:

@@ -76,8 +76,8 @@ def _place(lab: Laboratory, asked: Asked) -> Tuple[str, int]:
         return asked.branch or lab.in_use, int(asked.place)
     if asked.place not in lab.marks:
         raise Unknown(f"there is no mark {asked.place}; `mark` lists them")
-    it = lab.marks[asked.place]
-    name = asked.branch or it.branch
-    if tuple(lab.branch(name).events[: len(it.stood)]) != it.stood:
-        raise Unknown(f"{name} no longer has the events that stood at mark {asked.place}: {it}")
-    return name, len(it.stood)
+    mark = lab.marks[asked.place]
+    name = asked.branch or mark.branch
+    if tuple(lab.branch(name).events[: len(mark.stood)]) != mark.stood:
+        raise Unknown(f"{name} no longer has the events that stood at mark {asked.place}: {mark}")
+    return name, len(mark.stood)

@@ -85,6 +85,6 @@ def watch(notes: Notes, out: IO[str], prompt: Callable[[], str]) -> Optional[Wat
         return None
     if not out.isatty() or os.environ.get("TERM", "") in PLAIN_TERMINALS:
         return None
-    it = Watch(notes, out, lambda: prompt() + readline.get_line_buffer())
-    it.begin()
-    return it
+    watching = Watch(notes, out, lambda: prompt() + readline.get_line_buffer())
+    watching.begin()
+    return watching

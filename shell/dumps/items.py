@@ -101,10 +101,10 @@ def items_of(found: Compared, about: Optional[About]) -> Items:
         its = {node: it for node, it in taken.items() if isinstance(it, Known)}
         if about and not any(_is_about(it, about) for it in its.values()):
             continue
-        for node, it in taken.items():
+        for node, state in taken.items():
             items.sizes[node] += 1
-            if isinstance(it, str):
-                items.left[Left(node, it)] += 1
+            if isinstance(state, str):
+                items.left[Left(node, state)] += 1
         _take(items, sort, its, makers)
     for node in NODES:
         if found.again[node] and not about:
@@ -124,9 +124,9 @@ def _take(items: Items, sort: Sort, its: Dict[str, Known], makers: Dict[str, str
             items.add(makers.get(a.dumped.creator or b.dumped.creator, "a"), sort, {"a": a, "b": b})
             return
         items.split += is_sent
-    for node, it in its.items():
-        is_unsent = not it.dumped.is_synchronised
-        items.add(node, Sort.UNSENT if is_unsent else sort if two and sort is Sort.TWIN else Sort.ALONE, {node: it})
+    for node, known in its.items():
+        is_unsent = not known.dumped.is_synchronised
+        items.add(node, Sort.UNSENT if is_unsent else sort if two and sort is Sort.TWIN else Sort.ALONE, {node: known})
 
 
 def _groups(found: Compared) -> Iterator[Tuple[Sort, Dict[str, Dumped]]]:
@@ -142,8 +142,8 @@ def _groups(found: Compared) -> Iterator[Tuple[Sort, Dict[str, Dumped]]]:
                 yield Sort.ALONE, {node: state}
 
 
-def _is_about(it: Known, about: About) -> bool:
-    return any(about.has(end) for key in (it.wanted.wire, it.wanted.stack) for end in (key.far, key.near))
+def _is_about(known: Known, about: About) -> bool:
+    return any(about.has(end) for key in (known.wanted.wire, known.wanted.stack) for end in (key.far, key.near))
 
 
 def _makers(found: Compared) -> Dict[str, str]:

@@ -52,9 +52,9 @@ def likeness(play: Play, items: Sequence[Item], setup: Setup, tolerance: Toleran
             found.besides[node] -= state is not None
             what = _unlike(known, state, setup, its, tolerance) if state else [MISSING]
             found.same[node] += not what
-            for it in what:
-                why = item.why if it != LEFT else item.why_times or _too_short(known, state, item, setup)
-                found.unlike.setdefault(Unlike(node, it, why), []).append(item)
+            for part in what:
+                why = item.why if part != LEFT else item.why_times or _too_short(known, state, item, setup)
+                found.unlike.setdefault(Unlike(node, part, why), []).append(item)
     return found
 
 
@@ -116,11 +116,11 @@ def in_words(found: Likeness, items: Items, files: Dict[str, str]) -> List[str]:
     return lines
 
 
-def _unlike_line(it: Unlike, those: Sequence[Item]) -> str:
+def _unlike_line(unlike: Unlike, those: Sequence[Item]) -> str:
     """A line on states that are not as their dump has them, with the name of the first."""
-    one, many = (MISSING, "are not there") if it.what == MISSING else (f"differs in {it.what}", f"differ in {it.what}")
-    first = f"{'the first is ' if len(those) > 1 else ''}{shown(those[0].wants[it.node].dumped.named())}"
-    return f"{it.node}: {counted(len(those), f'state {one}', f'states {many}')}{f', since {it.why}' if it.why else ''}: {first}"
+    one, many = (MISSING, "are not there") if unlike.what == MISSING else (f"differs in {unlike.what}", f"differ in {unlike.what}")
+    first = f"{'the first is ' if len(those) > 1 else ''}{shown(those[0].wants[unlike.node].dumped.named())}"
+    return f"{unlike.node}: {counted(len(those), f'state {one}', f'states {many}')}{f', since {unlike.why}' if unlike.why else ''}: {first}"
 
 
 def not_had(found: Compared, items: Items) -> List[str]:

@@ -76,11 +76,11 @@ class Player:
 
     def _make(self, stages: Sequence[Stage]) -> None:
         """Lets the packets of some stages come; the first one of an item makes its state."""
-        for it in stages:
-            packets = [f"{STEP.word} main {packet.line}" for packet in it.packets]
-            if it.item not in self.play.names:
-                self._begin(it.item, packets.pop(0))
-            if not it.item.is_out:
+        for stage in stages:
+            packets = [f"{STEP.word} main {packet.line}" for packet in stage.packets]
+            if stage.item not in self.play.names:
+                self._begin(stage.item, packets.pop(0))
+            if not stage.item.is_out:
                 replies = self._run.ask_together(packets)
                 self.play.lines += [line for line, reply in zip(packets, replies) if reply[0].startswith(STEP.word)]
 
@@ -152,19 +152,19 @@ def judge(program: str, setup: Setup, items: Sequence[Item]) -> None:
     *replies, last = run_lines(program, [*setup.lines, OPEN.word, *steps, "show main"]).replies
     pair = read_shown(last)
     names: Set[Name] = set()
-    for it, reply in zip(ordered, replies):
+    for item, reply in zip(ordered, replies):
         outcome = reply[0].split()
         name = _made(outcome)
         if name is None or name in names:
-            it.is_out, it.why = True, KEYS_TAKEN if name else _fate(outcome)
+            item.is_out, item.why = True, KEYS_TAKEN if name else _fate(outcome)
             continue
         names.add(name)
-        state = pair.nodes[it.node].states[name]
-        it.rule = state.rule
-        if (state.wire, state.stack) != (it.wire, it.stack):
-            it.keys, it.why = (state.wire, state.stack), it.why or OTHER_KEYS
+        state = pair.nodes[item.node].states[name]
+        item.rule = state.rule
+        if (state.wire, state.stack) != (item.wire, item.stack):
+            item.keys, item.why = (state.wire, state.stack), item.why or OTHER_KEYS
 
 
-def _first_packet(it: Item) -> PacketEvent:
-    packet = Flow(it.node, it.first.wanted.protocol, it.first.wanted.direction, it.wire, it.stack).packet(SOURCE)
+def _first_packet(item: Item) -> PacketEvent:
+    packet = Flow(item.node, item.first.wanted.protocol, item.first.wanted.direction, item.wire, item.stack).packet(SOURCE)
     return replace(packet, flags="S", window=1, length=0) if packet.is_tcp else packet

@@ -176,8 +176,8 @@ def _range(times: Sequence[int]) -> str:
     return clock(first) if first == last else f"{clock(first)} to {clock(last)}"
 
 
-def _state(it: Dumped) -> str:
-    return f"{it.named()}  {it.flow}  {it.levels}"
+def _state(dumped: Dumped) -> str:
+    return f"{dumped.named()}  {dumped.flow}  {dumped.levels}"
 
 
 # ---- states of both nodes
@@ -192,8 +192,8 @@ def _differing(kind: Kind, those: Sequence[Two], how: Shown) -> List[str]:
     return [head, *_first_groups(_ordered(groups), lambda both, _: both, lambda it: _fields(it, how.tolerance), how)]
 
 
-def _fields(it: Two, tolerance: Tolerance) -> str:
-    return f"{it.a.named()}  {it.a.flow}  {', '.join(fields(it, tolerance))}"
+def _fields(two: Two, tolerance: Tolerance) -> str:
+    return f"{two.a.named()}  {two.a.flow}  {', '.join(fields(two, tolerance))}"
 
 
 def _both(kind: Kind, two: Two) -> str:

@@ -65,10 +65,10 @@ class Rules:
         matches = sorted({it: None for node in NODES for it in self.of[node]}, key=lambda it: it.is_short)
         lines: List[str] = []
         for node, peer in zip(NODES, reversed(NODES)):
-            for it in matches:
-                made = self.of[node].get(it) or self.of[peer][it]
-                option = NAT if it.direction == "out" else RDR
-                words = [*it.words, *made.words, *([option.word, made.near] if made.near else [])]
+            for match in matches:
+                made = self.of[node].get(match) or self.of[peer][match]
+                option = NAT if match.direction == "out" else RDR
+                words = [*match.words, *made.words, *([option.word, made.near] if made.near else [])]
                 lines.append(f"rule {node} {' '.join(words)}")
             lines.append(f"rule {node} {_EVERYTHING}")
         return lines
@@ -78,38 +78,38 @@ def rules_for(items: Sequence[Item]) -> Rules:
     """Rules for all items as far as there is room, those that matter most first. The others get the keys of the wire, or are sent."""
     rules, short, plain = Rules(), _short(items), {_match(it, set()) for it in items if _made(it) == PLAIN}
     matches: Set[Match] = set()
-    for it in sorted((it for it in items if _made(it) != PLAIN), key=lambda it: it.harm):
-        match, made = _match(it, short), _made(it)
-        has_form = _has_form(it) and rules.of[it.node].get(match, made) == made and match not in plain
+    for item in sorted((it for it in items if _made(it) != PLAIN), key=lambda it: it.harm):
+        match, made = _match(item, short), _made(item)
+        has_form = _has_form(item) and rules.of[item.node].get(match, made) == made and match not in plain
         if has_form and (match in matches or len(matches) < MOST_RULES - 1):
-            rules.of[it.node][match] = made
+            rules.of[item.node][match] = made
             matches.add(match)
         else:
-            _give_up(it, NO_ROOM if has_form else NO_FORM)
+            _give_up(item, NO_ROOM if has_form else NO_FORM)
     return rules
 
 
-def _give_up(it: Item, why: str) -> None:
+def _give_up(item: Item, why: str) -> None:
     """Makes an item without a rule of its own."""
-    it.keys, it.why = (it.first.wanted.wire, it.first.wanted.wire), why
-    it.sort = Sort.ALONE if it.sort is Sort.UNSENT else it.sort
+    item.keys, item.why = (item.first.wanted.wire, item.first.wanted.wire), why
+    item.sort = Sort.ALONE if item.sort is Sort.UNSENT else item.sort
 
 
-def _made(it: Item) -> Made:
-    wire, stack = it.first.wanted.wire, it.first.wanted.stack
-    other = wire.near if it.first.wanted.direction == "out" else stack.near
-    return Made(other if wire != stack else "", it.sort is Sort.UNSENT)
+def _made(item: Item) -> Made:
+    wire, stack = item.first.wanted.wire, item.first.wanted.stack
+    other = wire.near if item.first.wanted.direction == "out" else stack.near
+    return Made(other if wire != stack else "", item.sort is Sort.UNSENT)
 
 
-def _comes(it: Item) -> Key:
+def _comes(item: Item) -> Key:
     """The ends of the first packet, as the rules see it."""
-    return it.first.wanted.stack if it.first.wanted.direction == "out" else it.first.wanted.wire
+    return item.first.wanted.stack if item.first.wanted.direction == "out" else item.first.wanted.wire
 
 
-def _has_form(it: Item) -> bool:
+def _has_form(item: Item) -> bool:
     """Whether a rule can make the keys of an item: it translates the near end alone."""
-    wire, stack = it.first.wanted.wire, it.first.wanted.stack
-    addresses = {key.far if it.first.wanted.protocol in _WITH_PORTS else key.far.rpartition(":")[0] for key in (wire, stack)}
+    wire, stack = item.first.wanted.wire, item.first.wanted.stack
+    addresses = {key.far if item.first.wanted.protocol in _WITH_PORTS else key.far.rpartition(":")[0] for key in (wire, stack)}
     return len(addresses) == 1
 
 
@@ -121,9 +121,9 @@ def _seen(protocol: str, end: str) -> str:
 _Near = Tuple[str, str, str]
 
 
-def _near(it: Item) -> _Near:
-    wanted = it.first.wanted
-    return wanted.direction, wanted.protocol, _seen(wanted.protocol, _comes(it).near)
+def _near(item: Item) -> _Near:
+    wanted = item.first.wanted
+    return wanted.direction, wanted.protocol, _seen(wanted.protocol, _comes(item).near)
 
 
 def _short(items: Sequence[Item]) -> Set[_Near]:
@@ -134,10 +134,10 @@ def _short(items: Sequence[Item]) -> Set[_Near]:
     return {near for near, its in made.items() if len(its) == 1}
 
 
-def _match(it: Item, short: Set[_Near]) -> Match:
+def _match(item: Item, short: Set[_Near]) -> Match:
     """The packets of an item's rule: those of its near end, if the same is made of them all."""
-    wanted, comes = it.first.wanted, _comes(it)
+    wanted, comes = item.first.wanted, _comes(item)
     near, far = (_seen(wanted.protocol, end) for end in (comes.near, comes.far))
-    shown = None if _near(it) in short else far
+    shown = None if _near(item) in short else far
     ends = (near, shown) if wanted.direction == "out" else (shown, near)
     return Match(wanted.direction, wanted.protocol, *ends)

@@ -87,16 +87,16 @@ def ends(flow: str) -> Ends:
     return Ends(protocol, "in", hidden, printed)
 
 
-def _end(it: forms.End) -> End:
-    lo = int(it.lo)
-    return End(0, int(it.scale) if it.scale else None, 0, lo, (lo + int(it.span)) % CIRCLE)
+def _end(end: forms.End) -> End:
+    lo = int(end.lo)
+    return End(0, int(end.scale) if end.scale else None, 0, lo, (lo + int(end.span)) % CIRCLE)
 
 
-def as_state(it: Dumped, with_windows: bool) -> State:
+def as_state(dumped: Dumped, with_windows: bool) -> State:
     """The state as the shell has it, except its name. What no dump says is 0 or `-`; levels are compared as they are printed."""
-    protocol, direction, wire, stack = ends(it.flow)
+    protocol, direction, wire, stack = ends(dumped.flow)
     first, second = NO_END, NO_END
     if with_windows:
-        first, second = map(_end, windows(it.windows))
+        first, second = map(_end, windows(dumped.windows))
     source, destination = (first, second) if direction == "out" else (second, first)
-    return State(Name(0, it.line), protocol, direction, wire, stack, source, destination, "-", 0, it.marks.rule, "-", 0, None)
+    return State(Name(0, dumped.line), protocol, direction, wire, stack, source, destination, "-", 0, dumped.marks.rule, "-", 0, None)

@@ -83,6 +83,6 @@ def _numbers(name: str, counters: Dict[str, Dict[str, int]]) -> str:
     return f"{' | '.join(texts)} {name}"
 
 
-def _meaning(it: Counter) -> str:
-    known = f"; in the laboratory \"{_NAMES[it.counts]}\" (`{it.counts}`)" if it.counts else ""
-    return it.meaning + known + (f"; lesson {it.lesson}" if it.lesson else "")
+def _meaning(counter: Counter) -> str:
+    known = f"; in the laboratory \"{_NAMES[counter.counts]}\" (`{counter.counts}`)" if counter.counts else ""
+    return counter.meaning + known + (f"; lesson {counter.lesson}" if counter.lesson else "")

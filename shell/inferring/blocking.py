@@ -81,39 +81,39 @@ class Blocking:
 
     # ---- what becomes of a packet
 
-    def block(self, node: str, it: Logged) -> None:
+    def block(self, node: str, logged: Logged) -> None:
         """A packet that pf blocked: here it meets the state that the node has by the frames, or none."""
-        names = self._names.get((it.packet.protocol, *it.packet.ends), [])
-        if it.reason == MATCH and not names and not is_blocked_here(self.setting, node, it):
+        names = self._names.get((logged.packet.protocol, *logged.packet.ends), [])
+        if logged.reason == MATCH and not names and not is_blocked_here(self.setting, node, logged):
             self.passed_over[NO_ROOM] += 1
             return
-        self.playing.tick_to(it.time)
-        where = f"{it.direction} on {it.interface}, rule {it.rule}, reason {it.reason}"
-        self.playing.begin(f"{self.night.times.at(it.time)} {node} logged: blocked {where}")
-        packet = event(node, it.direction, it.packet, it.packet.ends)
+        self.playing.tick_to(logged.time)
+        where = f"{logged.direction} on {logged.interface}, rule {logged.rule}, reason {logged.reason}"
+        self.playing.begin(f"{self.night.times.at(logged.time)} {node} logged: blocked {where}")
+        packet = event(node, logged.direction, logged.packet, logged.packet.ends)
         state = self.playing.followed.tables[node].found(packet)
         outcome = self.playing.packet(packet)
-        has = self._had(node, self.captured.get(state.name, ""), it.time) if state else ""
-        here, said = self._judged(node, it, outcome, names, has)
+        has = self._had(node, self.captured.get(state.name, ""), logged.time) if state else ""
+        here, said = self._judged(node, logged, outcome, names, has)
         self.playing.say_before_last(f"here {said}" if here is Here.PASSES else said)
-        flow = f"{it.packet.protocol} {it.packet.source} > {it.packet.destination}"
-        self.found.append(Blocked(it.time, node, flow, it.reason, here, said))
+        flow = f"{logged.packet.protocol} {logged.packet.source} > {logged.packet.destination}"
+        self.found.append(Blocked(logged.time, node, flow, logged.reason, here, said))
 
-    def _judged(self, node: str, it: Logged, outcome: Sequence[str], names: List[str], has: str) -> Tuple[Here, str]:
+    def _judged(self, node: str, logged: Logged, outcome: Sequence[str], names: List[str], has: str) -> Tuple[Here, str]:
         """What becomes of a packet here, beside what pf did. What the node has here of its state is given."""
         if passes(outcome):
-            return Here.PASSES, f"it passes: {self._passes(node, it.reason, has)}"
+            return Here.PASSES, f"it passes: {self._passes(node, logged.reason, has)}"
         why = outcome[-1]
         self.by_own_rules += why == "block" and not self.setting.has_rules
-        if why in _OUTCOMES.get(it.reason, ()):
-            if it.reason != MATCH:
+        if why in _OUTCOMES.get(logged.reason, ()):
+            if logged.reason != MATCH:
                 return Here.SAME, f"blocked here for the same reason ({' '.join(outcome)})"
             if not names:
                 return Here.SAME, "blocked here, too: no message has a state of it, so the rules decided"
-            return Here.SAME, f"blocked here, too, for want of a state: {self._brought(node, it, names)}"
-        if it.reason == MATCH and has:
+            return Here.SAME, f"blocked here, too, for want of a state: {self._brought(node, logged, names)}"
+        if logged.reason == MATCH and has:
             return Here.OTHERWISE, f"pf had no state of it, and here {node} has one, {has}, whose window it misses"
-        if it.reason == MISMATCH:
+        if logged.reason == MISMATCH:
             return Here.OTHERWISE, f"pf blocked it for the window of its state, and here {node} has no such state"
         return Here.OTHERWISE, f"blocked here for another reason ({' '.join(outcome)})"
 
@@ -143,14 +143,15 @@ class Blocking:
         """The last record that the other node sent by a time with all of a state."""
         return next((it for it in self.night.told_until(name, other(node), time) if it.record.is_whole), None)
 
-    def _brought(self, node: str, it: Logged, names: List[str]) -> str:
+    def _brought(self, node: str, logged: Logged, names: List[str]) -> str:
         """Which frame had the state of a packet, and what became of it."""
-        told = [one for one in (self._whole(node, name, it.time) for name in names) if one]
+        told = [one for one in (self._whole(node, name, logged.time) for name in names) if one]
         if not told:
             return f"no frame of {other(node)} before it had one"
         one = max(told, key=lambda it: it.place)
         sent = one.sent
-        return f"frame {sent.number} of {sent.node} had it {lasting(it.time - sent.time)} before, and {self._came(node, one, it.time)}"
+        before = lasting(logged.time - sent.time)
+        return f"frame {sent.number} of {sent.node} had it {before} before, and {self._came(node, one, logged.time)}"
 
     def _came(self, node: str, one: Told, time: int) -> str:
         """Whether a frame came before a time, and what took its state away again."""

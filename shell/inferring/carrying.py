@@ -73,12 +73,12 @@ class Carrying:
         if wire.near != stack.near:
             self._public.add(_address(wire.near))
 
-    def _event(self, number: int, node: str, it: Carried) -> Optional[PacketEvent]:
+    def _event(self, number: int, node: str, carried: Carried) -> Optional[PacketEvent]:
         """The event of a packet; nothing if it is passed over."""
-        packet = it.packet
+        packet = carried.packet
         wire = (packet.protocol, *packet.ends)
         if wire in self._told:
-            way, why = self._told_way(node, wire, it.time), BOTH_WAYS
+            way, why = self._told_way(node, wire, carried.time), BOTH_WAYS
         else:
             way, why = self._untold_way(node, packet), UNPLACED
         if not way:
@@ -164,6 +164,7 @@ def _address(end: str) -> str:
     return end.rpartition(":")[0]
 
 
-def event(node: str, direction: str, it: IpPacket, ends: Tuple[str, str]) -> PacketEvent:
+def event(node: str, direction: str, packet: IpPacket, ends: Tuple[str, str]) -> PacketEvent:
     """A packet as it comes to a node, between these ends."""
-    return PacketEvent(node, direction, it.protocol, *ends, it.length, it.flags, it.seq, it.ack, it.window, it.scale)
+    of_tcp = packet.flags, packet.seq, packet.ack, packet.window, packet.scale
+    return PacketEvent(node, direction, packet.protocol, *ends, packet.length, *of_tcp)

@@ -116,12 +116,12 @@ class Causes:
             self._restart(node)
         if any(it.kind is CLEAR_RECORD for it in records):
             self.playing.empty(CLEAR.word, node)
-        for it in records:
-            if it.kind in DELETIONS:
-                self._delete(node, it)
-        for it in records:
-            if it.kind in (INSERT, SHORT_UPDATE, UPDATE):
-                self._change(node, it)
+        for record in records:
+            if record.kind in DELETIONS:
+                self._delete(node, record)
+        for record in records:
+            if record.kind in (INSERT, SHORT_UPDATE, UPDATE):
+                self._change(node, record)
         if any(it.kind is BULK_STATUS and it.status == BULK_END for it in records):
             self._end(node)
         self._forget_untold(node, place)
@@ -259,10 +259,10 @@ class Causes:
     def _comes_again(self, record: Record, place: int, until: int) -> bool:
         """Whether another change of a state comes after that of a message, and before a time."""
         one = self.night.sent[place]
-        for it in self.night.told_after(record.name, one.node, place):
-            if it.sent.time >= until:
+        for told in self.night.told_after(record.name, one.node, place):
+            if told.sent.time >= until:
                 break
-            if it.record.kind is SHORT_UPDATE and it.sent.came is not None and _arrival(one) < it.sent.came < until:
+            if told.record.kind is SHORT_UPDATE and told.sent.came is not None and _arrival(one) < told.sent.came < until:
                 return True
         return False
 
@@ -270,11 +270,11 @@ class Causes:
         flow = place_of(self.night.flows[record.name])
         if self.playing.followed.tables[node].on_wire(*flow):
             return
-        for it in self.night.inserted.get(flow, ()):
-            is_own = it.sent.node == node and it.place > place and it.record.name not in self.names
-            if is_own and not self.night.is_deleted_between(record.name, place, it.place):
-                self.playing.say(f"frame {it.sent.number} shows that {node} had a state of its own of this flow")
-                self.bring(node, it.record)
+        for told in self.night.inserted.get(flow, ()):
+            is_own = told.sent.node == node and told.place > place and told.record.name not in self.names
+            if is_own and not self.night.is_deleted_between(record.name, place, told.place):
+                self.playing.say(f"frame {told.sent.number} shows that {node} had a state of its own of this flow")
+                self.bring(node, told.record)
 
     def _moved_before(self, node: str, record: Record, place: int) -> None:
         state, later = self.state_of(node, record.name), self.night.next_told(record.name, node, place)

@@ -80,14 +80,14 @@ _Found = Union[Carried, Logged, Passed, Unread]
 def _add_others(night: Night, sources: Sources, overlay: Overlay) -> None:
     """Adds what logs and captures of an interface have, by the clock of a."""
     for node, path in sources.logs:
-        for it in _by_a(overlay, node, logged(_readable(night, path), path)):
-            if isinstance(it, Logged) and _is_taken(night, it.time, it.packet.ends):
-                night.logged.append((node, it))
+        for found in _by_a(overlay, node, logged(_readable(night, path), path)):
+            if isinstance(found, Logged) and _is_taken(night, found.time, found.packet.ends):
+                night.logged.append((node, found))
                 _refuse_many(len(night.logged), "logged packets")
-            elif isinstance(it, Passed):
+            elif isinstance(found, Passed):
                 night.left["logged packet that pf passed"] += 1
-            elif isinstance(it, Unread):
-                night.left[f"{it.why} in the log of {node}"] += 1
+            elif isinstance(found, Unread):
+                night.left[f"{found.why} in the log of {node}"] += 1
     for node, path in sources.data:
         for found in _by_a(overlay, node, carried(_of_interface(_readable(night, path), path))):
             if isinstance(found, Carried) and _is_taken(night, found.time, found.packet.ends):
@@ -96,12 +96,12 @@ def _add_others(night: Night, sources: Sources, overlay: Overlay) -> None:
                 night.left[f"{found.why} at the interface of {node}"] += 1
 
 
-def _add_carried(night: Night, node: str, it: Carried, has_rules: bool) -> None:
+def _add_carried(night: Night, node: str, carried: Carried, has_rules: bool) -> None:
     """Adds a packet of an interface. Only with the rules can there be an event for one of whose flow no message tells."""
-    if not has_rules and not night.tells_of(it.packet):
+    if not has_rules and not night.tells_of(carried.packet):
         night.left[UNTOLD] += 1
         return
-    night.carried.append((node, it))
+    night.carried.append((node, carried))
     _refuse_many(len(night.carried), "packets of the interfaces")
 
 
@@ -114,8 +114,8 @@ def _readable(night: Night, path: str) -> Iterator[Packet]:
     """The packets of a file. If it cannot be read on after some of them, these count, and the fault is reported."""
     has_some = False
     try:
-        for it in packets(path):
-            yield it
+        for packet in packets(path):
+            yield packet
             has_some = True
     except BadCapture as why:
         if not has_some:
@@ -130,15 +130,15 @@ def _is_taken(night: Night, time: int, ends: Tuple[str, str]) -> bool:
 def _by_a(overlay: Overlay, node: str, its: Iterator[_Found]) -> Iterator[_Found]:
     """What a file of a node has, by the clock of a."""
     to_a: Callable[[int], int] = overlay.sides.clocks.to_a
-    for it in its:
-        yield it if node == "a" or isinstance(it, Unread) else it._replace(time=to_a(it.time))
+    for found in its:
+        yield found if node == "a" or isinstance(found, Unread) else found._replace(time=to_a(found.time))
 
 
 def _of_interface(its: Iterator[Packet], path: str) -> Iterator[Packet]:
     """The packets of an interface, and not of pflog0 or pfsync0."""
-    for it in its:
-        if it.link == LINK or it.link in PFSYNC_LINKS:
-            which = "pflog0, which goes with --log-a or --log-b" if it.link == LINK else "pfsync0"
+    for packet in its:
+        if packet.link == LINK or packet.link in PFSYNC_LINKS:
+            which = "pflog0, which goes with --log-a or --log-b" if packet.link == LINK else "pfsync0"
             raise BadCapture(f"{path}: it is a capture of {which}")
-        yield it
+        yield packet
 

@@ -59,8 +59,8 @@ class Comparing:
 
     def compare(self, sent: Sent, frame: Optional[Frame]) -> List[str]:
         """In what a frame that was sent, or should have been, parts from the captured one."""
-        it = self.found
-        it.frames += 1
+        found = self.found
+        found.frames += 1
         theirs = Counter(_kind(record) for record in sent.message.records)
         ours = Counter(self._own(record) for record in frame.records if self._is_compared(record)) if frame else Counter()
         lines: List[str] = []
@@ -70,10 +70,10 @@ class Comparing:
             parts = [f"{word} {_listed(its)}" for word, its in (("without", theirs - ours), ("also with", ours - theirs)) if its]
             lines.append(f"parts: {', and '.join(parts)}")
         else:
-            it.same += 1
+            found.same += 1
             lines += self._records(sent, frame)
-        if lines and not it.first:
-            it.first = f"frame {sent.number} of {sent.node} at {self.night.times.at(sent.time)} {lines[0]}"
+        if lines and not found.first:
+            found.first = f"frame {sent.number} of {sent.node} at {self.night.times.at(sent.time)} {lines[0]}"
         return lines
 
     def _is_compared(self, record: OwnRecord) -> bool:
@@ -102,19 +102,19 @@ class Comparing:
         assert isinstance(state, (Carried, Changes)) and record.source and record.destination
         protocol = self.night.flows[record.name].protocol
         theirs = end_of(protocol, record.source), end_of(protocol, record.destination)
-        ours, it = (state.source, state.destination), self.found
-        it.records += 1
+        ours, found = (state.source, state.destination), self.found
+        found.records += 1
         has_levels = protocol not in _WITHOUT_LEVELS or any(end.level for end in theirs)
         levels = [f"{one.level}:{other.level}" for one, other in (theirs, ours)]
-        if has_levels and it.take(LEVELS, levels[0] == levels[1]):
+        if has_levels and found.take(LEVELS, levels[0] == levels[1]):
             yield f"levels {levels[0]} captured, {levels[1]} here"
         its_class = timeout_class(record.timeout)
-        if (has_levels or protocol == "icmp") and it.take(CLASS, its_class == state.timeout_class):
+        if (has_levels or protocol == "icmp") and found.take(CLASS, its_class == state.timeout_class):
             yield f"{its_class} captured, {state.timeout_class} here"
         if protocol == "tcp":
-            if it.take(NUMBERS, _spans(theirs) == _spans(ours)):
+            if found.take(NUMBERS, _spans(theirs) == _spans(ours)):
                 yield f"{_spans(theirs)} captured, {_spans(ours)} here"
-            it.take(WINDOWS, _windows(theirs) == _windows(ours))
+            found.take(WINDOWS, _windows(theirs) == _windows(ours))
         if isinstance(state, Carried):
             yield from self._keys(record, state)
             if self.setting.has_rules and record.rule is not None:
@@ -165,8 +165,8 @@ def _listed(kinds: Counter[Kind]) -> str:
     return ", ".join(names[:4]) + (f" and {counted(len(names) - 4, 'record')} more" if len(names) > 4 else "")
 
 
-def _key(it: Key) -> str:
-    return f"{it.far}, {it.near}"
+def _key(key: Key) -> str:
+    return f"{key.far}, {key.near}"
 
 
 def _windows(ends: Sequence[End]) -> List[Tuple[int, Optional[int]]]:

@@ -143,14 +143,14 @@ class Followed:
         """Takes a frame that came to its receiver, and what became of its records."""
         table = self.tables[frame.to]
         made = [*received(self.setup, self.setup.kernel, table.node, frame, fates)]
-        for record, fate, it in zip(frame.records, fates, made):
+        for record, fate, came in zip(frame.records, fates, made):
             if fate.fate[0] == "deleted":
                 self._forget(frame.to, record.name)
             elif fate.fate[0] == "cleared":
                 for name in [name for name in table.node.states if fate.takes(name)]:
                     self._forget(frame.to, name)
-            if it:
-                table.put(it.state)
+            if came:
+                table.put(came.state)
             if fate.stale:
                 self.pending[frame.to].add(record.name)
             if fate.fate[0] == "queued":
@@ -197,6 +197,7 @@ def _differing(node: str, followed: Dict[Name, State], shown: Dict[Name, State])
             yield f"{name} of {node}"
 
 
-def compared(it: State) -> Tuple[object, ...]:
+def compared(state: State) -> Tuple[object, ...]:
     """All of a state that packets and frames make and change."""
-    return it.protocol, it.direction, it.wire, it.stack, it.source, it.destination, it.timeout_class, it.last, it.rule
+    flow = state.protocol, state.direction, state.wire, state.stack
+    return (*flow, state.source, state.destination, state.timeout_class, state.last, state.rule)

@@ -105,12 +105,12 @@ class Happening:
 
     def _carry(self, number: int) -> None:
         """A packet that an interface carried."""
-        node, it = self.night.carried[number]
+        node, carried = self.night.carried[number]
         packet = self.carrying.events[number] if number not in self.carrying.used else None
         if packet is None:
             return
-        self.playing.tick_to(it.time)
-        self._forget_other(packet, it.packet.source)
+        self.playing.tick_to(carried.time)
+        self._forget_other(packet, carried.packet.source)
         outcome = self.playing.packet(packet)
         if packet.direction == "out" and not passes(outcome):
             self.playing.say_before_last(f"this packet left {node}, and is dropped here")

@@ -83,15 +83,15 @@ def _may_come(is_tcp: bool, place: Place, step: Step, answers_with_syn: bool) ->
 def _after(kernel: Kernel, is_tcp: bool, place: Place, step: Step) -> Optional[Place]:
     """Where a packet leads; nothing if it is dropped."""
     if not is_tcp:
-        it = moved(kernel, _datagrams(place), _packet(step, "udp", 0, 0), 0)
-        return Place(it.source.level, it.destination.level, it.destination.level > 0) if it else None
+        after = moved(kernel, _datagrams(place), _packet(step, "udp", 0, 0), 0)
+        return Place(after.source.level, after.destination.level, after.destination.level > 0) if after else None
     state = _connection(place)
     if step.end == DESTINATION and not place.is_heard and not is_first(kernel, state.destination):
         return None
     sender, receiver = _NUMBERS if step.end == SOURCE else _NUMBERS[::-1]
-    it = moved(kernel, state, _packet(step, "tcp", sender, receiver), 0)
+    after = moved(kernel, state, _packet(step, "tcp", sender, receiver), 0)
     heard = place.is_heard or step.end == DESTINATION
-    return Place(it.source.level, it.destination.level, heard) if it else None
+    return Place(after.source.level, after.destination.level, heard) if after else None
 
 
 def _connection(place: Place) -> State:

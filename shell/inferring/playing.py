@@ -147,10 +147,10 @@ def passes(outcome: Sequence[str]) -> bool:
     return outcome[0] in ("pass", "held")
 
 
-def event_of(it: PacketEvent) -> str:
+def event_of(packet: PacketEvent) -> str:
     """A packet as the line of its event."""
-    words = f"{PACKET.word} {it.node} {it.direction} {it.protocol} {it.source} {it.destination}"
-    if not it.is_tcp:
-        return f"{words} {it.length}"
-    scale = "" if it.scale is None else f" {it.scale}"
-    return f"{words} {it.flags} {it.seq} {it.ack} {it.window} {it.length}{scale}"
+    words = f"{PACKET.word} {packet.node} {packet.direction} {packet.protocol} {packet.source} {packet.destination}"
+    if not packet.is_tcp:
+        return f"{words} {packet.length}"
+    scale = "" if packet.scale is None else f" {packet.scale}"
+    return f"{words} {packet.flags} {packet.seq} {packet.ack} {packet.window} {packet.length}{scale}"

@@ -105,25 +105,25 @@ class Walk:
 
     # ---- packets that lift an end
 
-    def step(self, it: Step, later: Sequence[Step], plan: Plan) -> PacketEvent:
+    def step(self, step: Step, later: Sequence[Step], plan: Plan) -> PacketEvent:
         """The packet of a step, where others follow."""
-        packet = replace(self.flow.packet(it.end), flags=it.flags, length=0)
-        packet = self._begun(packet, it, later, plan) if self._begins(it.end) else self._next(packet, it, later)
-        if plan.again and it.end == SOURCE and self._begins(DESTINATION):
+        packet = replace(self.flow.packet(step.end), flags=step.flags, length=0)
+        packet = self._begun(packet, step, later, plan) if self._begins(step.end) else self._next(packet, step, later)
+        if plan.again and step.end == SOURCE and self._begins(DESTINATION):
             packet = replace(packet, window=min(packet.window, max(1, ahead(self.goals[DESTINATION].hi, 0))))
-        return self._acknowledging(packet, it.end, plan.is_exact or "S" not in it.flags)
+        return self._acknowledging(packet, step.end, plan.is_exact or "S" not in step.flags)
 
-    def _begun(self, packet: PacketEvent, it: Step, later: Sequence[Step], plan: Plan) -> PacketEvent:
+    def _begun(self, packet: PacketEvent, step: Step, later: Sequence[Step], plan: Plan) -> PacketEvent:
         """The first packet of an end. It begins so that its later packets end at the number that is wanted, and leaves room for one."""
-        goal, stop = self.goals[it.end], self.goals[it.end].lo - _taken_by(it.end, later)
-        packet = replace(packet, scale=goal.scale if "S" in it.flags else None)
+        goal, stop = self.goals[step.end], self.goals[step.end].lo - _taken_by(step.end, later)
+        packet = replace(packet, scale=goal.scale if "S" in step.flags else None)
         if self.state is None and plan.stays:
-            is_answered = any(step.end != it.end and "A" in step.flags for step in later)
-            length = 0 if is_answered else max(0, min(ahead(goal.hi, stop) - 1 - taken(it.flags), LONGEST))
+            is_answered = any(other.end != step.end and "A" in other.flags for other in later)
+            length = 0 if is_answered else max(0, min(ahead(goal.hi, stop) - 1 - taken(step.flags), LONGEST))
             packet = replace(packet, seq=stop % CIRCLE, length=length)
         else:
-            packet = self._with_room(replace(packet, seq=(stop - taken(it.flags)) % CIRCLE), goal)
-        return replace(packet, window=self._first_window(packet, it.end, later, plan))
+            packet = self._with_room(replace(packet, seq=(stop - taken(step.flags)) % CIRCLE), goal)
+        return replace(packet, window=self._first_window(packet, step.end, later, plan))
 
     def _with_room(self, packet: PacketEvent, goal: End) -> PacketEvent:
         """The first packet of an end so early that what the end may send at first is not beyond what is wanted."""
@@ -148,19 +148,19 @@ class Walk:
             window = min(window, ahead(other.hi, begun))
         return max(1, min(window, MOST_OFFERED))
 
-    def _next(self, packet: PacketEvent, it: Step, later: Sequence[Step]) -> PacketEvent:
+    def _next(self, packet: PacketEvent, step: Step, later: Sequence[Step]) -> PacketEvent:
         """A later packet of an end, with the data that its number lacks."""
-        mine, _ = self.ends(it.end)
-        goal = self.goals[it.end]
-        lacks = ahead(goal.lo - _taken_by(it.end, later) - taken(it.flags), mine.lo)
-        known = ahead(self.nexts[it.end], mine.lo)
-        length = min(lacks - known, LONGEST) if lacks > known and "R" not in it.flags else 0
+        mine, _ = self.ends(step.end)
+        goal = self.goals[step.end]
+        lacks = ahead(goal.lo - _taken_by(step.end, later) - taken(step.flags), mine.lo)
+        known = ahead(self.nexts[step.end], mine.lo)
+        length = min(lacks - known, LONGEST) if lacks > known and "R" not in step.flags else 0
         # (a FIN that takes no new number comes again)
-        seq = mine.lo + (lacks - length if length else max(-("F" in it.flags), min(lacks, known)))
-        is_beyond = length > 0 and ahead(mine.hi, seq + length + taken(it.flags)) < 0
-        if is_beyond or self.kernel.has(WINDOW) and it.flags == "A" and not length:
-            seq, length = self.nexts[it.end], 0
-        is_known = "R" in it.flags and mine.window >= goal.window
+        seq = mine.lo + (lacks - length if length else max(-("F" in step.flags), min(lacks, known)))
+        is_beyond = length > 0 and ahead(mine.hi, seq + length + taken(step.flags)) < 0
+        if is_beyond or self.kernel.has(WINDOW) and step.flags == "A" and not length:
+            seq, length = self.nexts[step.end], 0
+        is_known = "R" in step.flags and mine.window >= goal.window
         return replace(packet, seq=seq % CIRCLE, length=length, window=0 if is_known else min(goal.window, MOST_OFFERED))
 
     def _acknowledging(self, packet: PacketEvent, end: int, is_exact: bool) -> PacketEvent:
@@ -179,8 +179,8 @@ class Walk:
     def _offered(self, packet: PacketEvent) -> Tuple[int, int]:
         """The window that a packet offers, in bytes, and the scale that it is judged by."""
         assert self.state
-        it = segment(self.kernel, *ends_of(self.state, packet), packet)
-        return it.at_scale(it.sender, it.window), (it.sender.scale or 0) if it.is_scaled else 0
+        seen = segment(self.kernel, *ends_of(self.state, packet), packet)
+        return seen.at_scale(seen.sender, seen.window), (seen.sender.scale or 0) if seen.is_scaled else 0
 
     # ---- packets that move numbers
 
@@ -220,9 +220,9 @@ class Walk:
         if not state:
             return LEVEL_MISSED, 0
         count = rest = 0
-        for it, goal in zip((state.source, state.destination), goals):
-            apart = [abs(goal.window - it.window), abs(ahead(goal.lo, it.lo)), abs(ahead(goal.hi, it.hi))]
-            count += sum(map(bool, apart)) + LEVEL_MISSED * (it.level > goal.level)
+        for end, goal in zip((state.source, state.destination), goals):
+            apart = [abs(goal.window - end.window), abs(ahead(goal.lo, end.lo)), abs(ahead(goal.hi, end.hi))]
+            count += sum(map(bool, apart)) + LEVEL_MISSED * (end.level > goal.level)
             rest += sum(apart)
         return count, rest
 

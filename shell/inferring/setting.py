@@ -205,13 +205,13 @@ def _blocked(night: Night, room: int) -> Dict[str, List[str]]:
     known = {(flow.protocol, *ends) for flow in night.flows.values() for ends in _ends_of(flow)}
     found: Dict[str, Dict[str, None]] = {node: {} for node in NODES}
     for is_known in (True, False):
-        for node, it in night.logged:
-            packet = it.packet
-            key = (node, it.direction, packet.protocol, *packet.ends)
-            if it.reason != MATCH or key in passed or ((packet.protocol, *packet.ends) in known) != is_known:
+        for node, logged in night.logged:
+            packet = logged.packet
+            key = (node, logged.direction, packet.protocol, *packet.ends)
+            if logged.reason != MATCH or key in passed or ((packet.protocol, *packet.ends) in known) != is_known:
                 continue
             if len(found[node]) < room:
-                found[node][f"block {it.direction} quick {_matching(packet.protocol, *packet.ends)}"] = None
+                found[node][f"block {logged.direction} quick {_matching(packet.protocol, *packet.ends)}"] = None
     return {node: [*its] for node, its in found.items()}
 
 
@@ -230,9 +230,9 @@ def _ends_of(flow: Ends) -> Iterator[Tuple[str, str]]:
         yield its.near, its.far
 
 
-def is_blocked_here(setting: Setting, node: str, it: Logged) -> bool:
+def is_blocked_here(setting: Setting, node: str, logged: Logged) -> bool:
     """Whether the setup's own rules say something about a logged packet that has no state."""
     if setting.has_rules:
         return True
-    text = f"block {it.direction} quick {_matching(it.packet.protocol, *it.packet.ends)}"
+    text = f"block {logged.direction} quick {_matching(logged.packet.protocol, *logged.packet.ends)}"
     return any(rule.text == text for rule in setting.setup.rules[node])

@@ -122,15 +122,15 @@ def _missed(state: Optional[State], wanted: Wanted) -> List[str]:
         return ["no packet makes it"]
     goals, parts = _goals(wanted), []
     for at, (which, goal) in enumerate(zip(ENDS, goals)):
-        it, known = (state.source, state.destination)[at], (wanted.source, wanted.destination)[at]
+        end, known = (state.source, state.destination)[at], (wanted.source, wanted.destination)[at]
         if wanted.protocol != "tcp":
             is_known = not (wanted.protocol == "icmp" and wanted.source.level == wanted.destination.level == 0)
-            its, other = {"level": level_name(wanted.protocol, it.level)}, {"level": level_name(wanted.protocol, known.level)}
+            its, other = {"level": level_name(wanted.protocol, end.level)}, {"level": level_name(wanted.protocol, known.level)}
             parts += _unlike(which, its, other) if is_known else []
             continue
         if not known.window and was_heard(known):
-            goal = replace(goal, window=it.window)
-        parts += _unlike(which, end_fields("tcp", _plain(it)), end_fields("tcp", goal))
+            goal = replace(goal, window=end.window)
+        parts += _unlike(which, end_fields("tcp", _plain(end)), end_fields("tcp", goal))
     return parts
 
 
@@ -181,10 +181,10 @@ def _walk(walk: Walk, path: Path, plan: Plan) -> Walk:
     steps = [*(Step(SOURCE, it) for it in (plan.flags, plan.again) if it), *path]
     closes = next((at for at, it in enumerate(steps) if {*it.flags} & {*"FR"}), None)
     most = MOST_MOVING if walk.state else MOST_AT_FIRST
-    for at, it in enumerate(steps):
+    for at, step in enumerate(steps):
         if at == closes and plan.moves_first and walk.state:
             walk.move(_before(walk.goals, steps[at:]), most)
-        if not walk.send(it.end, walk.step(it, steps[at + 1 :], plan)):
+        if not walk.send(step.end, walk.step(step, steps[at + 1 :], plan)):
             break
     if walk.state:
         walk.move(walk.goals, most)

@@ -81,10 +81,10 @@ def _they(number: int, many: str, one: str) -> str:
 
 
 def _agreement(happening: Happening, setting: Setting) -> Iterator[str]:
-    it = happening.agreement
-    have = _they(it.same, "have", "has")
-    yield f"Held against the captured frames, {it.same} of {it.frames} {have} the same records, by kind and by state."
-    fields = [f"{what} ({_all(it.agree[what], it.compared[what])})" for what in FIELDS if it.compared[what]]
+    agreement = happening.agreement
+    have = _they(agreement.same, "have", "has")
+    yield f"Held against the captured frames, {agreement.same} of {agreement.frames} {have} the same records, by kind and by state."
+    fields = [f"{what} ({_all(agreement.agree[what], agreement.compared[what])})" for what in FIELDS if agreement.compared[what]]
     if fields:
         yield f"The records in these agree in {', '.join(fields)}."
     yield f"Not compared: {', '.join([*['rules'] * (not setting.has_rules), *_NOT_COMPARED])}."
@@ -92,7 +92,7 @@ def _agreement(happening: Happening, setting: Setting) -> Iterator[str]:
     if unexplained:
         places = _they(unexplained, "their places", "its place")
         yield f"{counted(unexplained, 'record')} could not be explained: the comments in {places} say why."
-    yield f"The first frame that parts: {it.first}." if it.first else "No frame parts."
+    yield f"The first frame that parts: {agreement.first}." if agreement.first else "No frame parts."
 
 
 def _all(number: int, of: int) -> str:

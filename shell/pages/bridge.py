@@ -58,8 +58,8 @@ class KnownBranches(Laboratory):
         return list(self.branches)
 
     def show(self, branch: str) -> Pair:
-        it = self.branches[branch]
-        return Pair(it.name, len(it.events), it.cursor)
+        known = self.branches[branch]
+        return Pair(known.name, len(known.events), known.cursor)
 
 
 class Overtaken(Exception):
@@ -114,9 +114,9 @@ class Bridge:
         """How many commands the journal has once it has all that the server has."""
         return self._awaited(self._level, ignored)
 
-    def claim(self, it: Claim) -> Data:
+    def claim(self, claim: Claim) -> Data:
         """Takes the name of a session, which is known once it has said its sign."""
-        return self._awaited(self._claim, it)
+        return self._awaited(self._claim, claim)
 
     @property
     def has_journal(self) -> bool:
@@ -204,9 +204,9 @@ class Bridge:
         self._look()
         return len(self.journal)
 
-    def _claim(self, it: Claim) -> Data:
+    def _claim(self, claim: Claim) -> Data:
         self._look()
-        return {"session": self._names.claim(it.sign, it.name)}
+        return {"session": self._names.claim(claim.sign, claim.name)}
 
     def _do(self, typed: Typed) -> Data:
         self._look()
@@ -226,25 +226,25 @@ class Bridge:
     def _learn(self, who: str) -> str:
         """Takes the commands that came since, those of the page's own session as this person's; returns who gave the others."""
         others = []
-        for it in self._branches.taken():
-            is_own = self._branches.is_own(it.entry)
-            if it.entry.changes:
-                its = who if is_own else self._names.of(it.entry.session)
+        for taken in self._branches.taken():
+            is_own = self._branches.is_own(taken.entry)
+            if taken.entry.changes:
+                its = who if is_own else self._names.of(taken.entry.session)
                 others += [its or OTHERS] * (not is_own)
-                self._take(it, its, is_own)
+                self._take(taken, its, is_own)
             else:
-                self._names.hear(it.entry.session, it.entry.command)
+                self._names.hear(taken.entry.session, taken.entry.command)
         return " and ".join(dict.fromkeys(others)) or OTHERS
 
-    def _take(self, it: Taken, who: str, is_own: bool) -> None:
+    def _take(self, taken: Taken, who: str, is_own: bool) -> None:
         """Takes a command that changes the pair, or is refused."""
-        command = plain(it.entry.command)
-        words, first = command.split(), "".join(it.reply[:1]).split()
+        command = plain(taken.entry.command)
+        words, first = command.split(), "".join(taken.reply[:1]).split()
         if first[:1] == [STEPS.word]:
             self._authors.step(words, first, who if is_own else who or OTHERS)
         elif first:
             self._authors.follow(words, first)
-        self.journal.add(Told(it.entry.number, 0 if is_own else it.entry.session, who, command))
+        self.journal.add(Told(taken.entry.number, 0 if is_own else taken.entry.session, who, command))
         if is_own:
             self._own = len(self.journal)
 
@@ -260,11 +260,11 @@ class Bridge:
         return {"version": self.news.version, "offers": found}
 
     def _page(self, may: str) -> bytes:
-        version, it = self._pages.get(may, (-1, b""))
+        version, content = self._pages.get(may, (-1, b""))
         if version != self.news.version:
-            it = page(self._all(may), served=True).encode()
-            self._pages[may] = (self.news.version, it)
-        return it
+            content = page(self._all(may), served=True).encode()
+            self._pages[may] = (self.news.version, content)
+        return content
 
     def _all(self, may: str) -> Data:
         live = {"may": may, "watch": self._watching, "version": self.news.version, "people": self.news.people}
@@ -281,9 +281,9 @@ class Bridge:
             self._announce({"who": who, "line": line, "reply": list(reply), "branches": changes})
             self._versions.update({it["name"]: self.news.version for it in changes})
         lost, self._lost = self._lost, []
-        for it in self._former.take(lost):
-            its_chart = dict(it["chart"], count=len(it["chart"]["sheets"]), sheets=dict(enumerate(it["chart"]["sheets"])))
-            self._announce({"who": who, "line": "", "reply": [], "branches": [dict(it, keep=0, chart=its_chart)]})
+        for run in self._former.take(lost):
+            its_chart = dict(run["chart"], count=len(run["chart"]["sheets"]), sheets=dict(enumerate(run["chart"]["sheets"])))
+            self._announce({"who": who, "line": "", "reply": [], "branches": [dict(run, keep=0, chart=its_chart)]})
 
     def _announce(self, update: Data) -> None:
         """Makes news of an update, with the order of the branches."""

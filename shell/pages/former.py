@@ -47,9 +47,9 @@ class FormerRuns:
 
     def take(self, lost: Sequence[Lost]) -> Iterator[Data]:
         """Keeps what was lost, if it is short; yields the new runs, as pages have them."""
-        for it in lost:
-            if len(it.branch.events) <= MOST_EVENTS:
-                self._kept = [*self._kept, FormerRun(it.branch.events, self._played(it))][-MOST_FORMER:]
+        for run in lost:
+            if len(run.branch.events) <= MOST_EVENTS:
+                self._kept = [*self._kept, FormerRun(run.branch.events, self._played(run))][-MOST_FORMER:]
                 yield self._kept[-1].data
 
     def _played(self, lost: Lost) -> Data:

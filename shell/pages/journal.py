@@ -41,9 +41,9 @@ class Journal:
     def __len__(self) -> int:
         return len(self._told)
 
-    def add(self, it: Told) -> None:
+    def add(self, told: Told) -> None:
         with self._changed:
-            self._told.append(it)
+            self._told.append(told)
             self._changed.notify_all()
 
     def end(self) -> None:

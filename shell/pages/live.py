@@ -48,9 +48,9 @@ def serve(program: str, port: int, pair: Served, out: TextIO) -> None:
 
 def interrupt_at_ends() -> None:
     """Makes the signals that end a program interrupt it, so that all watchers hear of it. A signal that is ignored stays ignored."""
-    for it in (signal.SIGTERM, signal.SIGHUP):
-        if signal.getsignal(it) is signal.SIG_DFL:
-            signal.signal(it, signal.default_int_handler)
+    for sign in (signal.SIGTERM, signal.SIGHUP):
+        if signal.getsignal(sign) is signal.SIG_DFL:
+            signal.signal(sign, signal.default_int_handler)
 
 
 def watch(bridge: Bridge) -> None:

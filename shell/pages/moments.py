@@ -68,19 +68,19 @@ class Known:
 
 def moment(lab: Laboratory, known: Known, look: Look) -> Moment:
     """The newest of some events, if the pair was looked at after it, and also before."""
-    it, before = known.explained[-1][0], known.history(lab, look)
-    why = [line.strip() for line in reasons(Question(before, it, PLAIN))]
+    explanation, before = known.explained[-1][0], known.history(lab, look)
+    why = [line.strip() for line in reasons(Question(before, explanation, PLAIN))]
     changes = _first([(_tone(one), str(one)) for one in look.differences], "change")
-    return Moment(it.event.line, it.event.came, _first_lines(why), changes, look.edits)
+    return Moment(explanation.event.line, explanation.event.came, _first_lines(why), changes, look.edits)
 
 
-def unseen(it: Explanation, look: Optional[Look]) -> Moment:
+def unseen(explanation: Explanation, look: Optional[Look]) -> Moment:
     """An event, if the pair was not looked at before it: its reason is in the words of the program."""
-    return Moment(it.event.line, it.event.came, _first_lines(it.lines), edits=look.edits if look else None)
+    return Moment(explanation.event.line, explanation.event.came, _first_lines(explanation.lines), edits=look.edits if look else None)
 
 
-def _tone(it: Difference) -> str:
-    return "good" if it.is_new else "bad" if it.is_gone else ""
+def _tone(difference: Difference) -> str:
+    return "good" if difference.is_new else "bad" if difference.is_gone else ""
 
 
 def _first_lines(lines: Sequence[str]) -> List[str]:

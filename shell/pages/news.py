@@ -51,11 +51,11 @@ class News:
 
     def publish(self, update: Mapping[str, object]) -> None:
         """Makes an update the next version."""
-        it = message({"version": self.version + 1, **update, "people": self.people})
+        news = message({"version": self.version + 1, **update, "people": self.people})
         with self._changed:
             self.version += 1
-            self._kept.append(it)
-            self._bytes += len(it)
+            self._kept.append(news)
+            self._bytes += len(news)
             while len(self._kept) > MOST_UPDATES or self._bytes > MOST_BYTES:
                 self._bytes -= len(self._kept.popleft())
             self._changed.notify_all()

@@ -59,7 +59,7 @@ def _events(pair: Pair, place: str) -> List[str]:
     return [*(f"{it.word} {frame.ticket}" for it in OF_FRAME), f"{CUT.word} {frame.ticket} {len(frame.data) // 2}"]
 
 
-def _offer(history: History, place: str, it: Explanation) -> Offer:
-    if it.event.is_refused:
-        return Offer(place, it.event.line, "; ".join(explain_refusal(Question(history, it, PLAIN))), False)
-    return Offer(place, it.event.line, it.event.came, True)
+def _offer(history: History, place: str, explanation: Explanation) -> Offer:
+    if explanation.event.is_refused:
+        return Offer(place, explanation.event.line, "; ".join(explain_refusal(Question(history, explanation, PLAIN))), False)
+    return Offer(place, explanation.event.line, explanation.event.came, True)

@@ -117,25 +117,25 @@ class Record:
         (stepped, *_), why, *replies = answers[len(asked) :]
         if not stepped.startswith(STEP.word):
             raise Unknown(f"`{event}` was answered `{stepped}` when {self.name} was played again")
-        it = read_explanation(why)
+        explanation = read_explanation(why)
         self._known.at_peer = read_explanation(answers[0]) if asked else None
         self._known.lines.append(event)
-        self._known.explained.append((it, read_flight(replies[0]) if sends else None))
+        self._known.explained.append((explanation, read_flight(replies[0]) if sends else None))
         self._remember(number)
         look = self._looker.take(replies[-1]) if is_seen else None
         if look:
             self._looked = number
             self._shown += len(replies[-1])
-        self.moments.append(moment(self.laboratory, self._known, look) if look and was_seen else unseen(it, look))
+        self.moments.append(moment(self.laboratory, self._known, look) if look and was_seen else unseen(explanation, look))
 
     def _remember(self, number: int) -> None:
         """Notes the frame that an event sent, or what happened to a frame, and the packet that was held."""
-        it, flight = self._known.explained[number - 1]
-        self._packets.update(held_packets([it.event.line], [it.event.came]))
+        explanation, flight = self._known.explained[number - 1]
+        self._packets.update(held_packets([explanation.event.line], [explanation.event.came]))
         if flight:
             self._known.flights[flight.ticket] = replace(flight, later=[])
-        if it.event.words[0] in OF_FRAME:
-            self._known.flights[int(it.event.words[1])].later.append(it.event)
+        if explanation.event.words[0] in OF_FRAME:
+            self._known.flights[int(explanation.event.words[1])].later.append(explanation.event)
 
     def _affords(self, at: int, last: int) -> bool:
         """Whether the pair is looked at after an event: always after the last one."""

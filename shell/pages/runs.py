@@ -60,19 +60,19 @@ def run_of(program: str, script: Sequence[str], name: str) -> Run:
 
 def _undone(story: Story, branches: Sequence[Branch]) -> Iterator[Former]:
     """The branches that have undone events at their end, with these."""
-    for it in branches:
-        if it.cursor < len(it.events):
-            yield Former(replace(it, cursor=len(it.events)), story.branches[it.name].notes)
+    for branch in branches:
+        if branch.cursor < len(branch.events):
+            yield Former(replace(branch, cursor=len(branch.events)), story.branches[branch.name].notes)
 
 
 def _others(former: Sequence[Former], branches: Sequence[Branch]) -> List[Former]:
     """The newest of the former runs, without those that are the beginning of another one."""
     kept: List[Former] = []
     there = [it.events[: it.cursor] for it in branches]
-    for it in reversed(former):
-        events = it.branch.events
+    for run in reversed(former):
+        events = run.branch.events
         if not any(one[: len(events)] == events for one in (*there, *(other.branch.events for other in kept))):
-            kept.append(it)
+            kept.append(run)
     return kept[:MOST_FORMER][::-1]
 
 

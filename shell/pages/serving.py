@@ -237,8 +237,8 @@ class Visit(BaseHTTPRequestHandler):
         self._begin(HTTPStatus.OK, EVENTS, {})
         sent = time.monotonic()
         for came in takewhile(lambda it: not self._is_left(), messages):
-            for it in came or [BEATS] * (time.monotonic() >= sent + BEAT):
-                self._send(it)
+            for message in came or [BEATS] * (time.monotonic() >= sent + BEAT):
+                self._send(message)
                 sent = time.monotonic()
 
     def _is_left(self) -> bool:

@@ -38,7 +38,7 @@ class Branches:
         """The commands of all sessions that were not returned before, if they are known."""
         return []
 
-    def is_own(self, it: Entry) -> bool:
+    def is_own(self, entry: Entry) -> bool:
         """Whether this session gave a command."""
         return False
 
@@ -79,18 +79,18 @@ class Branches:
 
     def _follow(self, words: Sequence[str], reply: Sequence[str]) -> None:
         """Changes a branch as the reply to a command says."""
-        it = self.by_name.get("".join(words[1:2]), Branch(""))
+        branch = self.by_name.get("".join(words[1:2]), Branch(""))
         if reply[0] == STEP.word:
-            events = [*it.events[: it.cursor], plain_event(words[2:])]
-            self.by_name[it.name] = Branch(it.name, events, len(events))
+            events = [*branch.events[: branch.cursor], plain_event(words[2:])]
+            self.by_name[branch.name] = Branch(branch.name, events, len(events))
         elif reply[0] == "at":
-            self.by_name[it.name] = replace(it, cursor=int(reply[1]))
+            self.by_name[branch.name] = replace(branch, cursor=int(reply[1]))
         elif reply[0] == "forked":
-            self.by_name[words[3]] = Branch(words[3], it.events[: int(words[2])], int(words[2]))
+            self.by_name[words[3]] = Branch(words[3], branch.events[: int(words[2])], int(words[2]))
         elif reply[0] == "removed":
-            del self.by_name[it.name]
+            del self.by_name[branch.name]
         elif reply[0] in ("excised", "restored"):
-            self.by_name[it.name] = read_log(self._ask(f"{LOG.word} {it.name}"))
+            self.by_name[branch.name] = read_log(self._ask(f"{LOG.word} {branch.name}"))
 
 
 class FollowedBranches(Branches):
@@ -116,8 +116,8 @@ class FollowedBranches(Branches):
         self._returned += len(new)
         return new
 
-    def is_own(self, it: Entry) -> bool:
-        return it.session in (0, self._shared.number)
+    def is_own(self, entry: Entry) -> bool:
+        return entry.session in (0, self._shared.number)
 
     def look(self) -> None:
         self._shared.level()
@@ -144,7 +144,7 @@ class FollowedBranches(Branches):
         with self._shared.one_moment():
             super().read()
 
-    def _hear(self, it: Entry, reply: Optional[List[str]]) -> None:
+    def _hear(self, entry: Entry, reply: Optional[List[str]]) -> None:
         self._is_stale = True
 
     def _renew(self) -> None:

@@ -64,8 +64,8 @@ def read_wanted(query: str) -> Wanted:
 
 def read_typed(body: bytes) -> Typed:
     """The line in a body, and the name."""
-    it = _read(body)
-    name, line, version = it.get("name", ""), it.get("line"), it.get("version")
+    members = _read(body)
+    name, line, version = members.get("name", ""), members.get("line"), members.get("version")
     if not isinstance(name, str) or not isinstance(line, str) or type(version) not in (int, type(None)):
         raise NotTaken('the body has to be {"name": "..", "line": "..", "version": N}')
     _check(line)
@@ -74,8 +74,8 @@ def read_typed(body: bytes) -> Typed:
 
 def read_claim(body: bytes) -> Claim:
     """The name in a body, and the sign."""
-    it = _read(body)
-    name, sign = it.get("name"), it.get("sign")
+    members = _read(body)
+    name, sign = members.get("name"), members.get("sign")
     if not isinstance(name, str) or not isinstance(sign, str) or not SIGN.fullmatch(sign):
         raise NotTaken('the body has to be {"name": "..", "sign": "a letter and 15 letters or digits"}')
     return Claim(cleaned(name), sign)
@@ -84,10 +84,10 @@ def read_claim(body: bytes) -> Claim:
 def _read(body: bytes) -> Dict[str, Any]:
     """The members of a body; none if it is no object."""
     try:
-        it = json.loads(body.decode())
+        members = json.loads(body.decode())
     except (ValueError, RecursionError):
         raise NotTaken("the body is not JSON") from None
-    return it if isinstance(it, dict) else {}
+    return members if isinstance(members, dict) else {}
 
 
 def _check(line: str) -> None:

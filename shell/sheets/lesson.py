@@ -103,16 +103,16 @@ class Playing:
         before, known = self._chapter(branch).cursor, branch in self.story.branches
         long = words[0] in COMMANDS and COMMANDS[words[0]].is_long
         room = FOR_EVENT if is_event else FOR_LONG if long else FOR_COMMAND
-        it = Line(self._near.waiting, " ".join(words), branch if known else "", before + 1 if is_event and known else None, room)
+        entry = Line(self._near.waiting, " ".join(words), branch if known else "", before + 1 if is_event and known else None, room)
         self._near = Story()
         reply = self.lab.ask(line)
         self.story.command(line, reply)
         chapter = self._chapter(branch)
         if is_event and reply[0].startswith(STEP.word):
-            it.event = chapter.events[chapter.cursor - 1]
+            entry.event = chapter.events[chapter.cursor - 1]
         if self.with_answers:
-            it.answer = answer_of(self.lab, line, reply, chapter.cursor, before)
-        self.lines.append(it)
+            entry.answer = answer_of(self.lab, line, reply, chapter.cursor, before)
+        self.lines.append(entry)
 
     def mark_gone(self) -> None:
         """Marks the events that stand in no branch. Each event that was stepped is a string of its own, which its branches share."""

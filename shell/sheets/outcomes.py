@@ -36,28 +36,28 @@ def answer_of(lab: Laboratory, line: str, reply: Sequence[str], number: int, bef
     if words[0] != STEP.word:
         why = why_last(lab, PLAIN)[1:] if words[0] in (EXCISE.word, SEARCH) else []
         return Answer([*reply], _moved(words, number, before), _short(why, ""))
-    it = lab.explanation(words[1], number)
+    explanation = lab.explanation(words[1], number)
     why = explained_event(lab, lab.branch(words[1]), number, PLAIN)[1:]
-    return Answer([*reply], outcome_words(lab, words[1], it), _short(why, f"`why {words[1]} {number}`"))
+    return Answer([*reply], outcome_words(lab, words[1], explanation), _short(why, f"`why {words[1]} {number}`"))
 
 
 def outcome_words(lab: Laboratory, branch: str, explained: Explanation) -> str:
     """What came of an accepted event, as a chart draws it."""
-    it = explained.event
-    if it.kind is PACKET:
+    event = explained.event
+    if event.kind is PACKET:
         return PacketMarks().mark(explained).fate
-    if it.kind in (FLUSH, REPEAT):
-        flight = lab.flight(branch, int(it.outcome[1]))
-        said = [f"copy of #{it.words[1]}"] if it.kind is REPEAT else record_words(flight.frame.records)
+    if event.kind in (FLUSH, REPEAT):
+        flight = lab.flight(branch, int(event.outcome[1]))
+        said = [f"copy of #{event.words[1]}"] if event.kind is REPEAT else record_words(flight.frame.records)
         return f"#{flight.ticket}: {', '.join(said)}"
-    if it.kind is DELIVER:
-        mark = delivery_mark(explained, lab.flight(branch, int(it.words[1])))
-        return f"#{it.words[1]}: {' '.join(filter(None, [*mark.words, mark.fate]))}"
-    if it.kind is LOSE:
-        return f"#{it.words[1]}: lost"
-    if it.kind is CUT:
-        return f"#{it.words[1]}: cut to {it.outcome[1]} bytes"
-    return node_mark(it).fate or it.came
+    if event.kind is DELIVER:
+        mark = delivery_mark(explained, lab.flight(branch, int(event.words[1])))
+        return f"#{event.words[1]}: {' '.join(filter(None, [*mark.words, mark.fate]))}"
+    if event.kind is LOSE:
+        return f"#{event.words[1]}: lost"
+    if event.kind is CUT:
+        return f"#{event.words[1]}: cut to {event.outcome[1]} bytes"
+    return node_mark(event).fate or event.came
 
 
 def _moved(words: Sequence[str], cursor: int, before: int) -> str:

@@ -69,28 +69,28 @@ def _setup(setup: Setup) -> Iterator[Markup]:
 # ---- lines
 
 
-def _step(it: Line, lesson: Lesson) -> Markup:
+def _step(line: Line, lesson: Lesson) -> Markup:
     """A line with what is above it, and its answer or room for one."""
-    above = [prose(words, its="said") for words in it.said]
-    answer = _answer(it.answer, it.is_gone) if it.answer else _room(it.room)
-    body = element("div", element("h3", _heading(it, lesson.has_branches)), element("pre", it.text, its="line"), *answer, its="step")
+    above = [prose(words, its="said") for words in line.said]
+    answer = _answer(line.answer, line.is_gone) if line.answer else _room(line.room)
+    body = element("div", element("h3", _heading(line, lesson.has_branches)), element("pre", line.text, its="line"), *answer, its="step")
     return Markup("\n".join([*above, body]))
 
 
-def _heading(it: Line, has_branches: bool) -> str:
+def _heading(line: Line, has_branches: bool) -> str:
     """The number of an event as charts have it, with its branch if there are several; or the word of another command."""
-    if it.number is None:
-        return f"Command {it.word}"
-    return f"Event {it.number} of {it.branch}" if has_branches else f"Event {it.number}"
+    if line.number is None:
+        return f"Command {line.word}"
+    return f"Event {line.number} of {line.branch}" if has_branches else f"Event {line.number}"
 
 
 def _room(lines: int) -> List[Markup]:
     return [element("p", "Expected outcome:", its="said"), *[element("div", its="room")] * lines]
 
 
-def _answer(it: Answer, is_gone: bool) -> List[Markup]:
-    terms = [("Reply", [element("pre", "\n".join(it.reply))]), ("Outcome", [element("p", it.outcome)] * bool(it.outcome))]
-    terms += [("Why", [prose(words) for words in it.why])]
+def _answer(answer: Answer, is_gone: bool) -> List[Markup]:
+    terms = [("Reply", [element("pre", "\n".join(answer.reply))]), ("Outcome", [element("p", answer.outcome)] * bool(answer.outcome))]
+    terms += [("Why", [prose(words) for words in answer.why])]
     terms += [("Later", [element("p", "It is in no branch at the end, and in no chart.")] * is_gone)]
     return [element("dl", *(part for name, said in terms if said for part in (element("dt", name), element("dd", *said))))]
 
@@ -98,21 +98,21 @@ def _answer(it: Answer, is_gone: bool) -> List[Markup]:
 # ---- the end
 
 
-def _ending(it: Ending) -> Iterator[Markup]:
+def _ending(ending: Ending) -> Iterator[Markup]:
     """The chart of a branch, and both nodes as `view` shows them."""
-    name = it.chart.branch
+    name = ending.chart.branch
     yield element("h2", f"Branch {name} at the end", its="branch")
     yield element("h3", "Chart")
-    yield element("p", it.chart.heading, its="said")
-    yield from (_figure(piece, it) for piece in pieces(it.chart))
+    yield element("p", ending.chart.heading, its="said")
+    yield from (_figure(piece, ending) for piece in pieces(ending.chart))
     yield element("h3", "State tables")
-    yield element("pre", "\n".join(fitted(it.tables, COLUMNS)), its="tables")
+    yield element("pre", "\n".join(fitted(ending.tables, COLUMNS)), its="tables")
 
 
-def _figure(piece: Piece, it: Ending) -> Markup:
+def _figure(piece: Piece, ending: Ending) -> Markup:
     """A piece of a chart. Its text says where the same is in words."""
     events = f"event {piece.first}" if piece.first == piece.last else f"events {piece.first} to {piece.last}"
-    words = f"Chart of {it.chart.branch}, {events}: nodes a and b are two lanes, with time downwards."
+    words = f"Chart of {ending.chart.branch}, {events}: nodes a and b are two lanes, with time downwards."
     said = f"{words} The replies above say the same in words."
     return element("figure", element("div", *map(Markup, piece.pictures), role="img", aria_label=said))
 
