@@ -98,8 +98,8 @@ class MeasuredRun:
         written = self.written()
         if written != wanted:
             pairs = enumerate(zip(written.split(b"\n"), wanted.split(b"\n")), 1)
-            line, (it, other) = next(pair for pair in pairs if pair[1][0] != pair[1][1])
-            raise Wrong(f"line {line} of the replies is {it.decode()!r}, not {other.decode()!r}")
+            line, (reply, other) = next(pair for pair in pairs if pair[1][0] != pair[1][1])
+            raise Wrong(f"line {line} of the replies is {reply.decode()!r}, not {other.decode()!r}")
         self.seen += len(written)
 
     def taken(self, commands: int) -> Cost:

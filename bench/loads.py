@@ -429,8 +429,8 @@ def limits(pair: TrackedPair) -> Iterator[Part]:
 
 
 LOADS: Dict[str, Callable[[TrackedPair], Iterator[Part]]] = {
-    it.__name__: it
-    for it in (
+    load.__name__: load
+    for load in (
         *(replies, flows, rooms, hits, ticks, undo, connections, frames),
         *(purges, scattered, timeouts, shows, pasts, whys, traces, forks, short_forks, limits),
     )

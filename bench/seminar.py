@@ -154,9 +154,9 @@ def agree(server: Server, replay: Replay, entries: int) -> bool:
 
 def fork(server: Server) -> None:
     """Each session makes a branch of its own."""
-    for number, it in enumerate(server.sessions, 1):
-        it.give([f"fork main 0 s{number}"])
-        it.had.append(it.reply())
+    for number, session in enumerate(server.sessions, 1):
+        session.give([f"fork main 0 s{number}"])
+        session.had.append(session.reply())
 
 
 def work(server: Server, commands: int) -> float:

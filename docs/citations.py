@@ -77,10 +77,10 @@ class Source:
 
     def needs(self) -> Iterator[Declaration]:
         """The declarations that have to be cited."""
-        for it in self.declarations():
-            is_case = self.is_worked and not it.marks and len(it.seen) == len(self.lines)
-            if not is_case and not ("pub" in it.marks and self.path.name in ANSWERS):
-                yield it
+        for declaration in self.declarations():
+            is_case = self.is_worked and not declaration.marks and len(declaration.seen) == len(self.lines)
+            if not is_case and not ("pub" in declaration.marks and self.path.name in ANSWERS):
+                yield declaration
 
 
 @functools.lru_cache(maxsize=None)
@@ -108,15 +108,15 @@ def way(path: str) -> Tuple[Place, ...]:
 def cited() -> Set[Place]:
     """The places that the sources cite by an import or a path."""
     found: Set[Place] = set()
-    for it in sources():
-        paths = {it.imports[name] if name in it.passes else it.imports[name].rpartition(".")[0] for name in it.imports}
-        for _, name in it.names:
+    for source in sources():
+        paths = {source.imports[name] if name in source.passes else source.imports[name].rpartition(".")[0] for name in source.imports}
+        for _, name in source.names:
             first, dot, rest = name.partition(".")
-            if first in it.imports:
-                paths.add(it.imports[first] + dot + rest)
-        if it.path.suffix == ".rt":
-            own = it.module.split(".")[0]
-            for crate, rest in PATH.findall("\n".join(it.lines)):
+            if first in source.imports:
+                paths.add(source.imports[first] + dot + rest)
+        if source.path.suffix == ".rt":
+            own = source.module.split(".")[0]
+            for crate, rest in PATH.findall("\n".join(source.lines)):
                 paths.add((own if crate == "crate" else crate) + "." + rest.replace("::", "."))
         found.update(place for path in paths for place in way(path))
     return found
@@ -125,14 +125,15 @@ def cited() -> Set[Place]:
 def uncited() -> Iterator[Tuple[Path, int, str]]:
     """The names that nothing cites, each with its file and its line."""
     by_others = cited()
-    for it in sources():
-        if "proofs" in it.module.split(".")[1:2]:
+    for source in sources():
+        if "proofs" in source.module.split(".")[1:2]:
             own: Dict[str, Set[int]] = {}
-            for at, name in it.names:
+            for at, name in source.names:
                 own.setdefault(name.split(".")[0], set()).add(at)
-            for one in it.needs():
-                if (it.module, one.name) not in by_others and not any(at in one.seen and at not in one.lines for at in own.get(one.name, ())):
-                    yield it.path, one.lines.start + 1, one.name
-            for name, at in it.passes.items():
-                if (it.module, name) not in by_others:
-                    yield it.path, at + 1, name
+            for one in source.needs():
+                is_cited_here = any(at in one.seen and at not in one.lines for at in own.get(one.name, ()))
+                if (source.module, one.name) not in by_others and not is_cited_here:
+                    yield source.path, one.lines.start + 1, one.name
+            for name, at in source.passes.items():
+                if (source.module, name) not in by_others:
+                    yield source.path, at + 1, name

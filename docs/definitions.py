@@ -116,9 +116,9 @@ def all_definitions() -> Dict[Place, Definition]:
         for name, text in _definitions(lines):
             found[module, name] = Definition(text)
             scopes[module].names[name] = (module, name)
-    for (module, name), it in found.items():
-        it.names = list(scopes[module].cited("\n".join(it.lines), _bound(name, it.lines)))
-        it.cites = {place for place in it.names if place in found and place != (module, name)}
+    for (module, name), definition in found.items():
+        definition.names = list(scopes[module].cited("\n".join(definition.lines), _bound(name, definition.lines)))
+        definition.cites = {place for place in definition.names if place in found and place != (module, name)}
     return found
 
 

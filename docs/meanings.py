@@ -46,12 +46,12 @@ def words() -> Dict[str, str]:
 
 def refusals(place: Place) -> Dict[str, List[int]]:
     """The events that a definition of meanings distinguishes, each by its word, with the numbers of its refusals in order."""
-    known, called, it = numbers(), words(), definitions.all_definitions()[place]
+    known, called, definition = numbers(), words(), definitions.all_definitions()[place]
     refused = {}
     for case in _cases(place):
         meaning = set(re.findall(r"[\w']+", case["said"]))
         seen: Set[Place] = set()
-        found = dict.fromkeys(why for name in it.names if name[1] in meaning for why in _named(name, seen))
+        found = dict.fromkeys(why for name in definition.names if name[1] in meaning for why in _named(name, seen))
         if case["event"] not in DISTINGUISHED:
             refused[called[case["event"]]] = [known[why] for why in found]
     return refused

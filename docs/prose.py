@@ -132,18 +132,18 @@ def strings(text: str) -> Iterator[Block]:
     """The lines of the strings of a Python file that consist of several words."""
     tree = ast.parse(text)
     parts = {id(part) for it in ast.walk(tree) if isinstance(it, ast.JoinedStr) for part in it.values}
-    for it in ast.walk(tree):
-        for line in _value(it, id(it) in parts).splitlines():
+    for node in ast.walk(tree):
+        for line in _value(node, id(node) in parts).splitlines():
             if " " in line.strip():
-                yield Block(getattr(it, "lineno", 0), _read(line.strip()))
+                yield Block(getattr(node, "lineno", 0), _read(line.strip()))
 
 
-def _value(it: ast.AST, is_part: bool) -> str:
+def _value(node: ast.AST, is_part: bool) -> str:
     """The text of a string, in which each value that is filled in is a word; nothing for anything else."""
-    if isinstance(it, ast.JoinedStr):
-        return "".join(_value(part, False) or SPAN for part in it.values)
-    is_text = isinstance(it, ast.Constant) and isinstance(it.value, str) and not is_part
-    return str(ast.literal_eval(it)) if is_text and isinstance(it, ast.expr) else ""
+    if isinstance(node, ast.JoinedStr):
+        return "".join(_value(part, False) or SPAN for part in node.values)
+    is_text = isinstance(node, ast.Constant) and isinstance(node.value, str) and not is_part
+    return str(ast.literal_eval(node)) if is_text and isinstance(node, ast.expr) else ""
 
 
 def plain(text: str) -> Iterator[Block]:
@@ -175,9 +175,9 @@ PATTERNS = tuple((re.compile(rf"\b(?:{phrase})\b".replace(" ", r"\s"), re.I), be
 def faults(blocks: Iterator[Block]) -> Iterator[Fault]:
     """The long sentences of blocks, and the phrases that read like a translation."""
     for block in blocks:
-        for it in sentences(block) if block.is_prose else ():
-            if len(it.words) > MOST:
-                yield Fault(it.line, f"a sentence of {len(it.words)} words: {' '.join(it.words[:8])} ..")
+        for sentence in sentences(block) if block.is_prose else ():
+            if len(sentence.words) > MOST:
+                yield Fault(sentence.line, f"a sentence of {len(sentence.words)} words: {' '.join(sentence.words[:8])} ..")
         for pattern, better in PATTERNS:
             for found in pattern.finditer(block.text):
                 line = block.line + block.text.count("\n", 0, found.start())
@@ -194,9 +194,9 @@ def main(words: List[str]) -> int:
     paths = [Path(it) for it in words] or [it for it in (TOP / name for name in DOCUMENTS) if it.exists()]
     status = 0
     for path in paths:
-        for it in of_file(path):
+        for fault in of_file(path):
             shown = path.relative_to(TOP) if path.is_absolute() and TOP in path.parents else path
-            print(f"{shown}:{it.line}: {it.what}")
+            print(f"{shown}:{fault.line}: {fault.what}")
             status = 1
     return status
 

@@ -245,8 +245,8 @@ def naming(pattern: str) -> List[str]:
     word = re.compile(pattern, re.IGNORECASE)
     out: List[str] = []
     for folder in sorted(it for glob in WITH_SOURCES for it in TOP.glob(glob)):
-        found = [str(it.relative_to(folder)) for it in sorted(folder.rglob("*"))
-                 if it.suffix in SOURCES and word.search(it.read_text())]
+        found = [str(path.relative_to(folder)) for path in sorted(folder.rglob("*"))
+                 if path.suffix in SOURCES and word.search(path.read_text())]
         if found:
             out += textwrap.wrap(f"{folder.relative_to(TOP)}/: {' '.join(found)}", WIDTH, subsequent_indent="    ")
     return out

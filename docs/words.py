@@ -47,9 +47,9 @@ CLAUSE_END = re.compile(r"[;:] ")
 COLUMNS = 78
 
 
-def forms(it: Help) -> List[str]:
+def forms(word: Help) -> List[str]:
     """The forms of a word, in which several options are one part."""
-    return [OPTIONS.sub("[OPTION ..]", form) for form in it.form.split("\n")]
+    return [OPTIONS.sub("[OPTION ..]", form) for form in word.form.split("\n")]
 
 
 def rows(word: str) -> Iterator[str]:
@@ -64,9 +64,9 @@ def rows(word: str) -> Iterator[str]:
         return
     yield "| Word | What it does |"
     yield "|---|---|"
-    for name, it in OURS.items():
+    for name, word in OURS.items():
         more = f" ([more](#{SECTIONS[name]}))" if name in SECTIONS else ""
-        yield f"| {', '.join(f'`{form}`' for form in forms(it))} | {CLAUSE_END.split(it.what)[0]}{more} |"
+        yield f"| {', '.join(f'`{form}`' for form in forms(word))} | {CLAUSE_END.split(word.what)[0]}{more} |"
 
 
 def page(text: str) -> Tuple[str, int]:
@@ -125,23 +125,23 @@ def prose(text: str, names: Tuple[str, ...]) -> Iterator[str]:
         yield from textwrap.wrap(" ".join(words), COLUMNS, break_long_words=False, break_on_hyphens=False)
 
 
-def item(word: str, it: Help) -> Iterator[str]:
+def item(word: str, about: Help) -> Iterator[str]:
     """A word in the list of the manual page."""
-    names = tuple(re.findall(r"\b[A-Z]+\b", " ".join((it.form, *(part for part, _ in it.parts)))))
-    for form in forms(it):
+    names = tuple(re.findall(r"\b[A-Z]+\b", " ".join((about.form, *(part for part, _ in about.parts)))))
+    for form in forms(about):
         yield f".It {form_macros(form, 'Ic')}"
-    yield from prose(f"{it.order[0].upper()}{it.order[1:]}.", names)
-    yield from prose(it.more, names)
-    if it.parts and it.parts[0][0].startswith("--"):
+    yield from prose(f"{about.order[0].upper()}{about.order[1:]}.", names)
+    yield from prose(about.more, names)
+    if about.parts and about.parts[0][0].startswith("--"):
         yield from ("The options are those of the command", f".Cm {word} .")
-    elif it.parts:
+    elif about.parts:
         yield ".Bl -tag -width Ds"
-        for part, what in it.parts:
+        for part, what in about.parts:
             yield f".It {form_macros(part, 'Cm')}"
             yield from prose(f"{what[0].upper()}{what[1:]}", names)
         yield ".El"
         yield ".Pp"
-    yield from prose(it.end, names)
+    yield from prose(about.end, names)
 
 
 def manual(text: str) -> Tuple[str, int]:

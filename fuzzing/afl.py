@@ -33,9 +33,9 @@ class Missing(Exception):
 
 def found_by_afl(top: str, room: str, minutes: float, jobs: int) -> Dict[str, List[str]]:
     """Runs AFL++ for a while; returns the paths of the scripts that it has kept so far: its queue, crashes and hangs."""
-    for it in ("afl-fuzz", "cc", "rt"):
-        if not shutil.which(it):
-            raise Missing(f"there is no {it} on the path")
+    for command in ("afl-fuzz", "cc", "rt"):
+        if not shutil.which(command):
+            raise Missing(f"there is no {command} on the path")
     if not os.path.isfile(RUNTIME):
         raise Missing(f"there is no {RUNTIME}")
     os.makedirs(room, exist_ok=True)
@@ -50,10 +50,10 @@ def found_by_afl(top: str, room: str, minutes: float, jobs: int) -> Dict[str, Li
 def run_side_by_side(words: List[str], program: List[str], log: str, jobs: int, top: str) -> None:
     """Runs this many processes, which share what they find."""
     names = [["-M", "first"], *(["-S", f"other-{it}"] for it in range(1, jobs))]
-    with open(log, "w", encoding="utf-8") as it:
+    with open(log, "w", encoding="utf-8") as file:
         env = {**os.environ, **ENVIRONMENT, "PYTHONPATH": top}
         commands = ([*words, *name, "--", *program] for name in names)
-        runs = [subprocess.Popen(command, env=env, stdin=subprocess.DEVNULL, stdout=it, stderr=it) for command in commands]
+        runs = [subprocess.Popen(command, env=env, stdin=subprocess.DEVNULL, stdout=file, stderr=file) for command in commands]
         statuses = [run.wait() for run in runs]
     if any(statuses):
         raise Missing(f"afl-fuzz stopped; its output is in {log}")

@@ -38,8 +38,8 @@ def with_other_number(chance: random.Random, line: str) -> str:
     found = [*re.finditer("[0-9]{1,500}", line)]
     if not found:
         return line
-    it = chance.choice(found)
-    digits, how = it[0], chance.random()
+    number = chance.choice(found)
+    digits, how = number[0], chance.random()
     if how < 0.5:
         other = str(max(0, int(digits) + chance.choice((-2, -1, 1, 1, 2))))
     elif how < 0.8:
@@ -47,7 +47,7 @@ def with_other_number(chance: random.Random, line: str) -> str:
     else:
         zeros = "0" * chance.choice((1, 1, chance.randint(2, 400)))
         other = chance.choice((f"{zeros}{digits}", f"{digits}{digits}", f"{digits}0", f"{digits}000"))
-    return line[: it.start()] + other + line[it.end() :]
+    return line[: number.start()] + other + line[number.end() :]
 
 
 def spread(chance: random.Random, line: str) -> str:
@@ -63,8 +63,8 @@ def spread(chance: random.Random, line: str) -> str:
 def with_few_runs(text: str) -> str:
     """A script whose searches try few runs; a search whose number of runs is not a number keeps it."""
 
-    def few(it: "re.Match[str]") -> str:
-        return it[1] + (it[2] if int(it[2]) > GREATEST else str(int(it[2]) % (MOST_RUNS + 1)))
+    def few(found: "re.Match[str]") -> str:
+        return found[1] + (found[2] if int(found[2]) > GREATEST else str(int(found[2]) % (MOST_RUNS + 1)))
 
     return re.sub(rf"(?m)^([ \t]*{SEARCH}[ \t]+[^ \t\n]+[ \t]+[^ \t\n]+[ \t]+)([0-9]{{1,500}})", few, text)
 

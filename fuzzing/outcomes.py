@@ -87,52 +87,52 @@ def compare_event(setup: Setup, before: Sequence[str], after: Sequence[str], eve
     """An outcome must be the one that follows from the pair before the event, if one follows, and what it says must be shown after
     the event. An event that was refused leaves the pair as it was."""
     was, now = (read_shown(["branch main events 0 cursor 0", *it]) for it in (before, after))
-    it = Case(setup, event.split(), outcome.split(), was, now)
-    foretold, is_shown = _CHECKS[it.event]
-    wanted = "NoSuchFrame" if it.words[0] in OF_FRAME and it.ticket not in it.before.frames else foretold(it)
+    case = Case(setup, event.split(), outcome.split(), was, now)
+    foretold, is_shown = _CHECKS[case.event]
+    wanted = "NoSuchFrame" if case.words[0] in OF_FRAME and case.ticket not in case.before.frames else foretold(case)
     # (it takes more to foresee that a queue or a counter would overflow)
     if wanted is not None and not re.fullmatch(wanted, outcome) and outcome not in ("QueueFull", "CountFull"):
         raise Differs(f"{event}: {outcome}, not {wanted}")
-    if after is not before and not is_shown(it):
+    if after is not before and not is_shown(case):
         raise Differs("\n".join([f"{event}: {outcome}, which is not shown", "before:", *before, "after:", *after]))
 
 
-def _tick(it: Case) -> str:
-    clock = it.node.clock + int(it.words[2])
-    return it.answered(clock) if clock <= LAST_MILLISECOND else "ClockFull"
+def _tick(case: Case) -> str:
+    clock = case.node.clock + int(case.words[2])
+    return case.answered(clock) if clock <= LAST_MILLISECOND else "ClockFull"
 
 
-def _kill(it: Case) -> str:
-    return it.answered() if Name.read(it.words[2]) in it.node.states else "NoSuchState"
+def _kill(case: Case) -> str:
+    return case.answered() if Name.read(case.words[2]) in case.node.states else "NoSuchState"
 
 
-def _release(it: Case) -> str:
-    due = sum(held.since + it.setup.limits[DEFER_MS] <= it.node.clock for held in it.node.held)
-    return it.answered(due) if due else "TooEarly" if it.node.held else "NothingPending"
+def _release(case: Case) -> str:
+    due = sum(held.since + case.setup.limits[DEFER_MS] <= case.node.clock for held in case.node.held)
+    return case.answered(due) if due else "TooEarly" if case.node.held else "NothingPending"
 
 
-def _retry(it: Case) -> str:
-    if it.node.sync == "-":
+def _retry(case: Case) -> str:
+    if case.node.sync == "-":
         return "NotSyncing"
-    tries, asked = map(int, it.node.sync.split("/"))
-    if it.node.clock < asked + it.setup.limits[BULK_MS]:
+    tries, asked = map(int, case.node.sync.split("/"))
+    if case.node.clock < asked + case.setup.limits[BULK_MS]:
         return "TooEarly"
-    return it.answered(tries + 1) if tries < MOST_TRIES else SERVED.word
+    return case.answered(tries + 1) if tries < MOST_TRIES else SERVED.word
 
 
-def _packet_is_counted(it: Case) -> bool:
-    more = tuple(it.now.counters[name] - it.node.counters[name] for name in ("passed", "blocked"))
-    is_known = it.outcome[0] == DROPPED.word or it.outcome[1] == "-" or Name.read(it.outcome[1]) in it.now.states
-    return is_known and more == {PASS.word: (1, 0), DROPPED.word: (0, 1), HELD_BACK.word: (0, 0)}[it.outcome[0]]
+def _packet_is_counted(case: Case) -> bool:
+    more = tuple(case.now.counters[name] - case.node.counters[name] for name in ("passed", "blocked"))
+    is_known = case.outcome[0] == DROPPED.word or case.outcome[1] == "-" or Name.read(case.outcome[1]) in case.now.states
+    return is_known and more == {PASS.word: (1, 0), DROPPED.word: (0, 1), HELD_BACK.word: (0, 0)}[case.outcome[0]]
 
 
-def _is_in_flight(it: Case) -> bool:
-    frame = it.after.frames.get(it.number)
-    return frame is not None and len(frame.data) == int(it.outcome[2]) and it.after.next_ticket == it.before.next_ticket + 1
+def _is_in_flight(case: Case) -> bool:
+    frame = case.after.frames.get(case.number)
+    return frame is not None and len(frame.data) == int(case.outcome[2]) and case.after.next_ticket == case.before.next_ticket + 1
 
 
-def _is_gone(it: Case) -> bool:
-    return it.ticket not in it.after.frames and len(it.after.frames) == len(it.before.frames) - 1
+def _is_gone(case: Case) -> bool:
+    return case.ticket not in case.after.frames and len(case.after.frames) == len(case.before.frames) - 1
 
 
 # For each event the outcome that follows from the pair before it, if any, and whether what the outcome says is shown after it.

@@ -66,13 +66,13 @@ class Timeline:
 
     def search(self, line: str, name: str) -> List[str]:
         """A search from a branch; returns its reply, which is what all runs show that it tries. It has changed nothing."""
-        reply, branch, it = self.lab.answer(line), self.branches[name], Search.read(line)
-        self.seen[f"{SEARCH} {it.question}", how_answered(reply)] += 1
+        reply, branch, search = self.lab.answer(line), self.branches[name], Search.read(line)
+        self.seen[f"{SEARCH} {search.question}", how_answered(reply)] += 1
         branch.compare(self.lab, name, line)
         branch.compare_log(self.lab, name, line)
         with self.room_for(name, branch.cursor) as room:
-            compare_tries(room, it, reply)
-            compare_search(room, it, reply, self.chance)
+            compare_tries(room, search, reply)
+            compare_search(room, search, reply, self.chance)
         return reply
 
     def wanted(self, command: str, words: Sequence[str]) -> List[str]:

@@ -52,8 +52,8 @@ class Trial(NamedTuple):
         try:
             self.run(script, seen)
             return ""
-        except Differs as it:
-            return str(it)
+        except Differs as why:
+            return str(why)
         except Exception:
             # (the program may write anything, which a reader need not expect)
             return traceback.format_exc()

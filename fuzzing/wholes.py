@@ -26,10 +26,10 @@ class Ran(NamedTuple):
 def ran(program: str, word: str, script: str, seconds: float) -> Ran:
     """A run over a script that is all there at once."""
     try:
-        it = subprocess.run([program, word], input=script.encode("latin-1"), capture_output=True, timeout=seconds)
+        done = subprocess.run([program, word], input=script.encode("latin-1"), capture_output=True, timeout=seconds)
     except subprocess.TimeoutExpired as error:
         raise Differs(f"{word}: it had not ended after {seconds:g} seconds") from error
-    return Ran(it.stdout.decode("latin-1"), it.stderr.decode("latin-1"), it.returncode)
+    return Ran(done.stdout.decode("latin-1"), done.stderr.decode("latin-1"), done.returncode)
 
 
 def ran_in_pieces(program: str, word: str, script: str, seconds: float, chance: random.Random) -> Ran:

@@ -62,9 +62,9 @@ def files(program: str) -> List[File]:
 def completions() -> Iterator[File]:
     """The completions of bash and zsh, in the places where these look for them."""
     folder = TOP / "installing/completions"
-    for it in COMMANDS:
-        yield File(f"share/bash-completion/completions/{it}", READABLE, (folder / f"bash/{it}").read_bytes())
-        yield File(f"share/zsh/site-functions/_{it}", READABLE, (folder / f"zsh/_{it}").read_bytes())
+    for command in COMMANDS:
+        yield File(f"share/bash-completion/completions/{command}", READABLE, (folder / f"bash/{command}").read_bytes())
+        yield File(f"share/zsh/site-functions/_{command}", READABLE, (folder / f"zsh/_{command}").read_bytes())
 
 
 def examples() -> Iterator[File]:

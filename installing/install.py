@@ -74,10 +74,10 @@ def list_file(its: Installed) -> File:
 def refuse_foreign(prefix: str, wanted: Sequence[File], old: Installed) -> None:
     """Refuses to overwrite a file that was not installed, or that was changed since."""
     found = []
-    for it in wanted:
-        path = os.path.join(prefix, it.name)
-        if os.path.lexists(path) and not old.has(prefix, it.name):
-            found.append(f"  {path} was {'changed since it was installed' if it.name in old.digests else 'not installed by ./lab'}")
+    for file in wanted:
+        path = os.path.join(prefix, file.name)
+        if os.path.lexists(path) and not old.has(prefix, file.name):
+            found.append(f"  {path} was {'changed since it was installed' if file.name in old.digests else 'not installed by ./lab'}")
     if found:
         raise NotInstalled("\n".join(("nothing is installed, since it would overwrite this; move it away first:", *found)))
 
@@ -104,19 +104,19 @@ def make_folder(path: str, made: List[str], undoing: ExitStack) -> None:
     made.append(path)
 
 
-def stage(prefix: str, it: File, undoing: ExitStack) -> Staged:
+def stage(prefix: str, file: File, undoing: ExitStack) -> Staged:
     """Writes a file next to its place."""
-    target = os.path.join(prefix, it.name)
+    target = os.path.join(prefix, file.name)
     folder, name = os.path.split(target)
     try:
         with uninterrupted():
             number, path = tempfile.mkstemp(prefix=f".{name}-", dir=folder)
             undoing.callback(remove, path)
         with open(number, "wb") as out:
-            out.write(it.content)
+            out.write(file.content)
             out.flush()
             os.fsync(number)
-        os.chmod(path, it.mode)
+        os.chmod(path, file.mode)
     except OSError as error:
         raise OSError(error.errno, error.strerror, target) from error
     return path, target

@@ -75,9 +75,9 @@ def kinds(chance: random.Random, shown: Sequence[str], is_far: bool) -> Iterator
         "MS": str(chance.choice(LONG if chance.random() < 0.02 else (1, 20, 1000, 1999, 2000, 10000, 30000, 60000))),
         "NAME": some(chance, shown, "1.99", "state", node),
     }
-    for it in EVENTS.values():
-        line = packet(chance, node, is_far) if it is PACKET else " ".join([it.word, *(words[value.name] for value in it.values)])
-        yield WEIGHTS.get(it, 2), line
+    for event in EVENTS.values():
+        line = packet(chance, node, is_far) if event is PACKET else " ".join([event.word, *(words[value.name] for value in event.values)])
+        yield WEIGHTS.get(event, 2), line
 
 
 def event(chance: random.Random, shown: Sequence[str], is_far: bool = False) -> str:

@@ -29,17 +29,17 @@ Both = Tuple[object, object]
 def compare_reason(setup: Setup, reply: Sequence[str], before: Sequence[str], after: Sequence[str]) -> None:
     """An explanation must be what the pairs before and after the event show."""
     was, now = (read_shown(["branch main events 0 cursor 0", *it]) for it in (before, after))
-    it = read_explanation(reply)
-    kind, about, *_ = it.event.words
+    explanation = read_explanation(reply)
+    kind, about, *_ = explanation.event.words
     wanted: object = None
-    came: object = it.reason
+    came: object = explanation.reason
     if kind == PACKET.word:
-        wanted, came = _packet(setup, it, was.nodes[about], now.nodes[about])
+        wanted, came = _packet(setup, explanation, was.nodes[about], now.nodes[about])
     elif kind == DELIVER.word:
         frame = was.frames[int(about)]
-        wanted, came = _delivery(setup, it, frame, was.nodes[frame.to], now.nodes[frame.to])
+        wanted, came = _delivery(setup, explanation, frame, was.nodes[frame.to], now.nodes[frame.to])
     elif kind == PURGE.word:
-        wanted, came = _purge(setup, it, was.nodes[about], now.nodes[about])
+        wanted, came = _purge(setup, explanation, was.nodes[about], now.nodes[about])
     if wanted != came:
         raise Differs("\n".join([*reply, f"wanted: {wanted}", f"came: {came}", "before:", *before, "after:", *after]))
 
@@ -47,18 +47,19 @@ def compare_reason(setup: Setup, reply: Sequence[str], before: Sequence[str], af
 # ---- a packet
 
 
-def _packet(setup: Setup, it: Explanation, was: Node, now: Node) -> Both:
-    packet = read_packet(it.event.line)
+def _packet(setup: Setup, explanation: Explanation, was: Node, now: Node) -> Both:
+    packet = read_packet(explanation.event.line)
     state = was.found(packet)
     # (a closed connection is deleted when a new one begins)
     if state is None or state.name not in now.states:
         wanted = _judged(setup, was, packet)
         made = (*started(setup.kernel, packet), was.clock, wanted.rule) if wanted.how == "new" else None
         there = now.states.get(wanted.name) if wanted.how == "new" else None
-        return (wanted, _outcome(setup, packet, wanted), made), (it.reason, it.event.came, there and _tracked(there))
+        return (wanted, _outcome(setup, packet, wanted), made), (explanation.reason, explanation.event.came, there and _tracked(there))
     after = moved(setup.kernel, state, packet, was.clock)
     outcome, there = f"pass {state.name}" if after else "drop window", now.states[state.name]
-    return (judged(setup.kernel, state, packet), outcome, _tracked(after or state)), (it.reason, it.event.came, _tracked(there))
+    wanted_so = judged(setup.kernel, state, packet), outcome, _tracked(after or state)
+    return wanted_so, (explanation.reason, explanation.event.came, _tracked(there))
 
 
 def _tracked(state: State) -> Tuple[object, ...]:
@@ -107,20 +108,21 @@ def _with_keys(states: Sequence[State], protocol: str, keys: Keys) -> List[Tuple
 # ---- a frame that comes
 
 
-def _delivery(setup: Setup, it: Explanation, frame: Frame, was: Node, now: Node) -> Both:
+def _delivery(setup: Setup, explanation: Explanation, frame: Frame, was: Node, now: Node) -> Both:
     """Its records; as many of them must be bad and stale as are counted. What is made and merged must be so by the rules, and what is
     tracked of the states be what the records make of it."""
     first, *_ = lines = contents(frame.data)
     if not first.startswith("record "):
-        return (None, first), (it.reason, it.event.came)
+        return (None, first), (explanation.reason, explanation.event.came)
     records = [Record.read(line.split()[1:]) for line in lines]
-    if [(one.kind, one.about) for one in records] != [(one.kind, one.about) for one in it.records]:
-        return records, it.records
+    if [(one.kind, one.about) for one in records] != [(one.kind, one.about) for one in explanation.records]:
+        return records, explanation.records
     counted = [now.counters[name] - was.counters[name] for name in ("bad", "stale")]
-    faulty = [sum(record.is_bad for record in it.records), sum(bool(record.stale) for record in it.records)]
+    faulty = [sum(record.is_bad for record in explanation.records), sum(bool(record.stale) for record in explanation.records)]
     states = dict(was.states)
     fates: List[Both] = []
-    for fate, came in zip(it.records, received(setup, setup.kernel, was, replace(frame, records=tuple(records)), it.records)):
+    came_records = received(setup, setup.kernel, was, replace(frame, records=tuple(records)), explanation.records)
+    for fate, came in zip(explanation.records, came_records):
         for name in [name for name in states if fate.takes(name)]:
             del states[name]
         if came:
@@ -128,12 +130,12 @@ def _delivery(setup: Setup, it: Explanation, frame: Frame, was: Node, now: Node)
             fates.append((_fate(setup, came), _said(fate)))
     wanted = counted, f"taken {len(records)}", [one for one, _ in fates], {name: _tracked(one) for name, one in states.items()}
     there = {name: _tracked(one) for name, one in now.states.items()}
-    return wanted, (faulty, it.event.came, [one for _, one in fates], there)
+    return wanted, (faulty, explanation.event.came, [one for _, one in fates], there)
 
 
-def _fate(setup: Setup, it: Came) -> Tuple[object, ...]:
+def _fate(setup: Setup, came: Came) -> Tuple[object, ...]:
     """What must be said of a record: when its state was last used and, where it is merged, which ends are stale and which are taken."""
-    return (it.state.last, *((it.merged.stale, it.merged.taken, setup.kernel.has(MERGE)) if it.merged else ()))
+    return (came.state.last, *((came.merged.stale, came.merged.taken, setup.kernel.has(MERGE)) if came.merged else ()))
 
 
 def _said(fate: TakenRecord) -> Tuple[object, ...]:
@@ -144,7 +146,7 @@ def _said(fate: TakenRecord) -> Tuple[object, ...]:
 # ---- a purge
 
 
-def _purge(setup: Setup, it: Explanation, was: Node, now: Node) -> Both:
+def _purge(setup: Setup, explanation: Explanation, was: Node, now: Node) -> Both:
     """When each state expires; the states that are due are deleted."""
     expiries, many = [], len(was.states)
     for name, state in sorted(was.states.items()):
@@ -153,4 +155,4 @@ def _purge(setup: Setup, it: Explanation, was: Node, now: Node) -> Both:
         expiries.append(Expiry(name, state.timeout_class, seconds, scaled, expires_at(setup, was, state)))
     wanted = Purge(was.clock, many, setup.adaptive, expiries)
     due = [one.name for one in wanted.due]
-    return (wanted, due, f"purged {len(due)}"), (it.reason, sorted(was.states.keys() - now.states.keys()), it.event.came)
+    return (wanted, due, f"purged {len(due)}"), (explanation.reason, sorted(was.states.keys() - now.states.keys()), explanation.event.came)

@@ -169,9 +169,9 @@ class Replay:
         """Sees how packets ended that were held."""
         now = look(self.show())
         freed, lost = (sum(now.counts[it][which] - self.look.counts[it][which] for it in NODES) for which in (0, 1))
-        for it in [it for it in self.waiting if it not in now.held]:
-            is_lost = kind == "restart" or not freed or lost and not self.is_acknowledged(it[1])
-            self.run.held[self.waiting.pop(it)] = "lost" if is_lost else "freed"
+        for packet in [it for it in self.waiting if it not in now.held]:
+            is_lost = kind == "restart" or not freed or lost and not self.is_acknowledged(packet[1])
+            self.run.held[self.waiting.pop(packet)] = "lost" if is_lost else "freed"
         self.look = now
 
     def is_acknowledged(self, name: str) -> bool:
@@ -187,8 +187,8 @@ class Replay:
             if not events:
                 self.run.pair = [*whole(shown)]
                 return
-            for it in events:
-                if self.step(0, it.split())[0] == "refused":
+            for event in events:
+                if self.step(0, event.split())[0] == "refused":
                     return
 
 
@@ -206,17 +206,17 @@ def look(shown: Sequence[str]) -> Look:
 def whole(shown: Sequence[Sequence[str]]) -> Iterator[str]:
     """A pair at rest without names, times, and what counts something; with whether a flow that both nodes have has one name."""
     flows: Dict[str, List[str]] = {}
-    for it in shown:
-        if it[0] == "state":
+    for words in shown:
+        if words[0] == "state":
             # (the protocol and the keys; then without the last use, the update count and the last change by the peer)
-            flows.setdefault(" ".join(it[3:9]), []).append(it[2])
-            yield " ".join([it[0], it[1], *it[3:20], *it[21:23]])
-        elif it[0] == "held":
-            keys = next(" ".join(one[3:9]) for one in shown if one[0] == "state" and one[1:3] == it[1:3])
-            yield f"held {it[1]} {keys}"
-        elif it[0] == "node":
+            flows.setdefault(" ".join(words[3:9]), []).append(words[2])
+            yield " ".join([words[0], words[1], *words[3:20], *words[21:23]])
+        elif words[0] == "held":
+            keys = next(" ".join(one[3:9]) for one in shown if one[0] == "state" and one[1:3] == words[1:3])
+            yield f"held {words[1]} {keys}"
+        elif words[0] == "node":
             # (whether it serves a bulk update, or waits for one; that a push was asked for means nothing once all is sent)
-            yield " ".join([*it[:2], *it[12:14], "waits" * (it[15] != "-")])
+            yield " ".join([*words[:2], *words[12:14], "waits" * (words[15] != "-")])
     yield from sorted(f"one name {keys}" for keys, names in flows.items() if len(names) == 2 and names[0] == names[1])
 
 
@@ -239,8 +239,8 @@ def differences(was: Run, now: Run, events: Sequence[str]) -> Iterator[str]:
     if was.pair is None or now.pair is None:
         yield "the end cannot be compared"
     elif sorted(was.pair) != sorted(now.pair):
-        yield from (f"only {which}: {it}" for which, one, two in (("in the run", was.pair, now.pair), ("there", now.pair, was.pair))
-                    for it in one if it not in two)
+        yield from (f"only {which}: {line}" for which, one, two in (("in the run", was.pair, now.pair), ("there", now.pair, was.pair))
+                    for line in one if line not in two)
 
 
 def false_claims(program: str, setup: Setup, events: Sequence[str], names: Sequence[str]) -> Dict[str, List[str]]:

@@ -134,9 +134,9 @@ class Lane:
 def stop(checks: List[subprocess.Popen[bytes]]) -> None:
     """Ends checks and all that they started."""
     for sign in (signal.SIGTERM, signal.SIGKILL):
-        for it in checks:
+        for check in checks:
             with suppress(OSError):
-                os.killpg(it.pid, sign)
+                os.killpg(check.pid, sign)
         with suppress(subprocess.TimeoutExpired):
             for it in checks:
                 it.wait(timeout=5)

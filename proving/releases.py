@@ -217,8 +217,8 @@ def fault(program: Optional[str] = None) -> str:
     except NoRelease as why:
         return f"{why}; renew it: {RENEWED_BY}"
     if program is not None:
-        with open(program, "rb") as it:
-            if it.read() != content:
+        with open(program, "rb") as file:
+            if file.read() != content:
                 return f"the program of the release is not the one that was built; renew it: {RENEWED_BY}"
     return ""
 
