@@ -36,11 +36,11 @@ class Bounded(unittest.TextTestResult):
 
 def names_of(tests: Tests) -> Iterator[str]:
     """The names of tests, one by one."""
-    for it in tests:
-        if isinstance(it, unittest.TestSuite):
-            yield from names_of(it)
+    for test in tests:
+        if isinstance(test, unittest.TestSuite):
+            yield from names_of(test)
         else:
-            yield it.id()
+            yield test.id()
 
 
 def meant(reported: str, names: Sequence[str]) -> Set[str]:
@@ -76,8 +76,8 @@ def run(words: Sequence[str]) -> int:
     failed: Set[str] = set().union(*(meant(it.id(), names) for it, _ in (*result.failures, *result.errors)))
     skipped: Set[str] = set()
     whys: "Counter[str]" = Counter()
-    for it, why in result.skipped:
-        its = meant(it.id(), names) - failed - skipped
+    for test, why in result.skipped:
+        its = meant(test.id(), names) - failed - skipped
         skipped |= its
         whys[why] += len(its)
     for why, count in whys.items():
@@ -88,9 +88,9 @@ def run(words: Sequence[str]) -> int:
 
 def main(words: List[str]) -> int:
     os.chdir(TOP)
-    for it in words:
-        if module_fault(it):
-            print(f"test: {module_fault(it)}", file=sys.stderr)
+    for word in words:
+        if module_fault(word):
+            print(f"test: {module_fault(word)}", file=sys.stderr)
             return 2
     program()
     return run(words)

@@ -226,10 +226,10 @@ def stops(browser: Browser) -> List[str]:
     browser.evaluate("document.activeElement.blur() || getSelection().collapse(document.body, 0)")
     while len(found) < 1000:
         browser.keys("Tab")
-        it = browser.evaluate("(it => it === document.body ? '' : it.id || it.outerHTML.slice(0, 100))(document.activeElement)")
-        if not it or it in found:
+        focused = browser.evaluate("(it => it === document.body ? '' : it.id || it.outerHTML.slice(0, 100))(document.activeElement)")
+        if not focused or focused in found:
             return found
-        found.append(it)
+        found.append(focused)
     return found
 
 

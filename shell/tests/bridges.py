@@ -89,15 +89,15 @@ class Bridged(unittest.TestCase):
         return door
 
     def watcher(self, door: Door, after: int = 0) -> Watcher:
-        it = Watcher(door, after)
-        self.addCleanup(it.close)
-        return it
+        watcher = Watcher(door, after)
+        self.addCleanup(watcher.close)
+        return watcher
 
     def session(self, port: int) -> Client:
         """A session of a server that a page uses too."""
-        it = Client(port)
-        self.addCleanup(it.close)
-        return it
+        client = Client(port)
+        self.addCleanup(client.close)
+        return client
 
     def order(self, watcher: Watcher, wanted: List[str]) -> List[str]:
         """The branches as the updates leave them, which are read until they are the wanted ones, or for some seconds."""

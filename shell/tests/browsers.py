@@ -216,9 +216,9 @@ class Browser:
     def keys(self, *keys: str) -> None:
         """Presses keys one after the other, wherever the focus is: each a `key` of KeyboardEvent, with `Shift+` before it or not."""
         actions: List[Dict[str, str]] = []
-        for it in keys:
-            shift, _, key = it.rpartition("Shift+") if it.startswith("Shift+") else ("", "", it)
-            held = [KEYS["Shift"]] if key != it else []
+        for named in keys:
+            shift, _, key = named.rpartition("Shift+") if named.startswith("Shift+") else ("", "", named)
+            held = [KEYS["Shift"]] if key != named else []
             pressed = [*held, KEYS.get(key, key)]
             actions += [{"type": "keyDown", "value": one} for one in pressed]
             actions += [{"type": "keyUp", "value": one} for one in reversed(pressed)]

@@ -126,15 +126,15 @@ def _times(branch: Branch, node: str) -> Iterator[int]:
         yield time
 
 
-def _named(it: Record) -> Record:
+def _named(record: Record) -> Record:
     """A record with the names that machines give."""
-    if isinstance(it.state, Carried):
-        return replace(it, state=replace(it.state, name=_name(it.state.name)))
-    return replace(it, about=tuple(str(_name(Name.read(word))) for word in it.about)) if it.name != ALL_STATES else it
+    if isinstance(record.state, Carried):
+        return replace(record, state=replace(record.state, name=_name(record.state.name)))
+    return replace(record, about=tuple(str(_name(Name.read(word))) for word in record.about)) if record.name != ALL_STATES else record
 
 
-def _name(it: Name) -> Name:
-    return Name(CREATORS[it.creator], FIRST + it.id)
+def _name(name: Name) -> Name:
+    return Name(CREATORS[name.creator], FIRST + name.id)
 
 
 def _log(lab: Laboratory, branch: Branch, times: List[int]) -> bytes:

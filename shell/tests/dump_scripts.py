@@ -28,10 +28,10 @@ def printed_in(dump: str) -> List[Printed]:
 def printed_of(node: Node) -> List[Printed]:
     """The states of a node in the same form."""
     states = []
-    for it in node.states.values():
-        ends = near_and_far(it)
+    for state in node.states.values():
+        ends = near_and_far(state)
         numbers = [(str(end.lo), str((end.hi - end.lo) % 2**32), "" if end.scale is None else str(end.scale)) for end in ends]
-        states.append((flow(it), levels(it), numbers[0] + numbers[1] if it.protocol == "tcp" else ()))
+        states.append((flow(state), levels(state), numbers[0] + numbers[1] if state.protocol == "tcp" else ()))
     return sorted(states)
 
 
@@ -90,7 +90,7 @@ def random_dumps(seed: int, most: int) -> Dict[str, str]:
         is_tcp = one.flow.startswith("tcp ")
         pairs = [(one, one), (one, one), (one, None), (None, one), (one, named), *([(one, moved), (moved, one), (one, closed)] * is_tcp)]
         its = chance.choice(pairs)
-        for node, it in zip(texts, its):
-            if it:
-                texts[node].append(it.text(chance))
+        for node, state in zip(texts, its):
+            if state:
+                texts[node].append(state.text(chance))
     return {node: "".join(its) for node, its in texts.items()}

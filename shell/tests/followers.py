@@ -37,20 +37,20 @@ class Followers(unittest.TestCase):
         return self.server.port
 
     def scripted(self, *texts: str, ends: bool = False) -> "Scripted":
-        it = Scripted(texts, ends)
-        self.ends.callback(it.end)
-        return it
+        scripted = Scripted(texts, ends)
+        self.ends.callback(scripted.end)
+        return scripted
 
     def client(self, port: int) -> Client:
-        it = Client(port)
-        self.ends.callback(it.close)
-        return it
+        client = Client(port)
+        self.ends.callback(client.close)
+        return client
 
     def laboratory(self, port: int, setup: Optional[Setup] = None) -> Laboratory:
         """One that has not joined its server yet."""
-        it = Laboratory(program(), port, setup)
-        self.ends.callback(it.close)
-        return it
+        lab = Laboratory(program(), port, setup)
+        self.ends.callback(lab.close)
+        return lab
 
     def shells(self, port: int, number: int, is_typed: bool = True) -> List[Shell]:
         """Shells that follow a server, which all its sessions have to be for."""

@@ -130,8 +130,8 @@ def _beacon(moment: int) -> bytes:
 _Flow = Tuple[str, object]
 
 
-def _flow(it: Flow) -> _Flow:
-    return it.protocol, it.wire
+def _flow(flow: Flow) -> _Flow:
+    return flow.protocol, flow.wire
 
 
 def frames_of(lab: Laboratory, branch: str = "main") -> List[Tuple[str, Tuple[Record, ...]]]:
@@ -148,9 +148,9 @@ class Names:
 
     def learn(self, ours: Sequence[Record], theirs: Sequence[Record]) -> None:
         named = {(it.kind, _flow(it.state)): it.name for it in theirs if isinstance(it.state, Carried)}
-        for it in ours:
-            if isinstance(it.state, Carried) and (it.kind, _flow(it.state)) in named:
-                self.other.setdefault(it.name, named[it.kind, _flow(it.state)])
+        for record in ours:
+            if isinstance(record.state, Carried) and (record.kind, _flow(record.state)) in named:
+                self.other.setdefault(record.name, named[record.kind, _flow(record.state)])
 
     def in_words(self, record: Record, is_ours: bool) -> str:
         """A record with all that is compared: its kind, the other run's name of its state, and its flow, ends and class."""

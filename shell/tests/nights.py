@@ -28,7 +28,8 @@ def pcap(packets: Sequence[Captured], link: int) -> bytes:
     """A file of a little-endian machine, with microseconds as tcpdump writes them, or with nanoseconds where these count."""
     head = struct.pack("<IHHiIII", 0xA1B23C4D, 2, 4, 0, 0, 262144, link)
     return head + b"".join(
-        struct.pack("<IIII", it.time // 10**9, it.time % 10**9, len(it.data), len(it.data)) + it.data for it in packets
+        struct.pack("<IIII", packet.time // 10**9, packet.time % 10**9, len(packet.data), len(packet.data)) + packet.data
+        for packet in packets
     )
 
 
@@ -88,28 +89,28 @@ def data_captures(lab: Laboratory, branch: Branch) -> Dict[str, bytes]:
     """What tcpdump would have captured at each node's interface: all that came in, and what left, with the addresses of the wire. A packet
     that was held left when it was let go."""
     clocks, found = Clocks(branch.events[: branch.cursor]), {"a": [], "b": []}  # type: ignore[var-annotated]
-    for it in packets_of(lab, branch):
-        node, place, source = it.packet.node, it.place, ""
-        if it.packet.direction == "out":
-            if it.outcome[0] == "held":
-                place = _released(lab, branch, it)
-            elif it.outcome[0] != "pass":
+    for come in packets_of(lab, branch):
+        node, place, source = come.packet.node, come.place, ""
+        if come.packet.direction == "out":
+            if come.outcome[0] == "held":
+                place = _released(lab, branch, come)
+            elif come.outcome[0] != "pass":
                 continue
             if not place:
                 continue
-            states = {str(name): one for name, one in lab.past(branch.name, it.place).nodes[node].states.items()}
-            source = states[it.outcome[1]].wire.near if it.outcome[1] in states else ""
-        found[node].append(Captured(clocks.time(node, place), on_ethernet(ip(it.packet, source))))
+            states = {str(name): one for name, one in lab.past(branch.name, come.place).nodes[node].states.items()}
+            source = states[come.outcome[1]].wire.near if come.outcome[1] in states else ""
+        found[node].append(Captured(clocks.time(node, place), on_ethernet(ip(come.packet, source))))
     return {node: pcap(sorted(its), 1) for node, its in found.items()}
 
 
-def _released(lab: Laboratory, branch: Branch, it: Happened) -> int:
+def _released(lab: Laboratory, branch: Branch, come: Happened) -> int:
     """The place of the event that let a held packet go; 0 if none did."""
-    node, before = it.packet.node, lab.past(branch.name, it.place)
-    for place in range(it.place + 1, branch.cursor + 1):
+    node, before = come.packet.node, lab.past(branch.name, come.place)
+    for place in range(come.place + 1, branch.cursor + 1):
         now = lab.past(branch.name, place)
         names = [str(one.name) for one in now.nodes[node].held]
-        if it.outcome[1] not in names:
+        if come.outcome[1] not in names:
             is_let_go = now.nodes[node].counters["freed"] > before.nodes[node].counters["freed"]
             return place if is_let_go else 0
         before = now
@@ -119,11 +120,11 @@ def _released(lab: Laboratory, branch: Branch, it: Happened) -> int:
 def log_captures(lab: Laboratory, branch: Branch) -> Dict[str, bytes]:
     """What each node's pflog0 would have had, if its rules logged what they block."""
     clocks, found = Clocks(branch.events[: branch.cursor]), {"a": [], "b": []}  # type: ignore[var-annotated]
-    for it in packets_of(lab, branch):
-        if it.outcome[0] == "drop":
-            node = it.packet.node
-            data = logged(it.packet, REASONS[it.outcome[1]])
-            found[node].append(Captured(clocks.time(node, it.place), data))
+    for come in packets_of(lab, branch):
+        if come.outcome[0] == "drop":
+            node = come.packet.node
+            data = logged(come.packet, REASONS[come.outcome[1]])
+            found[node].append(Captured(clocks.time(node, come.place), data))
     return {node: pcap(its, 117) for node, its in found.items()}
 
 

@@ -68,9 +68,9 @@ class Served(Followers):
         return self.proved.port
 
     def caller(self, port: int) -> Caller:
-        it = Caller(port)
-        self.ends.callback(it.close)
-        return it
+        caller = Caller(port)
+        self.ends.callback(caller.close)
+        return caller
 
     def callers(self, port: int, number: int) -> List[Caller]:
         return [self.caller(port) for _ in range(number)]

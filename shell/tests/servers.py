@@ -168,9 +168,9 @@ class Visit:
 @contextlib.contextmanager
 def standin_server(sessions: int, setup: Sequence[str] = RULES, knows: bool = True) -> Iterator[Server]:
     """A stand-in in this process."""
-    it = Server(program(), setup, sessions, knows=knows)
-    threading.Thread(target=it.serve, daemon=True).start()
-    yield it
+    server = Server(program(), setup, sessions, knows=knows)
+    threading.Thread(target=server.serve, daemon=True).start()
+    yield server
 
 
 class Proved(NamedTuple):
@@ -204,10 +204,10 @@ def main(path: str, words: Sequence[str], given: IO[str]) -> None:
         os.execv(path, [path, *words])
     port, sessions = (int(words[words.index(it) + 1]) for it in ("--port", "--sessions"))
     lines = [it.rstrip("\n") for it in given]
-    it = Server(path, lines[: [*map(opens, lines)].index(True) + 1], sessions, port)
+    server = Server(path, lines[: [*map(opens, lines)].index(True) + 1], sessions, port)
     print(f"listening 127.0.0.1:{port}", flush=True)
-    it.serve()
-    print(f"closed {len(it.entries)}", flush=True)
+    server.serve()
+    print(f"closed {len(server.entries)}", flush=True)
 
 
 if __name__ == "__main__":

@@ -51,20 +51,20 @@ class Screen:
             at = found.end() if found else at + 1
         return ""
 
-    def _character(self, it: str) -> None:
-        if it == "\n":
+    def _character(self, character: str) -> None:
+        if character == "\n":
             self._down(1)
-        elif it == "\r":
+        elif character == "\r":
             self.column = 0
-        elif it == "\b":
+        elif character == "\b":
             self.column = max(0, self.column - 1)
-        elif it >= " ":
+        elif character >= " ":
             if self.column == self.columns:
                 self.column = 0
                 self._down(1)
             row = self.rows[self.row]
             row.extend(" " * (self.column + 1 - len(row)))
-            row[self.column] = it
+            row[self.column] = character
             self.column += 1
 
     def _down(self, rows: int) -> None:

@@ -20,11 +20,11 @@ class Steps(Bridged):
         watcher, begun = self.watcher(door), time.monotonic()
         answer = self.step(door, PACKET, "Ann")
         self.assertEqual(answer, {"reply": ["step pass 1.1 dropped 0"], "why": [], "version": 1, "entry": 1})
-        it = watcher.update()
+        update = watcher.update()
         self.assertLess(time.monotonic() - begun, PROMPT)
-        self.assertEqual((it["version"], it["who"], it["line"], it["people"]), (1, "Ann", PACKET, 1))
-        self.assertEqual((it["reply"], it["order"]), (["step pass 1.1 dropped 0"], ["main"]))
-        [branch] = it["branches"]
+        self.assertEqual((update["version"], update["who"], update["line"], update["people"]), (1, "Ann", PACKET, 1))
+        self.assertEqual((update["reply"], update["order"]), (["step pass 1.1 dropped 0"], ["main"]))
+        [branch] = update["branches"]
         self.assertEqual((branch["name"], branch["keep"], branch["undone"]), ("main", 0, 0))
         self.assertEqual([(one["event"], one["who"]) for one in branch["moments"]], [(PACKET[len("step main ") :], "Ann")])
         self.assertNotIn("offers", branch)
@@ -178,8 +178,8 @@ class Watching(Bridged):
         self.assertEqual((len(page["branches"][0]["moments"]), page["live"]), (6, {"may": "watch", "watch": door.tokens.watch, "version": 5, "people": 0}))
         watcher = self.watcher(door, page["live"]["version"])
         self.step(door, "step main flush a")
-        it = watcher.update()
-        self.assertEqual((it["version"], it["branches"][0]["keep"]), (6, 6))
+        update = watcher.update()
+        self.assertEqual((update["version"], update["branches"][0]["keep"]), (6, 6))
 
     def test_who_connects_again_gets_what_was_missed(self) -> None:
         door = self.live()

@@ -24,10 +24,10 @@ class Doors(Bridged):
 
     def raw(self, request: str) -> bytes:
         """All that comes to bytes that are sent as they are, and after which nothing comes."""
-        with socket.create_connection(("127.0.0.1", self.door.port), 5) as it:
-            it.sendall(request.replace("\n", "\r\n").replace("HOST", self.door.hosts[0]).encode())
-            it.shutdown(socket.SHUT_WR)
-            return b"".join(iter(lambda: it.recv(65536), b""))
+        with socket.create_connection(("127.0.0.1", self.door.port), 5) as connection:
+            connection.sendall(request.replace("\n", "\r\n").replace("HOST", self.door.hosts[0]).encode())
+            connection.shutdown(socket.SHUT_WR)
+            return b"".join(iter(lambda: connection.recv(65536), b""))
 
     def is_untouched(self) -> None:
         self.assertEqual(self.door.bridge.news.version, 0)
@@ -98,10 +98,10 @@ class Doors(Bridged):
         begun = time.monotonic()
         said = self.raw(f"POST /{self.door.tokens.step}/do HTTP/1.1\nHost: HOST\nContent-Length: 10000000\n\n")
         self.assertIn(b" 413 ", said.partition(b"\n")[0])
-        with self.assertRaises(OSError), socket.create_connection(("127.0.0.1", self.door.port), 5) as it:
-            it.sendall("POST / HTTP/1.1\r\nHost: x\r\nContent-Length: 10000000\r\n\r\n".encode())
+        with self.assertRaises(OSError), socket.create_connection(("127.0.0.1", self.door.port), 5) as connection:
+            connection.sendall("POST / HTTP/1.1\r\nHost: x\r\nContent-Length: 10000000\r\n\r\n".encode())
             for _ in range(1000):
-                it.sendall(b"x" * 10_000)
+                connection.sendall(b"x" * 10_000)
         self.assertLess(time.monotonic() - begun, PROMPT)
 
     def test_a_body_has_one_length(self) -> None:
@@ -148,7 +148,7 @@ class Doors(Bridged):
     def test_each_answer_says_how_it_may_be_used(self) -> None:
         token = self.door.tokens.step
         answers = [self.asked(self.door, "GET", it) for it in (f"/{token}/", "/", f"/{token}/events?after=x")]
-        for it in (*answers, self.do(), self.asked(self.door, "PUT", "/")):
+        for answer in (*answers, self.do(), self.asked(self.door, "PUT", "/")):
             wanted = {
                 "Cache-Control": "no-store",
                 "Referrer-Policy": "no-referrer",
@@ -158,9 +158,9 @@ class Doors(Bridged):
                 "Cross-Origin-Opener-Policy": "same-origin",
                 "Connection": "close",
             }
-            self.assertEqual({name: it.headers.get(name) for name in wanted}, wanted, it)
-            self.assertIn("frame-ancestors 'none'", it.headers["Content-Security-Policy"])
-            self.assertFalse([name for name in it.headers if name.startswith("Access-Control")])
+            self.assertEqual({name: answer.headers.get(name) for name in wanted}, wanted, answer)
+            self.assertIn("frame-ancestors 'none'", answer.headers["Content-Security-Policy"])
+            self.assertFalse([name for name in answer.headers if name.startswith("Access-Control")])
         self.assertEqual([it.status for it in answers], [200, 404, 400])
 
     def test_the_page_of_one_who_watches_has_no_address_for_stepping(self) -> None:
@@ -192,9 +192,9 @@ class Crowds(Bridged):
     def test_a_request_that_comes_slowly_is_given_up(self) -> None:
         with mock.patch("shell.pages.serving.READ_SECONDS", 0.5):
             door, begun = self.live(), time.monotonic()
-            with self.assertRaises(OSError), socket.create_connection(("127.0.0.1", door.port), 5) as it:
+            with self.assertRaises(OSError), socket.create_connection(("127.0.0.1", door.port), 5) as connection:
                 for _ in range(50):
-                    it.sendall(b"x")
+                    connection.sendall(b"x")
                     time.sleep(0.1)
             self.assertLess(time.monotonic() - begun, PROMPT)
 
@@ -203,12 +203,12 @@ class Crowds(Bridged):
         with mock.patch("shell.pages.serving.WRITE_SECONDS", 0.5):
             door = self.live()
             with mock.patch.object(door.bridge, "page_for", lambda may: b"x" * size):
-                with socket.create_connection(("127.0.0.1", door.port), 5) as it:
-                    it.sendall(f"GET /{door.tokens.watch}/ HTTP/1.1\r\nHost: {door.hosts[0]}\r\n\r\n".encode())
+                with socket.create_connection(("127.0.0.1", door.port), 5) as connection:
+                    connection.sendall(f"GET /{door.tokens.watch}/ HTTP/1.1\r\nHost: {door.hosts[0]}\r\n\r\n".encode())
                     pieces = [b""]
                     while len(pieces) == 1 or pieces[-1]:
                         time.sleep(0.1 * (len(pieces) <= 10))
-                        pieces.append(it.recv(1 << 20))
+                        pieces.append(connection.recv(1 << 20))
         self.assertGreater(sum(map(len, pieces)), size)
 
     def test_no_more_than_a_limit_watch(self) -> None:

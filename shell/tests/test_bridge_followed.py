@@ -34,9 +34,9 @@ class Pages(Bridged):
         return self.served(joined(program(), port, None, io.StringIO()))
 
     def shared(self, door: Door) -> Shared:
-        it = door.bridge._branches
-        assert isinstance(it, FollowedBranches)
-        return it._shared
+        branches = door.bridge._branches
+        assert isinstance(branches, FollowedBranches)
+        return branches._shared
 
 
 class Followed(Pages):
@@ -49,10 +49,10 @@ class Followed(Pages):
         self.assertEqual(self.page(door)["setup"], RULES[:-1])
         watcher, begun = self.watcher(door), time.monotonic()
         shell.ask(PACKET)
-        it = watcher.update()
+        update = watcher.update()
         self.assertLess(time.monotonic() - begun, PROMPT)
-        self.assertEqual((it["who"], it["branches"][0]["moments"][0]["outcome"]), ("another session", "pass 1.1"))
-        self.assertIn("rule 0 of a (pass any; pf.conf:11 @8)", it["branches"][0]["moments"][0]["why"][0])
+        self.assertEqual((update["who"], update["branches"][0]["moments"][0]["outcome"]), ("another session", "pass 1.1"))
+        self.assertIn("rule 0 of a (pass any; pf.conf:11 @8)", update["branches"][0]["moments"][0]["why"][0])
         self.assertEqual(self.step(door, "step main flush a")["reply"], ["step sent 1 148 dropped 0"])
         self.assertEqual(watcher.update()["who"], "Ann")
         for line in ("fork main 1 other", "drop main"):

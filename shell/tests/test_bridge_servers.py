@@ -45,10 +45,10 @@ class Joined(Bridged):
             door = self.joining(port)
             watcher, begun = self.watcher(door), time.monotonic()
             shell.ask(PACKET)
-            it = watcher.update()
+            update = watcher.update()
             self.assertLess(time.monotonic() - begun, PROMPT)
-            self.assertEqual((it["version"], it["who"], it["line"], it["reply"]), (1, "another session", "", []))
-            self.assertEqual(it["branches"][0]["moments"][0]["outcome"], "pass 1.1")
+            self.assertEqual((update["version"], update["who"], update["line"], update["reply"]), (1, "another session", "", []))
+            self.assertEqual(update["branches"][0]["moments"][0]["outcome"], "pass 1.1")
             self.assertEqual(self.step(door, "step main flush a")["reply"], ["step sent 1 148 dropped 0"])
             self.assertEqual(shell.ask("names"), ["names main"])
             self.assertEqual(watcher.update()["who"], "Ann")
@@ -150,8 +150,8 @@ class Ends(Bridged):
         assert isinstance(session, ProgramRun)
         session.process.kill()
         self.step(door, "step main flush a")
-        it: Data = watcher.update()["branches"][0]
-        self.assertEqual((it["keep"], [one["outcome"] for one in it["moments"]]), (0, ["pass 1.1", "sent 1 148"]))
+        update: Data = watcher.update()["branches"][0]
+        self.assertEqual((update["keep"], [one["outcome"] for one in update["moments"]]), (0, ["pass 1.1", "sent 1 148"]))
 
     def test_a_program_that_went_away_ends_the_page(self) -> None:
         with tempfile.TemporaryDirectory() as folder:
@@ -182,10 +182,10 @@ except KeyboardInterrupt:
 class Processes(unittest.TestCase):
     def serving(self, port: int = 0, before: str = "") -> "subprocess.Popen[str]":
         words = [sys.executable, "-c", before + PROGRAM.format(top=TOP, program=program(), port=port)]
-        it = subprocess.Popen(words, stdout=subprocess.PIPE, stderr=subprocess.PIPE, text=True, preexec_fn=take_signals)
-        self.addCleanup(it.communicate, timeout=SECONDS)
-        self.addCleanup(it.kill)
-        return it
+        process = subprocess.Popen(words, stdout=subprocess.PIPE, stderr=subprocess.PIPE, text=True, preexec_fn=take_signals)
+        self.addCleanup(process.communicate, timeout=SECONDS)
+        self.addCleanup(process.kill)
+        return process
 
     def test_an_interrupt_ends_the_page_and_its_server(self) -> None:
         for end in (signal.SIGINT, signal.SIGTERM, signal.SIGHUP):
@@ -214,10 +214,10 @@ class Processes(unittest.TestCase):
                 self.assertEqual(json.load(answer)["reply"], ["forked"])
 
     def test_a_port_in_use_is_named(self) -> None:
-        with socket.socket() as it:
-            it.bind(("127.0.0.1", 0))
-            it.listen()
-            port = it.getsockname()[1]
+        with socket.socket() as listening:
+            listening.bind(("127.0.0.1", 0))
+            listening.listen()
+            port = listening.getsockname()[1]
             its = self.serving(port)
             _, said = its.communicate(timeout=5)
         self.assertIn(f"Address already in use: '127.0.0.1:{port}'", said.splitlines()[-1])

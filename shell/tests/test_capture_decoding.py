@@ -40,42 +40,43 @@ class Decoding(unittest.TestCase):
             *(0x5F00A1B200000003, 0x8A1B2C3D, ends, inner, 6, 1, peer(4, 1000, 66535, 65535, 6, 99), peer(2, 7, 8, 512)),
             *(86390, 2, 4, 90, 0x10, "em0"),
         )
-        (it,) = self.records(group(made.INS, given))
-        self.assertEqual((it.kind.name, it.name), ("insert", "5f00a1b200000003/8a1b2c3d"))
-        self.assertEqual(it.source, Peer(1000, 66535, 99, 65535, 4, 6))
-        self.assertEqual(it.destination, Peer(7, 8, 0, 512, 2, None))
-        self.assertEqual((it.remaining, it.timeout, it.rule, it.age, it.interface), (86390, 2, 4, 90, "em0"))
-        self.assertTrue(it.asks_for_acknowledgement and it.is_whole)
-        self.assertEqual(it.flow[:2], ("tcp", "in"))
-        self.assertEqual(it.flow.wire, Key("198.51.100.7:50000", "203.0.113.1:80"))
-        self.assertEqual(it.flow.stack, Key("198.51.100.7:50000", "10.0.0.80:8080"))
+        (record,) = self.records(group(made.INS, given))
+        self.assertEqual((record.kind.name, record.name), ("insert", "5f00a1b200000003/8a1b2c3d"))
+        self.assertEqual(record.source, Peer(1000, 66535, 99, 65535, 4, 6))
+        self.assertEqual(record.destination, Peer(7, 8, 0, 512, 2, None))
+        self.assertEqual((record.remaining, record.timeout, record.rule, record.age, record.interface), (86390, 2, 4, 90, "em0"))
+        self.assertTrue(record.asks_for_acknowledgement and record.is_whole)
+        self.assertEqual(record.flow[:2], ("tcp", "in"))
+        self.assertEqual(record.flow.wire, Key("198.51.100.7:50000", "203.0.113.1:80"))
+        self.assertEqual(record.flow.stack, Key("198.51.100.7:50000", "10.0.0.80:8080"))
 
     def test_ipv6_and_other_protocols(self) -> None:
         ends = (("2001:db8::9", 0), ("fe80::1", 0))
-        (it,) = self.records(group(made.UPD, state(1, wire=ends, protocol=58, direction=2)))
+        (record,) = self.records(group(made.UPD, state(1, wire=ends, protocol=58, direction=2)))
         far, near = "[2001:0db8:0000:0000:0000:0000:0000:0009]:0", "[fe80:0000:0000:0000:0000:0000:0000:0001]:0"
-        self.assertEqual(it.flow, ("58", "out", Key(far, near), Key(far, near)))
-        self.assertEqual((it.rule, it.asks_for_acknowledgement), (None, False))
-        (it,) = self.records(group(made.DEL, state(1, protocol=1)))
-        self.assertEqual((it.kind.name, it.flow.protocol), ("delete", "icmp"))
+        self.assertEqual(record.flow, ("58", "out", Key(far, near), Key(far, near)))
+        self.assertEqual((record.rule, record.asks_for_acknowledgement), (None, False))
+        (record,) = self.records(group(made.DEL, state(1, protocol=1)))
+        self.assertEqual((record.kind.name, record.flow.protocol), ("delete", "icmp"))
 
     def test_short_updates(self) -> None:
-        (it,) = self.records(group(made.UPD_C, made.short(2, peer(9, 5, 6, 7, 14), peer(10), 0xB, 44, 5)))
-        self.assertEqual((it.kind.name, it.name, it.remaining, it.timeout), ("short update", "0000000000000002/0000000b", 44, 5))
-        self.assertEqual((it.source, it.destination), (Peer(5, 6, 0, 7, 9, 14), Peer(0, 0, 0, 0, 10, None)))
-        self.assertFalse(it.is_whole)
+        (record,) = self.records(group(made.UPD_C, made.short(2, peer(9, 5, 6, 7, 14), peer(10), 0xB, 44, 5)))
+        self.assertEqual((record.kind.name, record.name), ("short update", "0000000000000002/0000000b"))
+        self.assertEqual((record.remaining, record.timeout), (44, 5))
+        self.assertEqual((record.source, record.destination), (Peer(5, 6, 0, 7, 9, 14), Peer(0, 0, 0, 0, 10, None)))
+        self.assertFalse(record.is_whole)
 
     def test_names_clears_and_statuses(self) -> None:
         groups = [group(it, made.name(3, 0xC)) for it in (made.INS_ACK, made.UPD_REQ, made.DEL_C)]
         names = [(it.kind.name, it.name) for it in self.records(*groups)]
         said = "0000000000000003/0000000c"
         self.assertEqual(names, [("insert acknowledgement", said), ("update request", said), ("short delete", said)])
-        (it,) = self.records(group(made.UPD_REQ, made.name(0, 0)))
-        self.assertTrue(it.asks_for_all)
-        (it,) = self.records(group(made.CLR, made.clear(0xD, "em1")))
-        self.assertEqual((it.kind.name, it.creator, it.interface), ("clear", 0xD, "em1"))
-        (it,) = self.records(group(made.BUS, made.status(2, 0xE, 77)))
-        self.assertEqual((it.kind.name, it.creator, it.status, it.remaining), ("bulk status", 0xE, 2, 77))
+        (record,) = self.records(group(made.UPD_REQ, made.name(0, 0)))
+        self.assertTrue(record.asks_for_all)
+        (record,) = self.records(group(made.CLR, made.clear(0xD, "em1")))
+        self.assertEqual((record.kind.name, record.creator, record.interface), ("clear", 0xD, "em1"))
+        (record,) = self.records(group(made.BUS, made.status(2, 0xE, 77)))
+        self.assertEqual((record.kind.name, record.creator, record.status, record.remaining), ("bulk status", 0xE, 2, 77))
 
     def test_order_and_groups(self) -> None:
         its = read(
@@ -115,9 +116,9 @@ class Faults(unittest.TestCase):
     def test_values_that_no_state_has(self) -> None:
         whole = state(1)
         for at, value in ((120, 13), (152, 13), (232, 10), (234, 0), (234, 3)):
-            it = bytearray(whole)
-            it[at] = value
-            self.assertTrue(read(group(made.UPD, bytes(it))).fault.startswith("update 1 of 1 is none of 242 bytes"), at)
+            changed = bytearray(whole)
+            changed[at] = value
+            self.assertTrue(read(group(made.UPD, bytes(changed))).fault.startswith("update 1 of 1 is none of 242 bytes"), at)
         self.assertEqual(read(group(made.UPD, whole)).fault, "")
         self.assertIn("short update 1 of 1 is none of 84 bytes", read(group(made.UPD_C, made.short(1, peer(13), peer()))).fault)
 

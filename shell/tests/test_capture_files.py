@@ -57,10 +57,10 @@ class Pcap(FileCase):
 
     def test_cut_anywhere(self) -> None:
         # The header has 24 bytes; the first packet begins at byte 24 and the second at byte 45, where the file ends at byte 71.
-        it = pcap(TWO, 1)
-        self.assertEqual(len(it), 71)
-        for end in range(len(it)):
-            found, fault = self.read(it[:end])
+        content = pcap(TWO, 1)
+        self.assertEqual(len(content), 71)
+        for end in range(len(content)):
+            found, fault = self.read(content[:end])
             if end < 4:
                 self.assertIn(fault, ("it.pcap: the file is empty", "it.pcap: the file is neither pcap nor pcapng"))
             elif end < 24:
@@ -101,25 +101,25 @@ class Pcap(FileCase):
 
 class Packed(FileCase):
     def test_gzip(self) -> None:
-        for it in (pcap(TWO), pcapng(TWO)):
-            self.assertEqual(self.whole(gzip.compress(it)), self.whole(it))
+        for content in (pcap(TWO), pcapng(TWO)):
+            self.assertEqual(self.whole(gzip.compress(content)), self.whole(content))
             # Parts that were packed one after another are one file.
-            self.assertEqual(self.whole(gzip.compress(it[:30]) + gzip.compress(it[30:])), self.whole(it))
+            self.assertEqual(self.whole(gzip.compress(content[:30]) + gzip.compress(content[30:])), self.whole(content))
 
     def test_cut(self) -> None:
-        it = gzip.compress(pcap([(NOON, bytes([at]) * 50) for at in range(200)]))
-        found, fault = self.read(it[:-9])
+        packed = gzip.compress(pcap([(NOON, bytes([at]) * 50) for at in range(200)]))
+        found, fault = self.read(packed[:-9])
         self.assertEqual(len(found), 200)
         self.assertEqual(fault, "it.pcap: the capture ends at byte 13224: its gzip data end too early")
-        for end in range(0, len(it) - 9, 7):
-            found, fault = self.read(it[:end])
+        for end in range(0, len(packed) - 9, 7):
+            found, fault = self.read(packed[:end])
             self.assertTrue(fault.startswith("it.pcap: "), fault)
             self.assertLess(len(found), 200)
 
     def test_damaged(self) -> None:
-        it = bytearray(gzip.compress(pcap([(NOON, struct.pack(">Q", at * 2654435761)) for at in range(2000)])))
-        it[len(it) // 2] ^= 0xFF
-        _, fault = self.read(bytes(it))
+        packed = bytearray(gzip.compress(pcap([(NOON, struct.pack(">Q", at * 2654435761)) for at in range(2000)])))
+        packed[len(packed) // 2] ^= 0xFF
+        _, fault = self.read(bytes(packed))
         self.assertIn("its gzip data are damaged", fault)
 
 
@@ -131,8 +131,9 @@ class Pcapng(FileCase):
                 option = struct.pack(f"{order}HH", 9, 1) + code + bytes(3) if code else b""
                 offset = struct.pack(f"{order}HHq", 14, 8, 3600)
                 for options, ahead in ((option, 0), (option + offset + bytes(4), 3600 * SECOND)):
-                    it = section(order) + interface(1, order, options) + enhanced(NOON // SECOND * units + units // 2, b"abc", 0, order)
-                    self.assertEqual(self.whole(it), [Packet(NOON + ahead + (units // 2) * SECOND // units, 1, 3, b"abc")])
+                    packet = enhanced(NOON // SECOND * units + units // 2, b"abc", 0, order)
+                    content = section(order) + interface(1, order, options) + packet
+                    self.assertEqual(self.whole(content), [Packet(NOON + ahead + (units // 2) * SECOND // units, 1, 3, b"abc")])
 
     def test_sections_interfaces_and_other_blocks(self) -> None:
         other = block(0x0BAD, bytes(1_000_000))
@@ -170,10 +171,10 @@ class Pcapng(FileCase):
         self.assertEqual(self.read(section()[:8] + b"what" + section()[12:])[1], "it.pcap: the section at byte 0 has no byte order")
 
     def test_cut_anywhere(self) -> None:
-        it = pcapng(TWO)
+        content = pcapng(TWO)
         ends = {len(section()): 0, len(section() + interface(1)): 0, len(pcapng(TWO[:1])): 1}
-        for end in range(4, len(it)):
-            found, fault = self.read(it[:end])
+        for end in range(4, len(content)):
+            found, fault = self.read(content[:end])
             self.assertEqual(not fault, end in ends, (end, fault))
             self.assertEqual(len(found), int(end >= len(pcapng(TWO[:1]))))
 

@@ -65,38 +65,38 @@ def files_of(node: str) -> List[bytes]:
 # ---- what is done to a file
 
 
-def changed(rng: Rng, it: bytes, _: bytes) -> bytes:
+def changed(rng: Rng, content: bytes, _: bytes) -> bytes:
     """Some bytes are others."""
-    out = bytearray(it)
+    out = bytearray(content)
     for _nth in range(rng.choice((1, 1, 2, 5, 30))):
         out[rng.randrange(len(out))] = rng.randrange(256)
     return bytes(out)
 
 
-def lied(rng: Rng, it: bytes, _: bytes) -> bytes:
+def lied(rng: Rng, content: bytes, _: bytes) -> bytes:
     """A number is another one."""
     form = rng.choice(("<I", ">I", "<H", ">H", "<Q"))
-    at = rng.randrange(len(it))
+    at = rng.randrange(len(content))
     number = struct.pack(form, rng.choice(NUMBERS) & (2 ** (8 * struct.calcsize(form)) - 1))
-    return it[:at] + number + it[at + len(number) :]
+    return content[:at] + number + content[at + len(number) :]
 
 
-def cut(rng: Rng, it: bytes, _: bytes) -> bytes:
-    return it[: rng.randrange(len(it))]
+def cut(rng: Rng, content: bytes, _: bytes) -> bytes:
+    return content[: rng.randrange(len(content))]
 
 
-def spliced(rng: Rng, it: bytes, other: bytes) -> bytes:
-    return it[: rng.randrange(len(it))] + other[rng.randrange(len(other)) :]
+def spliced(rng: Rng, content: bytes, other: bytes) -> bytes:
+    return content[: rng.randrange(len(content))] + other[rng.randrange(len(other)) :]
 
 
-def repeated(rng: Rng, it: bytes, _: bytes) -> bytes:
-    begin = rng.randrange(len(it))
-    return it[:begin] + it[begin : begin + rng.randrange(1, 400)] * rng.choice((2, 3, 50)) + it[begin:]
+def repeated(rng: Rng, content: bytes, _: bytes) -> bytes:
+    begin = rng.randrange(len(content))
+    return content[:begin] + content[begin : begin + rng.randrange(1, 400)] * rng.choice((2, 3, 50)) + content[begin:]
 
 
-def left_out(rng: Rng, it: bytes, _: bytes) -> bytes:
-    begin = rng.randrange(len(it))
-    return it[:begin] + it[begin + rng.randrange(1, 60) :]
+def left_out(rng: Rng, content: bytes, _: bytes) -> bytes:
+    begin = rng.randrange(len(content))
+    return content[:begin] + content[begin + rng.randrange(1, 60) :]
 
 
 WAYS: Tuple[Callable[[Rng, bytes, bytes], bytes], ...] = (changed, changed, lied, lied, cut, spliced, repeated, left_out)
@@ -147,9 +147,9 @@ class Hostile(CaptureCase):
     def test_cut_at_every_byte(self) -> None:
         a, b = both([GIVEN[1], GIVEN[3], GIVEN[7]])
         whole = self.file("B.pcap", b)
-        for it in (a, pcapng([(NOON, ethernet(ip(A, GIVEN[3][2])))]), gzip.compress(a, mtime=0)):
-            for end in range(len(it)):
-                self.judged(self.run_with(self.file("A.pcap", it[:end]), whole), end)
+        for content in (a, pcapng([(NOON, ethernet(ip(A, GIVEN[3][2])))]), gzip.compress(a, mtime=0)):
+            for end in range(len(content)):
+                self.judged(self.run_with(self.file("A.pcap", content[:end]), whole), end)
 
     def test_memory_is_bounded(self) -> None:
         # Thousands of times the same bytes at one moment, senders without number, states without number, and lies in lengths.

@@ -93,28 +93,28 @@ class Laid(CaptureCase):
             self.assertEqual(came, [WAY, WAY, None, None, WAY, WAY])
 
     def test_the_difference_of_the_clocks(self) -> None:
-        it = self.overlay(*both(FIVE, HOUR)).sides
-        self.assertEqual((it.clocks.first, it.clocks.last, it.latency), (HOUR, HOUR, WAY))
+        sides = self.overlay(*both(FIVE, HOUR)).sides
+        self.assertEqual((sides.clocks.first, sides.clocks.last, sides.latency), (HOUR, HOUR, WAY))
 
     def test_why_a_is_a(self) -> None:
-        it = self.overlay(*both(FIVE)).sides
-        self.assertEqual((it.nodes, it.is_guess), ({A: "a", B: "b"}, False))
+        sides = self.overlay(*both(FIVE)).sides
+        self.assertEqual((sides.nodes, sides.is_guess), ({A: "a", B: "b"}, False))
         why = FIRST.format("0.200")
-        self.assertEqual(it.said(), f"a is {A}, b is {B}: {why}")
+        self.assertEqual(sides.said(), f"a is {A}, b is {B}: {why}")
         whole = [(*it[:3], True) for it in FIVE]
-        it = self.overlay(*both(whole, HOUR)).sides
-        self.assertEqual((it.nodes, it.is_guess), ({A: "a", B: "b"}, False))
+        sides = self.overlay(*both(whole, HOUR)).sides
+        self.assertEqual((sides.nodes, sides.is_guess), ({A: "a", B: "b"}, False))
         why = FIRST.format("0.200")
-        self.assertEqual(it.said(), f"a is {A}, b is {B}: {why}")
-        it = self.overlay(*both(whole, HOUR)[::-1]).sides
-        self.assertEqual(it.nodes, {B: "a", A: "b"})
+        self.assertEqual(sides.said(), f"a is {A}, b is {B}: {why}")
+        sides = self.overlay(*both(whole, HOUR)[::-1]).sides
+        self.assertEqual(sides.nodes, {B: "a", A: "b"})
         # With nothing of both it is a guess, unless it is said.
         alone = [it for it in whole if it[1] == "a"]
-        it = self.overlay(*both(alone)).sides
-        self.assertEqual((it.nodes, it.is_guess), ({A: "a"}, True))
-        it = self.overlay(*both(whole), a=B).sides
-        self.assertEqual((it.nodes, it.is_guess), ({B: "a", A: "b"}, False))
-        self.assertEqual(it.said(), f"a is {B}, b is {A}: as --a says")
+        sides = self.overlay(*both(alone)).sides
+        self.assertEqual((sides.nodes, sides.is_guess), ({A: "a"}, True))
+        sides = self.overlay(*both(whole), a=B).sides
+        self.assertEqual((sides.nodes, sides.is_guess), ({B: "a", A: "b"}, False))
+        self.assertEqual(sides.said(), f"a is {B}, b is {A}: as --a says")
 
     def test_what_the_captures_did_not_get(self) -> None:
         """Nothing is lost, and tcpdump at a drops three messages of a, or each one drops a few of all: the time of the way decides."""
@@ -124,11 +124,11 @@ class Laid(CaptureCase):
         without = [it for nth, it in enumerate(a) if nth not in (10, 20, 30)]
         some = [[it for it in its if rng.random() > 0.03] for its in (a, b)]
         for first, second in ((without, b), some):
-            it = self.overlay(*(pcap(its, nanoseconds=True) for its in (first, second))).sides
-            self.assertEqual((it.nodes, it.is_guess), ({A: "a", B: "b"}, False))
-            self.assertEqual(it.why, FIRST.format("0.200"))
-        it = self.overlay(*(pcap(its, nanoseconds=True) for its in (b, without))).sides
-        self.assertEqual(it.nodes, {B: "a", A: "b"})
+            sides = self.overlay(*(pcap(its, nanoseconds=True) for its in (first, second))).sides
+            self.assertEqual((sides.nodes, sides.is_guess), ({A: "a", B: "b"}, False))
+            self.assertEqual(sides.why, FIRST.format("0.200"))
+        sides = self.overlay(*(pcap(its, nanoseconds=True) for its in (b, without))).sides
+        self.assertEqual(sides.nodes, {B: "a", A: "b"})
 
     def test_a_way_that_is_too_short_to_be_seen(self) -> None:
         """Where times are in microseconds, and as many of each node are late: what one capture alone has makes a guess."""
@@ -139,18 +139,18 @@ class Laid(CaptureCase):
             # (b has one of a alone, as if it were b's)
             at_a = [it for nth, it in enumerate(given) if not (lost_of_b and nth == 4)]
             files = [pcap([(at(it), packet(it)) for it in its if it[1] == node or it[3]]) for its, node in ((at_a, "a"), (given, "b"))]
-            it = self.overlay(*files).sides
-            self.assertEqual((it.nodes, it.is_guess), ({A: "a", B: "b"}, True), (lost_of_a, lost_of_b))
+            sides = self.overlay(*files).sides
+            self.assertEqual((sides.nodes, sides.is_guess), ({A: "a", B: "b"}, True), (lost_of_a, lost_of_b))
             alone = "1 message is" if lost_of_a == 1 else f"{lost_of_a} messages are"
             but = ", and 1 in the other alone" * lost_of_b
-            self.assertEqual(it.why, GUESS.format(f"{alone} in the capture of the sender alone{but}"))
+            self.assertEqual(sides.why, GUESS.format(f"{alone} in the capture of the sender alone{but}"))
 
     def test_messages_of_the_same_bytes_count_each(self) -> None:
         """Of fourteen messages of a, twelve are lost, ten of these of the same bytes as the last one, which comes."""
         given = [(1000.0 * nth, "a", deletion(min(nth, 3)), nth in (0, 13)) for nth in range(14)]
         for files, node in ((both(given), "a"), (both(given)[::-1], "b")):
-            it = self.overlay(*files).sides
-            self.assertEqual(it.said(), f"{node} is {A}: {GUESS.format('12 messages are in the capture of the sender alone')}")
+            sides = self.overlay(*files).sides
+            self.assertEqual(sides.said(), f"{node} is {A}: {GUESS.format('12 messages are in the capture of the sender alone')}")
 
     def test_of_many_messages_a_part_is_compared(self) -> None:
         given = [(1.0 * nth, "a", deletion(nth), nth % 2 == 0) for nth in range(20_001)]
@@ -162,8 +162,8 @@ class Laid(CaptureCase):
         given = [(10.0 * nth, "ab"[nth % 2], deletion(nth), True) for nth in range(40)]
         a, b = (sorted(it, key=lambda one: one[0]) for it in captures(given, 0))
         files = (pcap(its, ETHERNET, nanoseconds=True) for its in ([it for nth, it in enumerate(a) if nth not in (4, 8)], b))
-        it = self.overlay(*files).sides
-        self.assertEqual((it.nodes, it.is_guess, it.why), ({A: "a", B: "b"}, False, FIRST.format("0.200")))
+        sides = self.overlay(*files).sides
+        self.assertEqual((sides.nodes, sides.is_guess, sides.why), ({A: "a", B: "b"}, False, FIRST.format("0.200")))
 
     def test_an_address_that_sent_nothing(self) -> None:
         with self.assertRaises(NoSuchSender) as why:
@@ -181,9 +181,9 @@ class Laid(CaptureCase):
     def test_other_senders(self) -> None:
         a, b = both(FIVE)
         other = pcap(sent("192.0.2.3", (NOON, deletion(9)), (NOON + SECOND, deletion(10))), nanoseconds=True)[24:]
-        it = self.overlay(a + other, b)
-        self.assertEqual(it.others, {"192.0.2.3": 2})
-        self.assertEqual(len([*it.sent()]), 6)
+        overlay = self.overlay(a + other, b)
+        self.assertEqual(overlay.others, {"192.0.2.3": 2})
+        self.assertEqual(len([*overlay.sent()]), 6)
 
     def test_the_same_bytes_twice(self) -> None:
         # Of three requests of the same bytes the second is lost, or the first.
@@ -195,32 +195,32 @@ class Laid(CaptureCase):
     def test_repeated_on_the_way(self) -> None:
         a, b = both(FIVE)
         again = pcap(sent(A, (NOON + 300_000, deletion(1))), nanoseconds=True)[24:]
-        it = self.overlay(a, b[:24] + b[24:] + again)
-        self.assertEqual(len([*it.sent()]), 6)
-        self.assertEqual(it.repeated, {"a": 1, "b": 0})
+        overlay = self.overlay(a, b[:24] + b[24:] + again)
+        self.assertEqual(len([*overlay.sent()]), 6)
+        self.assertEqual(overlay.repeated, {"a": 1, "b": 0})
 
     def test_a_frame_that_is_cut_on_its_way(self) -> None:
         """Of the message of frame 3 the last four bytes do not come: it is one frame, and as good as lost."""
         a, b = both(FIVE)
         cut = pcap([(NOON + 20 * MILLISECOND + WAY, ethernet(ip(A, deletion(3)[:-4])))], nanoseconds=True)[24:]
-        it = self.overlay(a, b[:24] + b"".join(_in_order(b[24:] + cut)))
-        self.assertEqual(fates([*it.sent()]), fates(self.sent(a, b)))
-        self.assertEqual((it.cut, it.not_captured), ({"a": 1, "b": 0}, {"a": 0, "b": 0}))
+        overlay = self.overlay(a, b[:24] + b"".join(_in_order(b[24:] + cut)))
+        self.assertEqual(fates([*overlay.sent()]), fates(self.sent(a, b)))
+        self.assertEqual((overlay.cut, overlay.not_captured), ({"a": 1, "b": 0}, {"a": 0, "b": 0}))
         # (also where the capture of b does not cover the moment when it was sent)
-        it = self.overlay(a, b[:24] + b"".join(_in_order(b[24:] + cut)[2:]))
-        self.assertEqual(fates([*it.sent()])[2], (3, "a", False))
+        overlay = self.overlay(a, b[:24] + b"".join(_in_order(b[24:] + cut)[2:]))
+        self.assertEqual(fates([*overlay.sent()])[2], (3, "a", False))
 
     def test_captured_twice(self) -> None:
         # The capture of a is of two interfaces, and has everything twice.
         given = [*FIVE, *((100.0 + nth, "a", deletion(100 + nth), True) for nth in range(9))]
         a = pcap([(at(it) + extra, packet(it)) for it in given if it[1] == "a" or it[3] for extra in (0, 1000)])
-        it = self.overlay(a, both(given, HOUR)[1])
-        self.assertEqual(fates([*it.sent()]), fates(self.sent(*both(given))))
-        self.assertLess(abs(it.sides.clocks.first - HOUR), MILLISECOND)
+        overlay = self.overlay(a, both(given, HOUR)[1])
+        self.assertEqual(fates([*overlay.sent()]), fates(self.sent(*both(given))))
+        self.assertLess(abs(overlay.sides.clocks.first - HOUR), MILLISECOND)
         # (of what comes it may be the way that repeats it)
-        self.assertEqual((it.doubled, it.repeated), ({"a": 12, "b": 0}, {"a": 0, "b": 2}))
-        it = self.overlay(a, a=A)
-        self.assertEqual((len([*it.sent()]), it.doubled), (14, {"a": 12, "b": 2}))
+        self.assertEqual((overlay.doubled, overlay.repeated), ({"a": 12, "b": 0}, {"a": 0, "b": 2}))
+        overlay = self.overlay(a, a=A)
+        self.assertEqual((len([*overlay.sent()]), overlay.doubled), (14, {"a": 12, "b": 2}))
         # A node may send the same bytes twice itself.
         again = [(0.0, "a", deletion(1), True), (0.001, "a", deletion(1), True), *FIVE[1:]]
         self.assertEqual(len(self.sent(*both(again))), 7)
@@ -229,10 +229,10 @@ class Laid(CaptureCase):
         a, b = both([*FIVE, (60, "a", deletion(7), True), (70, "a", deletion(8), True)])
         # The second last packet of a is left out: the way says where the others are.
         cut = len(pcap([(NOON, ethernet(ip(A, deletion(1))))])) - 24
-        it = self.overlay(a[: -2 * cut] + a[-cut:], b)
-        found = [*it.sent()]
+        overlay = self.overlay(a[: -2 * cut] + a[-cut:], b)
+        found = [*overlay.sent()]
         self.assertEqual(fates(found)[6:], [(7, "a", True), (8, "a", True)])
-        self.assertEqual((it.not_captured, found[6].came), ({"a": 1, "b": 0}, found[6].time))
+        self.assertEqual((overlay.not_captured, found[6].came), ({"a": 1, "b": 0}, found[6].time))
 
 
 class Drift(CaptureCase):
@@ -248,14 +248,14 @@ class Drift(CaptureCase):
                 if at == which or nth % 100:
                     there = time + way * (at != which)
                     seen[at].append((there + HOUR + (there - NOON) // 20000 if at else there, packet))
-        it = self.overlay(*(pcap(its, nanoseconds=True) for its in seen))
-        found = [*it.sent()]
+        overlay = self.overlay(*(pcap(its, nanoseconds=True) for its in seen))
+        found = [*overlay.sent()]
         self.assertEqual([one.message.records[0].id for one in found], [*range(3600)])
         self.assertEqual({one.number - 1 for one in found if one.arrived is False}, {*range(100, 3600, 100)})
         for nth, one in enumerate(found):
             self.assertLess(abs(one.time - NOON - nth * SECOND), MILLISECOND)
-        self.assertLess(abs(it.sides.clocks.first - HOUR), 5 * MILLISECOND)
-        self.assertLess(abs(it.sides.clocks.last - HOUR - 180 * MILLISECOND), 5 * MILLISECOND)
+        self.assertLess(abs(overlay.sides.clocks.first - HOUR), 5 * MILLISECOND)
+        self.assertLess(abs(overlay.sides.clocks.last - HOUR - 180 * MILLISECOND), 5 * MILLISECOND)
 
     def test_a_drift_that_is_more_than_the_way(self) -> None:
         """A way of 20 us, a frame each second, and a clock of b that gains or loses 50 us in that time."""
@@ -273,44 +273,44 @@ class Drift(CaptureCase):
                 for node in "ab"
             ]
             for contents, nodes in ((files, {A: "a", B: "b"}), (files[::-1], {B: "a", A: "b"})):
-                it = self.overlay(*contents).sides
-                self.assertEqual((it.nodes, it.is_guess), (nodes, False), drift)
-                self.assertEqual(it.why, FIRST.format("0.020"))
+                sides = self.overlay(*contents).sides
+                self.assertEqual((sides.nodes, sides.is_guess), (nodes, False), drift)
+                self.assertEqual(sides.why, FIRST.format("0.020"))
 
     def test_a_clock_that_is_set(self) -> None:
         given = [(1000.0 * nth, "ab"[nth % 2], deletion(nth), True) for nth in range(400)]
         a, b = both(given[:200])
         for step in (-HOUR, HOUR, 30 * SECOND):
             later, set_back = both(given[200:], step)
-            it = self.overlay(a + later[24:], b + set_back[24:])
-            found = [*it.sent()]
+            overlay = self.overlay(a + later[24:], b + set_back[24:])
+            found = [*overlay.sent()]
             self.assertLess(sum(one.arrived is not True for one in found), 40)
-            clocks = it.sides.clocks
+            clocks = overlay.sides.clocks
             self.assertEqual((clocks.first, clocks.last), (0, step))
             moment = clocks.was_set
             assert moment
             self.assertLess(abs(moment - NOON - 200 * SECOND), 20 * SECOND)
-            self.assertEqual((it.sides.nodes, it.sides.is_guess), ({A: "a", B: "b"}, False))
-            self.assertEqual(it.covered[0], (NOON, NOON + 399 * SECOND + WAY))
-            self.assertEqual(it.covered[1], (NOON + WAY, NOON + 399 * SECOND))
+            self.assertEqual((overlay.sides.nodes, overlay.sides.is_guess), ({A: "a", B: "b"}, False))
+            self.assertEqual(overlay.covered[0], (NOON, NOON + 399 * SECOND + WAY))
+            self.assertEqual(overlay.covered[1], (NOON + WAY, NOON + 399 * SECOND))
 
 
 class OtherCaptures(CaptureCase):
     def test_one_alone(self) -> None:
         a, b = both(FIVE)
-        it = self.overlay(a)
-        self.assertTrue(it.sides.is_guess)
-        self.assertEqual(fates([*it.sent()]), [(1, "a", None), (2, "b", True), (3, "a", None), (5, "a", None), (6, "b", True)])
-        it = self.overlay(b, a=B)
-        self.assertFalse(it.sides.is_guess)
-        self.assertEqual(fates([*it.sent()]), [(1, "b", True), (2, "a", None), (4, "a", None), (5, "b", True), (6, "a", None)])
+        overlay = self.overlay(a)
+        self.assertTrue(overlay.sides.is_guess)
+        self.assertEqual(fates([*overlay.sent()]), [(1, "a", None), (2, "b", True), (3, "a", None), (5, "a", None), (6, "b", True)])
+        overlay = self.overlay(b, a=B)
+        self.assertFalse(overlay.sides.is_guess)
+        self.assertEqual(fates([*overlay.sent()]), [(1, "b", True), (2, "a", None), (4, "a", None), (5, "b", True), (6, "a", None)])
 
     def test_pfsync_itself(self) -> None:
         found = self.sent(own("a"), own("b"))
         self.assertEqual(fates(found), [(nth + 1, "ab"[nth % 2], None) for nth in range(6)])
-        it = self.overlay(own("a"))
-        self.assertEqual(fates([*it.sent()]), [(1, "a", None), (3, "a", None), (5, "a", None)])
-        self.assertEqual((it.hears("a"), it.hears("b")), (True, False))
+        overlay = self.overlay(own("a"))
+        self.assertEqual(fates([*overlay.sent()]), [(1, "a", None), (3, "a", None), (5, "a", None)])
+        self.assertEqual((overlay.hears("a"), overlay.hears("b")), (True, False))
 
     def test_pfsync_itself_and_the_link(self) -> None:
         link = both(FIVE, HOUR)
@@ -378,9 +378,9 @@ class OtherCaptures(CaptureCase):
         a, b = both(FIVE)
         writer = threading.Thread(target=lambda: Path(path).write_bytes(a), daemon=True)
         writer.start()
-        it = Overlay([path, self.file("B.pcap", b)])
+        overlay = Overlay([path, self.file("B.pcap", b)])
         writer.join(20)
-        self.assertEqual(len([*it.sent()]), 6)
+        self.assertEqual(len([*overlay.sent()]), 6)
 
 
 if __name__ == "__main__":

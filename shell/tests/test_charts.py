@@ -18,28 +18,28 @@ SYN = f"packet a out {FLOW} S 100 0 1000 0"
 
 class Models(unittest.TestCase):
     def test_loss_and_request(self) -> None:
-        it = drawn(LOST_INSERTION)
-        kinds = [(row.first, row.last, row.kind) for row in it.rows]
+        chart = drawn(LOST_INSERTION)
+        kinds = [(row.first, row.last, row.kind) for row in chart.rows]
         self.assertEqual(kinds[:4], [(1, 1, "packet"), (2, 3, "flush"), (4, 4, "packet"), (5, 6, "flush")])
         self.assertEqual(kinds[4:], [(7, 7, "packet"), (8, 9, "flush"), (10, 11, "flush")])
-        ways = [(way.source, way.to, it.sent(way), it.ended(way), way.is_lost) for way in it.flights.values()]
+        ways = [(way.source, way.to, chart.sent(way), chart.ended(way), way.is_lost) for way in chart.flights.values()]
         self.assertEqual(ways, [("a", "b", 1, 1, True), ("a", "b", 3, 3, False), ("b", "a", 5, 5, False), ("a", "b", 6, 6, False)])
         records = [("insert 1.1",), ("short update 1.1",), ("update request 1.1",), ("update 1.1",)]
-        self.assertEqual([record_words(way.frame.records) for way in it.flights.values()], records)
-        self.assertEqual([mark.words for mark in it.rows[3].marks], [("taken 1:", "asks for 1.1")])
-        blocked = it.rows[4].marks[0]
+        self.assertEqual([record_words(way.frame.records) for way in chart.flights.values()], records)
+        self.assertEqual([mark.words for mark in chart.rows[3].marks], [("taken 1:", "asks for 1.1")])
+        blocked = chart.rows[4].marks[0]
         self.assertEqual((blocked.node, blocked.kind, blocked.fate, blocked.tone), ("b", "in", "drop block", "bad"))
         self.assertEqual(blocked.words, ("udp", "192.0.2.9:53 ->", "10.0.0.1:1000"))
 
     def test_out_of_order(self) -> None:
-        it = drawn(CROSSING)
-        ways = [(way.ticket, it.sent(way), it.ended(way), way.origin) for way in it.flights.values()]
+        chart = drawn(CROSSING)
+        ways = [(way.ticket, chart.sent(way), chart.ended(way), way.origin) for way in chart.flights.values()]
         self.assertEqual(ways, [(1, 1, 6, None), (2, 3, 5, None), (3, 4, 7, 1), (4, 10, 12, None)])
-        cuts = [(it.places[cut.number], cut.came) for way in it.flights.values() for cut in way.cuts]
+        cuts = [(chart.places[cut.number], cut.came) for way in chart.flights.values() for cut in way.cuts]
         self.assertEqual(cuts, [(11, "cut 30")])
         # The copy brings a state that b has from the first: the record is bad.
-        self.assertEqual(it.rows[7].marks[0].words, ("taken 1:", "1 bad"))
-        self.assertEqual(it.rows[12].marks[0].fate, "broken: Length")
+        self.assertEqual(chart.rows[7].marks[0].words, ("taken 1:", "1 bad"))
+        self.assertEqual(chart.rows[12].marks[0].fate, "broken: Length")
 
     def test_ticks_of_both_nodes_are_one_row(self) -> None:
         row = drawn(CROSSING).rows[8]
@@ -51,33 +51,33 @@ class Models(unittest.TestCase):
         self.assertEqual((mark.node, mark.kind, mark.fate), ("b", "restart", "boot 3"))
 
     def test_what_was_undone_is_left_out(self) -> None:
-        it = drawn(f"{LOST_INSERTION}back main 9\n")
-        self.assertEqual((it.events, it.undone, it.heading), (2, 9, "main, 2 events, 9 undone and not drawn; #N is frame N"))
-        self.assertEqual([(way.ticket, way.ended) for way in it.leaving], [(1, None)])
+        chart = drawn(f"{LOST_INSERTION}back main 9\n")
+        self.assertEqual((chart.events, chart.undone, chart.heading), (2, 9, "main, 2 events, 9 undone and not drawn; #N is frame N"))
+        self.assertEqual([(way.ticket, way.ended) for way in chart.leaving], [(1, None)])
 
     def test_what_befalls_a_frame_later_does_not_matter(self) -> None:
         events, _ = happened(LOST_INSERTION)
-        it = drawn_of("main", events[:2], 0)
-        self.assertEqual(([*it.flights], it.leaving[0].later), ([1], []))
-        self.assertEqual(it.rows[1].last, 2)
+        chart = drawn_of("main", events[:2], 0)
+        self.assertEqual(([*chart.flights], chart.leaving[0].later), ([1], []))
+        self.assertEqual(chart.rows[1].last, 2)
 
     def test_held_packets(self) -> None:
         frames = "step main flush a\nstep main deliver 1\nstep main flush b\nstep main deliver 2\n"
-        it = drawn(f"set defer 1\n{RULES}{QUERY}{frames}")
-        self.assertEqual((it.rows[0].marks[0].fate, it.rows[0].marks[0].tone), ("held 1.1", "note"))
-        told = [record_words(way.frame.records) for way in it.flights.values()]
+        chart = drawn(f"set defer 1\n{RULES}{QUERY}{frames}")
+        self.assertEqual((chart.rows[0].marks[0].fate, chart.rows[0].marks[0].tone), ("held 1.1", "note"))
+        told = [record_words(way.frame.records) for way in chart.flights.values()]
         self.assertEqual(told, [(f"insert 1.1 (wants{KEPT}ack)",), ("insert ack 1.1",)])
-        self.assertEqual(it.rows[2].marks[0].words, ("taken 1:", "1 held released"))
+        self.assertEqual(chart.rows[2].marks[0].words, ("taken 1:", "1 held released"))
 
     def test_packets_outside_the_window_have_their_numbers(self) -> None:
         flow = "tcp 10.0.0.1:1000 192.0.2.9:80"
-        it = drawn(
+        chart = drawn(
             f"{RULES}step main packet a out {flow} S 100 0 1000 0\n"
             "step main packet a in tcp 192.0.2.9:80 10.0.0.1:1000 SA 500 101 2000 0\n"
             f"step main packet a out {flow} A 900000 501 1000 10\n"
         )
-        self.assertEqual(it.rows[0].marks[0].words[0], "tcp [S]")
-        mark = it.rows[2].marks[0]
+        self.assertEqual(chart.rows[0].marks[0].words[0], "tcp [S]")
+        mark = chart.rows[2].marks[0]
         self.assertEqual(mark.fate, "drop window")
         self.assertEqual(mark.words, ("tcp [A]", "1.1 out,", f"seq{KEPT}900000 ack{KEPT}501 len{KEPT}10"))
 
@@ -95,23 +95,23 @@ def said(chart: Chart) -> List[str]:
 class Segments(unittest.TestCase):
     def test_the_name_of_a_state_stands_for_ends_that_were_shown(self) -> None:
         ways = (SYN, f"packet a in {BACK} SA 500 101 2000 0", "flush a", "deliver 1", f"packet b out {FLOW} PA 101 501 1000 40")
-        it = drawn(steps(*ways))
-        self.assertEqual(said(it)[0], "tcp [S] 10.0.0.1:1000 -> 192.0.2.9:80 seq 100 pass 1.1")
-        self.assertEqual(said(it)[1], "tcp [SA] 1.1 in, seq 500 ack 101 pass")
-        self.assertEqual(said(it)[3], "tcp [PA] 1.1 out, seq 101 ack 501 len 40 pass")
+        chart = drawn(steps(*ways))
+        self.assertEqual(said(chart)[0], "tcp [S] 10.0.0.1:1000 -> 192.0.2.9:80 seq 100 pass 1.1")
+        self.assertEqual(said(chart)[1], "tcp [SA] 1.1 in, seq 500 ack 101 pass")
+        self.assertEqual(said(chart)[3], "tcp [PA] 1.1 out, seq 101 ack 501 len 40 pass")
 
     def test_ends_stand_where_no_state_is_met(self) -> None:
-        it = drawn(steps(SYN, f"packet b in {BACK} SA 500 101 2000 0", f"packet a out {FLOW} S 100 0 1000 0"))
-        self.assertEqual(said(it)[1], "tcp [SA] 192.0.2.9:80 -> 10.0.0.1:1000 seq 500 ack 101 drop block")
+        chart = drawn(steps(SYN, f"packet b in {BACK} SA 500 101 2000 0", f"packet a out {FLOW} S 100 0 1000 0"))
+        self.assertEqual(said(chart)[1], "tcp [SA] 192.0.2.9:80 -> 10.0.0.1:1000 seq 500 ack 101 drop block")
 
     def test_each_state_shows_its_ends_once(self) -> None:
         other = "packet a out tcp 10.0.0.2:1000 192.0.2.9:80 S 7 0 1000 0"
-        it = drawn(steps(SYN, other, f"packet a in {BACK} SA 500 101 2000 0"))
-        self.assertEqual(said(it)[1], "tcp [S] 10.0.0.2:1000 -> 192.0.2.9:80 seq 7 pass 1.2")
-        self.assertEqual(said(it)[2], "tcp [SA] 1.1 in, seq 500 ack 101 pass")
+        chart = drawn(steps(SYN, other, f"packet a in {BACK} SA 500 101 2000 0"))
+        self.assertEqual(said(chart)[1], "tcp [S] 10.0.0.2:1000 -> 192.0.2.9:80 seq 7 pass 1.2")
+        self.assertEqual(said(chart)[2], "tcp [SA] 1.1 in, seq 500 ack 101 pass")
         # In a window it is the first packet there.
-        it = drawn(steps(SYN, other, f"packet a in {BACK} SA 500 101 2000 0"), WHOLE._replace(first=3))
-        self.assertEqual(said(it), ["tcp [SA] 192.0.2.9:80 -> 10.0.0.1:1000 seq 500 ack 101 pass 1.1"])
+        chart = drawn(steps(SYN, other, f"packet a in {BACK} SA 500 101 2000 0"), WHOLE._replace(first=3))
+        self.assertEqual(said(chart), ["tcp [SA] 192.0.2.9:80 -> 10.0.0.1:1000 seq 500 ack 101 pass 1.1"])
 
     def test_translated_ends_are_shown_too(self) -> None:
         rules = RULES.replace("rule a pass out\n", "rule a pass out nat 203.0.113.1:0\n")
@@ -154,9 +154,9 @@ class Runs(unittest.TestCase):
     def test_texts_part_what_would_be_one_row(self) -> None:
         query = QUERY.strip()[len("step main ") :]
         script = steps("purge a", "purge a", "purge a", query, "flush a", "deliver 1", "tick a 1", "tick b 1")
-        it = drawn(script, WHOLE, {2: ["A note."], 5: ["Another."]}, {7: ["later"]})
-        self.assertEqual([(row.first, row.last) for row in it.rows], [(1, 2), (3, 3), (4, 4), (5, 5), (6, 6), (7, 7), (8, 8)])
-        self.assertEqual((it.notes, it.forks), ({1: ["A note."], 4: ["Another."]}, {6: ["later"]}))
+        chart = drawn(script, WHOLE, {2: ["A note."], 5: ["Another."]}, {7: ["later"]})
+        self.assertEqual([(row.first, row.last) for row in chart.rows], [(1, 2), (3, 3), (4, 4), (5, 5), (6, 6), (7, 7), (8, 8)])
+        self.assertEqual((chart.notes, chart.forks), ({1: ["A note."], 4: ["Another."]}, {6: ["later"]}))
         self.assertEqual(len(drawn(script).rows), 4)
 
 

@@ -34,10 +34,10 @@ class Sheets(unittest.TestCase):
         self.assertEqual([it.rows[0][:2] for it in page.sheets], [(1, 1), (101, 101), (201, 201)])
         tops = [it.top for it in page.sheets]
         self.assertEqual(tops[0], 0)
-        for it, below in zip(page.sheets, [*tops[1:], page.height]):
-            self.assertAlmostEqual(it.top + it.height, below)
-            self.assertAlmostEqual(it.rows[-1][3], it.height if below < page.height else it.height - 14)
-            for one, two in zip(it.rows, it.rows[1:]):
+        for sheet, below in zip(page.sheets, [*tops[1:], page.height]):
+            self.assertAlmostEqual(sheet.top + sheet.height, below)
+            self.assertAlmostEqual(sheet.rows[-1][3], sheet.height if below < page.height else sheet.height - 14)
+            for one, two in zip(sheet.rows, sheet.rows[1:]):
                 self.assertAlmostEqual(one[3], two[2])
 
     def test_a_frame_that_crosses_three_sheets_meets_at_their_edges(self) -> None:

@@ -99,10 +99,10 @@ class Texts(unittest.TestCase):
         self.assertTrue(told[-1].startswith("119-120 +1 ms, clock 60 ms"), told[-1])
 
     def test_colours_change_no_word(self) -> None:
-        it = drawn(CROSSING)
-        coloured = [re.sub("\033\\[[0-9]*m", "", line) for line in text(it, Paint(True), 100, "utf-8")]
-        self.assertEqual(coloured, text(it, PLAIN, 100, "utf-8"))
-        self.assertNotEqual(coloured, text(it, Paint(True), 100, "utf-8"))
+        chart = drawn(CROSSING)
+        coloured = [re.sub("\033\\[[0-9]*m", "", line) for line in text(chart, Paint(True), 100, "utf-8")]
+        self.assertEqual(coloured, text(chart, PLAIN, 100, "utf-8"))
+        self.assertNotEqual(coloured, text(chart, Paint(True), 100, "utf-8"))
 
     def test_a_frame_is_told_from_the_number_of_its_records(self) -> None:
         seconds = "".join(f"step main packet a out udp 10.0.0.{it}:1000 192.0.2.9:53 40\n" for it in range(1, 6))

@@ -35,15 +35,15 @@ def left(chart: Chart) -> List[Tuple[str, List[int]]]:
 
 class Windows(unittest.TestCase):
     def test_frames_come_in_from_above_and_leave_below(self) -> None:
-        it = drawn(CROSSING, Window(4, 6))
-        self.assertEqual(events(it), [(4, 4), (5, 5), (6, 6)])
-        self.assertEqual(frames(it), {1: (None, None), 2: (0, 2), 3: (1, None)})
-        self.assertEqual([flight.ticket for flight in it.entering], [1])
-        self.assertEqual(left(it), [("under way after event 6:", [1, 3])])
+        chart = drawn(CROSSING, Window(4, 6))
+        self.assertEqual(events(chart), [(4, 4), (5, 5), (6, 6)])
+        self.assertEqual(frames(chart), {1: (None, None), 2: (0, 2), 3: (1, None)})
+        self.assertEqual([flight.ticket for flight in chart.entering], [1])
+        self.assertEqual(left(chart), [("under way after event 6:", [1, 3])])
 
     def test_a_frame_in_flight_at_the_end_is_said_to_be_so(self) -> None:
-        it = drawn(f"{CROSSING}step main packet a out {OTHER}\nstep main flush a\n", Window(7, 16))
-        self.assertEqual(left(it), [("still in flight:", [5])])
+        chart = drawn(f"{CROSSING}step main packet a out {OTHER}\nstep main flush a\n", Window(7, 16))
+        self.assertEqual(left(chart), [("still in flight:", [5])])
         self.assertEqual(drawn(CROSSING, Window(14)).left, [])
 
     def test_frames_that_ended_before_or_were_sent_later_are_not_there(self) -> None:
@@ -52,11 +52,11 @@ class Windows(unittest.TestCase):
 
     def test_one_event(self) -> None:
         for number in range(1, 15):
-            it = drawn(CROSSING, Window(number, number))
-            self.assertEqual(events(it), [(number, number)])
-            self.assertEqual(it.heading.partition(";")[0], f"main, event {number} of 14")
+            chart = drawn(CROSSING, Window(number, number))
+            self.assertEqual(events(chart), [(number, number)])
+            self.assertEqual(chart.heading.partition(";")[0], f"main, event {number} of 14")
             # (every window can be drawn)
-            self.assertTrue(text(it, PLAIN, 80, "ascii"))
+            self.assertTrue(text(chart, PLAIN, 80, "ascii"))
 
     def test_all_events_are_no_window(self) -> None:
         self.assertEqual(drawn(CROSSING, Window(1, 14)), drawn(CROSSING))
@@ -71,8 +71,8 @@ class Windows(unittest.TestCase):
         self.assertEqual(drawn(CROSSING, Window(12)).heads(0), {"a": "boot 1", "b": "boot 3"})
 
     def test_what_is_undone_is_not_there(self) -> None:
-        it = drawn(UNDONE, Window(8, 9))
-        self.assertEqual((events(it), it.heading), ([(8, 9)], "main, events 8 to 9 of 9, 2 undone and not drawn; #N is frame N"))
+        chart = drawn(UNDONE, Window(8, 9))
+        self.assertEqual((events(chart), chart.heading), ([(8, 9)], "main, events 8 to 9 of 9, 2 undone and not drawn; #N is frame N"))
         with self.assertRaisesRegex(Unknown, "^main has no event 10 to draw: those that stand are counted from 1 to 9$"):
             drawn(UNDONE, Window(1, 10))
 
@@ -88,19 +88,19 @@ class Windows(unittest.TestCase):
     def test_texts_belong_to_events_of_the_window(self) -> None:
         notes = {at: [f"above {at + 1}"] for at in range(15)}
         forks = {at: [f"after-{at}"] for at in range(15)}
-        it = drawn(CROSSING, Window(3, 4), notes, forks)
-        self.assertEqual(it.notes, {0: ["above 3"], 1: ["above 4"]})
-        self.assertEqual(it.forks, {0: ["after-2"], 1: ["after-3"], 2: ["after-4"]})
+        chart = drawn(CROSSING, Window(3, 4), notes, forks)
+        self.assertEqual(chart.notes, {0: ["above 3"], 1: ["above 4"]})
+        self.assertEqual(chart.forks, {0: ["after-2"], 1: ["after-3"], 2: ["after-4"]})
         self.assertEqual(drawn(CROSSING, Window(14), notes).notes, {0: ["above 14"], 1: ["above 15"]})
 
 
 class Flows(unittest.TestCase):
     def test_packets_and_frames_of_a_state(self) -> None:
-        it = drawn(CROSSING, Window(flow=Name(1, 2)))
-        self.assertEqual(events(it), [(3, 3), (4, 4), (6, 6), (11, 11), (12, 12), (13, 13), (14, 14)])
+        chart = drawn(CROSSING, Window(flow=Name(1, 2)))
+        self.assertEqual(events(chart), [(3, 3), (4, 4), (6, 6), (11, 11), (12, 12), (13, 13), (14, 14)])
         # The request for all states asks for this one, too.
-        self.assertEqual([*it.flights], [2, 4])
-        self.assertEqual(it.heading, "main, 14 events, what is about 1.2; #N is frame N")
+        self.assertEqual([*chart.flights], [2, 4])
+        self.assertEqual(chart.heading, "main, 14 events, what is about 1.2; #N is frame N")
 
     def test_copies_are_about_what_the_first_frame_is(self) -> None:
         self.assertEqual([*drawn(CROSSING, Window(flow=Name(1, 1))).flights], [1, 3, 4])
@@ -108,21 +108,21 @@ class Flows(unittest.TestCase):
         self.assertEqual([*cut.flights], [1, 2])
 
     def test_a_blocked_packet_of_the_same_ends_is_there(self) -> None:
-        it = drawn(LOST_INSERTION, Window(flow=Name(1, 1)))
-        fates = [mark.fate for row in it.rows for mark in row.marks if mark.is_packet]
+        chart = drawn(LOST_INSERTION, Window(flow=Name(1, 1)))
+        fates = [mark.fate for row in chart.rows for mark in row.marks if mark.is_packet]
         self.assertEqual(fates, ["pass 1.1", "pass 1.1", "drop block"])
         blocked = drawn(steps(FLOW, f"packet a out {OTHER}", f"packet b in {ANSWER.strip()}"), Window(flow=Name(1, 2)))
         self.assertEqual(events(blocked), [(2, 2)])
 
     def test_another_name_for_the_same_ends_is_there_where_it_is_made(self) -> None:
         again = FLOW.replace("packet a", "packet b")
-        it = drawn(steps(FLOW, again, again.replace(" 40", " 41"), FLOW.replace(" 40", " 41")), Window(flow=Name(1, 1)))
-        self.assertEqual([row.marks[0].fate for row in it.rows], ["pass 1.1", "pass 2.1", "pass 1.1"])
+        chart = drawn(steps(FLOW, again, again.replace(" 40", " 41"), FLOW.replace(" 40", " 41")), Window(flow=Name(1, 1)))
+        self.assertEqual([row.marks[0].fate for row in chart.rows], ["pass 1.1", "pass 2.1", "pass 1.1"])
 
     def test_what_takes_states(self) -> None:
         taken = (FLOW, f"packet a out {OTHER}", "kill a 1.2", "kill a 1.1", "clear b", "turn b", "restart a", "tick a 1")
-        it = drawn(steps(*taken), Window(flow=Name(1, 1)))
-        self.assertEqual([row.kind for row in it.rows], ["packet", "kill", "clear", "restart"])
+        chart = drawn(steps(*taken), Window(flow=Name(1, 1)))
+        self.assertEqual([row.kind for row in chart.rows], ["packet", "kill", "clear", "restart"])
         purged = steps(FLOW, "purge a", "tick a 100000", "purge a", "purge a")
         self.assertEqual(events(drawn(purged, Window(flow=Name(1, 1)))), [(1, 1), (4, 4)])
 
@@ -131,8 +131,8 @@ class Flows(unittest.TestCase):
         self.assertEqual(events(drawn(held, Window(flow=Name(1, 2)))), [(2, 2), (4, 4)])
 
     def test_events_that_are_left_out_part_those_beside_them(self) -> None:
-        it = drawn(steps(FLOW, "flush a", "tick a 1", "deliver 1", FLOW, "tick a 1", FLOW), Window(flow=Name(1, 1)))
-        self.assertEqual(events(it), [(1, 1), (2, 2), (4, 4), (5, 5), (7, 7)])
+        chart = drawn(steps(FLOW, "flush a", "tick a 1", "deliver 1", FLOW, "tick a 1", FLOW), Window(flow=Name(1, 1)))
+        self.assertEqual(events(chart), [(1, 1), (2, 2), (4, 4), (5, 5), (7, 7)])
 
     def test_no_such_state(self) -> None:
         with self.assertRaisesRegex(Unknown, "^no packet of main that stands made a state 1.3; those made are 1.1, 1.2$"):

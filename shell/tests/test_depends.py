@@ -153,9 +153,9 @@ class Together(unittest.TestCase):
     """Words that change together what none of them changes alone."""
 
     def test_the_least_set(self) -> None:
-        it = tried(Script.of(program(), CLOSED))
-        self.assertTrue(all(one.is_same for one in it.singles))
-        (far,) = it.far
+        trial = tried(Script.of(program(), CLOSED))
+        self.assertTrue(all(one.is_same for one in trial.singles))
+        (far,) = trial.far
         self.assertEqual([(two.its.kernel, [*two.places]) for two in far.together], [(by("window", "loose"), [6])])
 
     def test_it_is_looked_for_only_where_no_word_does_it_alone(self) -> None:
@@ -166,14 +166,14 @@ class Together(unittest.TestCase):
 
     def test_from_the_kernels_rules_to_the_profiles(self) -> None:
         """By `window` and `loose` each alone the segment is dropped: so either of them taken away drops it."""
-        it = tried(Script.of(program(), ["kernel window loose", *CLOSED]))
-        self.assertEqual([one.kernel for one in it.singles if not one.is_same], [by("loose"), by("window")])
-        self.assertEqual([far.its.kernel for far in it.far], [EVERY, PROFILE])
+        trial = tried(Script.of(program(), ["kernel window loose", *CLOSED]))
+        self.assertEqual([one.kernel for one in trial.singles if not one.is_same], [by("loose"), by("window")])
+        self.assertEqual([far.its.kernel for far in trial.far], [EVERY, PROFILE])
 
     def test_what_a_word_changes_and_all_do_not(self) -> None:
-        it = tried(Script.of(program(), [*SESSION, BLIND]))
-        self.assertEqual([one.kernel for one in it.singles if not one.is_same], [by("window")])
-        self.assertEqual([*it.far[0].undone], [3])
+        trial = tried(Script.of(program(), [*SESSION, BLIND]))
+        self.assertEqual([one.kernel for one in trial.singles if not one.is_same], [by("window")])
+        self.assertEqual([*trial.far[0].undone], [3])
 
 
 class Answers(unittest.TestCase):
@@ -313,8 +313,8 @@ class Lessons(unittest.TestCase):
     def test_the_table(self) -> None:
         found, paths = {}, sorted(glob.glob(f"{TOP}/examples/*.pfl"))
         for path in paths:
-            it = tried(Script.of(program(), lines_of(read(path))))
-            changing = [word for word, one in zip(SWITCHES, it.singles) if not one.is_same]
+            trial = tried(Script.of(program(), lines_of(read(path))))
+            changing = [word for word, one in zip(SWITCHES, trial.singles) if not one.is_same]
             found.update({os.path.basename(path): changing} if changing else {})
         text = read(f"{TOP}/examples/README.md").partition("## Whose rules they depend on")[2]
         rows = re.findall(r"(?m)^\| \[([a-z-]+\.pfl)\]\(\1\) \| ([^|]+) \|", text)

@@ -28,7 +28,7 @@ class Written(unittest.TestCase):
         self.assertEqual(words.forms(Help("depends [BRANCH] [--all-replies]\nquit", "")), ["depends [BRANCH] [--all-replies]", "quit"])
 
     def test_a_word_in_macros(self) -> None:
-        it = Help(
+        about = Help(
             "take [NAME]",
             "steps what was found",
             "The K-th event (`found`, say) is `here`. As `diff -u` does, `quiet` is left out: see pfl_lab(1).",
@@ -37,7 +37,7 @@ class Written(unittest.TestCase):
             "step what was found",
         )
         self.assertEqual(
-            [*words.item("take", it)],
+            [*words.item("take", about)],
             [
                 *(".It Ic take Oo Ar name Oc", "Step what was found.", "The K-th event", ".Cm ( found ,", "say) is", ".Cm here .", "As"),
                 *(".Dq diff -u", "does,", ".Ic quiet", "is left out: see", ".Xr pfl_lab 1 .", ".Bl -tag -width Ds", ".It Cm within Ar n"),

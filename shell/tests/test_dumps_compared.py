@@ -366,11 +366,11 @@ class Speed(DumpCase):
     def test_twenty_thousand_states(self) -> None:
         def states(of_b: bool) -> str:
             made = []
-            for it in range(20000):
-                text = WEB if it % 3 else QUERY
-                text = text.replace("51512", str(1024 + it)).replace(":1000 ", f":{1024 + it} ")
-                text = text.replace("00000003 ", f"{it + 256:08x} ").replace("00000005 ", f"{it + 256:08x} ")
-                made.append(text.replace("[3058113415", f"[{3058113415 + it}") if of_b else text)
+            for number in range(20000):
+                text = WEB if number % 3 else QUERY
+                text = text.replace("51512", str(1024 + number)).replace(":1000 ", f":{1024 + number} ")
+                text = text.replace("00000003 ", f"{number + 256:08x} ").replace("00000005 ", f"{number + 256:08x} ")
+                made.append(text.replace("[3058113415", f"[{3058113415 + number}") if of_b else text)
             return "".join(made[:-5] if of_b else made)
 
         files = self.file("a", states(False)), self.file("b", states(True))

@@ -220,9 +220,9 @@ class FaultReasons(unittest.TestCase):
                 self.assertEqual(explain_fault(line, reply), [why])
 
     def test_each_limit_has_the_range_of_the_program(self) -> None:
-        for name, it in LIMITS.items():
-            outside = ((it.least - 1, "world 1 TooSmall"), (it.most + 1, "world 2 TooLarge"))
-            for number, wanted in (*outside, (it.least, None), (it.most, None)):
+        for name, limit in LIMITS.items():
+            outside = ((limit.least - 1, "world 1 TooSmall"), (limit.most + 1, "world 2 TooLarge"))
+            for number, wanted in (*outside, (limit.least, None), (limit.most, None)):
                 with self.subTest(name, number=number):
                     line = f"set {name} {number}"
                     fault = check_setup(program(), [line])

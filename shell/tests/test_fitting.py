@@ -106,9 +106,9 @@ class Command(unittest.TestCase):
     """`./lab` at a terminal of 80 columns."""
 
     def rows(self, *words: str, last: str) -> List[str]:
-        it = Terminal([sys.executable, f"{TOP}/lab", *words], {"PFL_LAB": program(), "NO_COLOR": "1"}, columns=80, rows=60)
-        self.addCleanup(it.close)
-        return it.wait(lambda rows: any(row.strip().endswith(last) for row in rows))
+        terminal = Terminal([sys.executable, f"{TOP}/lab", *words], {"PFL_LAB": program(), "NO_COLOR": "1"}, columns=80, rows=60)
+        self.addCleanup(terminal.close)
+        return terminal.wait(lambda rows: any(row.strip().endswith(last) for row in rows))
 
     def test_help(self) -> None:
         rows = self.rows("--help", last="--version  Print version")

@@ -87,14 +87,15 @@ class Replies(unittest.TestCase):
         data = frame("02000001", NAME)
         steps = ["event 5 step x cut 7 30", "outcome cut 30", "event 6 step x repeat 7", "outcome sent 8 30"]
         head = ["frame x 7", "event 4 step x flush b", "outcome sent 7 36", f"frame 7 a {data.hex()}", "record iack 1.1"]
-        it = read_flight([*head, *steps, "event 9 step x lose 7", "outcome lost", "end"])
-        self.assertEqual((it.ticket, it.source, it.to, it.origin, it.sent), (7, "b", "a", None, Happened(4, "flush b", "sent 7 36")))
-        self.assertEqual((it.frame.records, it.now.data), ((Record.read(["iack", "1.1"]),), data[:30]))
-        self.assertEqual((it.ended, it.is_lost, it.is_taken), (Happened(9, "lose 7", "lost"), True, False))
+        flight = read_flight([*head, *steps, "event 9 step x lose 7", "outcome lost", "end"])
+        self.assertEqual((flight.ticket, flight.source, flight.to, flight.origin), (7, "b", "a", None))
+        self.assertEqual(flight.sent, Happened(4, "flush b", "sent 7 36"))
+        self.assertEqual((flight.frame.records, flight.now.data), ((Record.read(["iack", "1.1"]),), data[:30]))
+        self.assertEqual((flight.ended, flight.is_lost, flight.is_taken), (Happened(9, "lose 7", "lost"), True, False))
 
     def test_a_copy_of_a_frame_that_was_cut(self) -> None:
-        it = read_flight(["frame x 8", "event 6 step x repeat 7", "outcome sent 8 0", "frame 8 a -", "broken 1", "end"])
-        self.assertEqual((it.origin, it.frame.data, it.frame.records, it.ended), (7, b"", (), None))
+        flight = read_flight(["frame x 8", "event 6 step x repeat 7", "outcome sent 8 0", "frame 8 a -", "broken 1", "end"])
+        self.assertEqual((flight.origin, flight.frame.data, flight.frame.records, flight.ended), (7, b"", (), None))
 
 
 class Lines(unittest.TestCase):

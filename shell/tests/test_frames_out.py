@@ -234,12 +234,12 @@ class Dissection(Room):
     def compared(self, content: bytes, wanted: Wanted) -> None:
         shown = dissected(self.written("all.pcap", self.head() + content))
         self.assertEqual(len(shown), len(wanted))
-        for it, (place, frame) in zip(shown, wanted):
-            self.assertEqual((it.source, it.checksum), (ADDRESSES[frame.sender], frame.checksum), place)
+        for message, (place, frame) in zip(shown, wanted):
+            self.assertEqual((message.source, message.checksum), (ADDRESSES[frame.sender], frame.checksum), place)
             if frame.records:
-                self.assertEqual((it.records, it.info, it.faults), (frame.records, frame.info, []), place)
+                self.assertEqual((message.records, message.info, message.faults), (frame.records, frame.info, []), place)
             else:
-                self.assertEqual(it.faults, ["The message is cut"], place)
+                self.assertEqual(message.faults, ["The message is cut"], place)
 
     @needs_tshark
     def test_each_message_of_each_lesson_is_as_the_program_says(self) -> None:
@@ -281,7 +281,7 @@ class Dissection(Room):
     def test_filters_of_the_manual_find_something(self) -> None:
         self.frames(f"{TOP}/examples/lost-bulk-frame.pfl")
         # the flow of 10.0.0.17 is in the first insertion, and in an update of the bulk update at a alone
-        found = {it: len(shark(self.path("a.pcap"), "-Y", it).stdout.splitlines()) for it in (
+        found = {wanted: len(shark(self.path("a.pcap"), "-Y", wanted).stdout.splitlines()) for wanted in (
             'pfsync.name == "0000000000000002/00000001"', "pfsync.addr == 10.0.0.17", "pfsync.port == 22", "pfsync.action == 5",
             'pfsync.src.level == "ESTABLISHED"', "pfsync.cut", "pfsync.captured_short", "pfsync.action.unknown", "pfsync.version.unknown",
         )}

@@ -189,16 +189,16 @@ Found = Tuple[Optional[Filters], bool]
 def decided(flow: Flow, rules: Sequence[Union[Filters, Anchor]]) -> Found:
     """The last rule that matches, or the first `quick` one; an anchor that is `quick` ends it where a rule in it has matched."""
     last: Optional[Filters] = None
-    for it in rules:
-        if isinstance(it, Anchor):
-            is_for = it.direction in ("", flow.packet.direction) and it.ends.matches(flow.packet)
-            found, ends = decided(flow, it.rules) if is_for else (None, False)
+    for rule in rules:
+        if isinstance(rule, Anchor):
+            is_for = rule.direction in ("", flow.packet.direction) and rule.ends.matches(flow.packet)
+            found, ends = decided(flow, rule.rules) if is_for else (None, False)
             last = found or last
-            if ends or (it.is_quick and found):
+            if ends or (rule.is_quick and found):
                 return last, True
-        elif it.matches(flow.packet, flow.has_syn):
-            last = it
-            if it.is_quick:
+        elif rule.matches(flow.packet, flow.has_syn):
+            last = rule
+            if rule.is_quick:
                 return last, True
     return last, False
 

@@ -128,10 +128,10 @@ def of_pf(flow: Flow, translations: Sequence[Translates], filters: Sequence[Filt
         else:
             packet = packet._replace(destination=near[0], destination_port=near[1])
     last: Optional[Filters] = None
-    for it in () if translation is not None and translation.passes else filters:
-        if it.matches(packet, flow.has_syn):
-            last = it
-            if it.is_quick:
+    for rule in () if translation is not None and translation.passes else filters:
+        if rule.matches(packet, flow.has_syn):
+            last = rule
+            if rule.is_quick:
                 break
     if last is not None and last.action == "block":
         return Fate(False)

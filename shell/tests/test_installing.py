@@ -82,10 +82,10 @@ class Installing(Room):
         self.install()
         found = tree(self.prefix)
         places = ("bin/{}", "share/man/man1/{}.1", "share/bash-completion/completions/{}", "share/zsh/site-functions/_{}")
-        for it in ("pfl_lab", "pfl_shell"):
+        for command in ("pfl_lab", "pfl_shell"):
             for place in places:
-                self.assertIn(place.format(it), found)
-            self.assertTrue(os.access(self.prefix / "bin" / it, os.X_OK))
+                self.assertIn(place.format(command), found)
+            self.assertTrue(os.access(self.prefix / "bin" / command, os.X_OK))
         scripts = [it.name for it in Path(TOP, "examples").iterdir()]
         self.assertEqual(sorted(scripts), sorted(os.listdir(self.prefix / "share/pfl_lab/examples")))
         self.assertEqual((self.prefix / "bin/pfl_lab").read_text(), STAND_IN)
@@ -97,9 +97,9 @@ class Installing(Room):
 
     def test_examples_name_commands_that_are_installed(self) -> None:
         self.install()
-        for it in (self.prefix / "share/pfl_lab/examples").iterdir():
+        for path in (self.prefix / "share/pfl_lab/examples").iterdir():
             for words in (b"./lab", b"](..", b"docs/"):
-                self.assertNotIn(words, it.read_bytes(), it.name)
+                self.assertNotIn(words, path.read_bytes(), path.name)
 
     def test_the_list_has_what_is_there(self) -> None:
         self.install()

@@ -203,8 +203,8 @@ class Answers(Dialogue):
         self.assertFalse([it for it in said if it.startswith("   by ")])
 
     def test_an_import_has_no_such_line(self) -> None:
-        it = taken_in("pass in proto tcp to port 22 keep state\n")
-        self.assertEqual([line for line in it.setup if line.startswith("kernel")], [])
+        imported = taken_in("pass in proto tcp to port 22 keep state\n")
+        self.assertEqual([line for line in imported.setup if line.startswith("kernel")], [])
 
 
 class Files(Dialogue):

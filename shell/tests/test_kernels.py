@@ -100,8 +100,8 @@ class Words(unittest.TestCase):
                 *("kernel window loose merge reset", "kernel window loose merge reset", "by kernel window, loose, merge, reset"),
             ),
         ):
-            it = PROFILE.with_words(words)
-            self.assertEqual((it.line, it.short, it.by, it.is_profile), (line, short, by, False))
+            kernel = PROFILE.with_words(words)
+            self.assertEqual((kernel.line, kernel.short, kernel.by, kernel.is_profile), (line, short, by, False))
         self.assertEqual((PROFILE.by, PROFILE.is_profile), ("by the profile", True))
 
     def test_one_can_be_taken_away(self) -> None:

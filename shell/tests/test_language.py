@@ -67,9 +67,9 @@ class Page(unittest.TestCase):
         page = {}
         for name, its_range, default in (it for row in rows for it in (row[:3], row[-3:])):
             page[name] = tuple(map(int, re.split(" to | or ", its_range))), default
-        for it in LIMITS.values():
-            default = f"`{STATES.word}` * {it.fifths} / 5" if it.fifths else str(it.default)
-            self.assertEqual(page.pop(it.word), ((it.least, it.most), default))
+        for limit in LIMITS.values():
+            default = f"`{STATES.word}` * {limit.fifths} / 5" if limit.fifths else str(limit.default)
+            self.assertEqual(page.pop(limit.word), ((limit.least, limit.most), default))
         self.assertEqual(page, {})
 
     def test_rules(self) -> None:

@@ -53,9 +53,9 @@ def pages(top: Path) -> Iterator[Path]:
 
 def linked(page: Path) -> Iterator[Tuple[str, Path, str]]:
     """The links of a page, each with its file and the place in it."""
-    for it in targets(page.read_text(encoding="utf-8")):
-        name, _, place = it.partition("#")
-        yield it, (page.parent / name).resolve() if name else page.resolve(), place
+    for target in targets(page.read_text(encoding="utf-8")):
+        name, _, place = target.partition("#")
+        yield target, (page.parent / name).resolve() if name else page.resolve(), place
 
 
 def broken(top: Path) -> List[str]:

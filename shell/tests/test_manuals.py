@@ -76,9 +76,9 @@ class Named(unittest.TestCase):
 
     def test_each_refusal_of_an_event_is_that_of_the_help(self) -> None:
         text = section("pfl_lab", "EVENTS")
-        for word, it in helps.EVENTS.items():
+        for word, about in helps.EVENTS.items():
             item = re.search(rf"(?ms)^\.(?:It )?Ic {word}\b.*?Refused: ([\d, ]+)\.$", text)
-            told = it.more.partition("Refused: ")[2]
+            told = about.more.partition("Refused: ")[2]
             self.assertEqual(item and item[1].split(", "), re.findall(r"(\d+) [A-Z]", told), word)
 
     def test_each_limit_and_class(self) -> None:

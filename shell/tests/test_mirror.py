@@ -47,9 +47,9 @@ class Mirrored(Followers):
         port = self.serve(4)
         labs = [self.laboratory(port) for _ in range(4)]
         said: List[str] = []
-        for it in labs:
-            it.join()
-            shared(it).say = said.append
+        for lab in labs:
+            lab.join()
+            shared(lab).say = said.append
 
         def steps(lab: Laboratory, number: int) -> None:
             for at in range(60):

@@ -32,10 +32,10 @@ class Broken(Followers):
 
     def with_rule(self, port: int, rule: str) -> Shared:
         """A session whose mirror has another setup than the server."""
-        it = Shared(self.client(port), program(), [rule])
-        self.ends.callback(it.close)
-        it.say = self.complaints.append
-        return it
+        shared = Shared(self.client(port), program(), [rule])
+        self.ends.callback(shared.close)
+        shared.say = self.complaints.append
+        return shared
 
     def kill(self, lab: Laboratory) -> None:
         mirror = shared(lab)._mirror

@@ -131,11 +131,11 @@ class Late:
         self.have_come = False
         self.waited: List[float] = []
 
-    def knows(self, it: Entry, seconds: float = 0) -> bool:
+    def knows(self, entry: Entry, seconds: float = 0) -> bool:
         self.waited.append(seconds)
         return self.have_come
 
-    def name(self, it: Entry) -> str:
+    def name(self, entry: Entry) -> str:
         return "Ann" if self.have_come else ""
 
     def close(self) -> None:
@@ -197,95 +197,95 @@ class Typing(Followers):
 
     def terminal(self, port: int, **more: str) -> Terminal:
         words = [sys.executable, f"{TOP}/lab", "shell", "--port", str(port)]
-        it = Terminal(words, {"PFL_LAB": program(), "PFL_LAB_HISTORY": "", "PYTHONDONTWRITEBYTECODE": "1", **more})
-        self.ends.callback(it.close)
-        return it
+        terminal = Terminal(words, {"PFL_LAB": program(), "PFL_LAB_HISTORY": "", "PYTHONDONTWRITEBYTECODE": "1", **more})
+        self.ends.callback(terminal.close)
+        return terminal
 
     def test_what_is_typed_stays_as_it_is(self) -> None:
         port = self.serve(2)
-        it = self.terminal(port)
+        terminal = self.terminal(port)
         other = self.client(port)
-        it.wait_for("main 0/0>")
-        it.type(QUERY[:-1])
-        it.wait_for(f"main 0/0> {QUERY[:-1]}")
+        terminal.wait_for("main 0/0>")
+        terminal.type(QUERY[:-1])
+        terminal.wait_for(f"main 0/0> {QUERY[:-1]}")
         # The cursor goes to the second word.
-        it.type("\x01\x1bf\x1bf")
+        terminal.type("\x01\x1bf\x1bf")
         notes: List[str] = []
         # (the screen scrolls before the last of them)
         for number in range(1, 16):
             other.ask("step main tick a 1")
             other.ask("show main")
-            notes.append(f"[session {self.number(notes, it)}] step main tick a 1 -> clock {number}")
-            rows = it.wait(lambda rows: rows[-2] == notes[-1])
+            notes.append(f"[session {self.number(notes, terminal)}] step main tick a 1 -> clock {number}")
+            rows = terminal.wait(lambda rows: rows[-2] == notes[-1])
             self.assertEqual(rows[-1], f"main 0/0> {QUERY[:-1]}")
             time.sleep(0.05 if number % 5 else PAUSE)
-        self.assertEqual(it.screen.text[1:-1], notes)
-        self.assertEqual(it.screen.column, len("main 0/0> packet a"))
-        it.type("\x050\r")
-        it.wait_for("main 16/16>")
-        self.assertEqual(it.screen.text[-3:-1], [f"main 0/0> {QUERY}", "step pass 1.1 dropped 0"])
+        self.assertEqual(terminal.screen.text[1:-1], notes)
+        self.assertEqual(terminal.screen.column, len("main 0/0> packet a"))
+        terminal.type("\x050\r")
+        terminal.wait_for("main 16/16>")
+        self.assertEqual(terminal.screen.text[-3:-1], [f"main 0/0> {QUERY}", "step pass 1.1 dropped 0"])
 
-    def number(self, notes: List[str], it: Terminal) -> int:
+    def number(self, notes: List[str], terminal: Terminal) -> int:
         """The number of the other session: that of the first note."""
         if notes:
             return int(notes[0].split("]")[0].split()[1])
-        rows = it.wait(lambda rows: len(rows) > 2)
+        rows = terminal.wait(lambda rows: len(rows) > 2)
         return int(rows[-2].split("]")[0].split()[1])
 
     def test_a_line_of_several_rows_has_its_notes_later(self) -> None:
         port = self.serve(2)
-        it = self.terminal(port)
+        terminal = self.terminal(port)
         other = self.client(port)
-        it.wait_for("main 0/0>")
-        it.type("x" * 120)
-        it.wait(lambda rows: rows[-1] == "x" * 30)
+        terminal.wait_for("main 0/0>")
+        terminal.type("x" * 120)
+        terminal.wait(lambda rows: rows[-1] == "x" * 30)
         other.ask(STEP)
         time.sleep(0.4)
-        it.type("\x15")
-        rows = it.wait(lambda rows: rows[-1] == "main 0/0>" and "pass 1.1" in rows[-2])
+        terminal.type("\x15")
+        rows = terminal.wait(lambda rows: rows[-1] == "main 0/0>" and "pass 1.1" in rows[-2])
         self.assertEqual(len(rows), 3)
-        it.type("names\r")
-        it.wait_for("main 1/1>")
-        self.assertEqual(it.screen.text[-2], "names main")
+        terminal.type("names\r")
+        terminal.wait_for("main 1/1>")
+        self.assertEqual(terminal.screen.text[-2], "names main")
 
     def test_a_terminal_that_inserts_no_lines_has_them_before_the_next_prompt(self) -> None:
         port = self.serve(2)
-        it = self.terminal(port, TERM="dumb")
+        terminal = self.terminal(port, TERM="dumb")
         other = self.client(port)
-        it.wait_for("main 0/0>")
+        terminal.wait_for("main 0/0>")
         other.ask(STEP)
-        it.type("names\r")
-        self.assertRegex(it.wait_for("main 1/1>")[-2], "step main packet .* -> pass 1.1$")
+        terminal.type("names\r")
+        self.assertRegex(terminal.wait_for("main 1/1>")[-2], "step main packet .* -> pass 1.1$")
 
     def test_many_are_one_line_and_an_interrupt_gives_up_the_line(self) -> None:
         port = self.serve(2)
-        it = self.terminal(port)
+        terminal = self.terminal(port)
         other = self.client(port)
-        it.wait_for("main 0/0>")
-        it.type("view")
+        terminal.wait_for("main 0/0>")
+        terminal.type("view")
         for _ in range(300):
             other.ask("step main tick a 1")
-        rows = it.wait(lambda rows: "clock 300" in rows[-2])
+        rows = terminal.wait(lambda rows: "clock 300" in rows[-2])
         self.assertEqual(rows[-1], "main 0/0> view")
         self.assertLess(len(rows), 100)
-        it.type("\x03")
-        it.wait_for("main 300/300>")
-        self.assertEqual(it.screen.text[-2], "main 0/0> view^C")
-        it.type("notes off\r")
-        it.wait(lambda rows: rows[-2:] == ["notes are off", "main 300/300>"])
+        terminal.type("\x03")
+        terminal.wait_for("main 300/300>")
+        self.assertEqual(terminal.screen.text[-2], "main 0/0> view^C")
+        terminal.type("notes off\r")
+        terminal.wait(lambda rows: rows[-2:] == ["notes are off", "main 300/300>"])
         other.ask("step main tick a 1")
-        it.type("\r")
-        it.wait_for("main 301/301>")
-        self.assertEqual(it.screen.text[-2], "main 300/300>")
+        terminal.type("\r")
+        terminal.wait_for("main 301/301>")
+        self.assertEqual(terminal.screen.text[-2], "main 300/300>")
 
     def test_the_end_of_the_server_comes_above_the_line(self) -> None:
         port = self.serve(1)
-        it = self.terminal(port)
-        it.wait_for("main 0/0>")
-        it.type("vi")
-        it.wait_for("main 0/0> vi")
+        terminal = self.terminal(port)
+        terminal.wait_for("main 0/0>")
+        terminal.type("vi")
+        terminal.wait_for("main 0/0> vi")
         self.end_server()
-        rows = it.wait(lambda rows: rows[-2] == "the server has ended, or has ended this session")
+        rows = terminal.wait(lambda rows: rows[-2] == "the server has ended, or has ended this session")
         self.assertEqual(rows[-1], "main 0/0> vi")
 
     def end_server(self) -> None:

@@ -192,9 +192,9 @@ RIGHT = """<main><h1>A page</h1><p role=status>said</p><button>One</button><butt
 class Rules(unittest.TestCase):
     def shown(self, body: str) -> Browser:
         path = f"{desk_folder()}/rule.html"
-        with open(path, "w", encoding="utf-8") as it:
+        with open(path, "w", encoding="utf-8") as file:
             style = "body { background: white } button { padding: 1em; border: 1px solid black; background: white }"
-            it.write(f"<!doctype html><html lang=en><meta charset=utf-8><title>A rule</title><style>{style}</style>{body}")
+            file.write(f"<!doctype html><html lang=en><meta charset=utf-8><title>A rule</title><style>{style}</style>{body}")
         browser = page_cases.desk.browser
         browser.dark(False)
         browser.size(1440)

@@ -39,11 +39,11 @@ class Hostile(PageCase):
         self.assertEqual(self.browser.errors(), [])
 
     def test_in_the_title(self) -> None:
-        for it in HOSTILE:
-            with self.subTest(it):
-                self.open(f"# {it}\n{RULES}step main {QUERY}\n", "#main/1")
-                self.assertIn(flat(it), flat(self.browser.title))
-                self.assertIn(flat(it), flat(self.browser.text("#title")))
+        for text in HOSTILE:
+            with self.subTest(text):
+                self.open(f"# {text}\n{RULES}step main {QUERY}\n", "#main/1")
+                self.assertIn(flat(text), flat(self.browser.title))
+                self.assertIn(flat(text), flat(self.browser.text("#title")))
                 self.nothing_ran()
 
     def test_what_would_come_in_all_the_same_is_forbidden(self) -> None:
@@ -66,10 +66,10 @@ class Hostile(PageCase):
         of_branch = "".join(f"# {it}\n" for it in HOSTILE)
         self.open(f"# {ORDINARY}\n{above}{RULES}{notes}fork main 0 other\n{of_branch}step other tick b 1\n", "#main/0")
         shown = self.browser.evaluate(SHOWN)
-        for at, it in enumerate(HOSTILE, 1):
-            self.assertIn(flat(it), shown)
+        for at, text in enumerate(HOSTILE, 1):
+            self.assertIn(flat(text), shown)
             self.go("main", at)
-            self.assertIn(flat(it), self.browser.evaluate(SHOWN))
+            self.assertIn(flat(text), self.browser.evaluate(SHOWN))
         self.go("other", 1)
         shown = self.browser.evaluate(SHOWN)
         for it in HOSTILE:
@@ -85,8 +85,8 @@ class Hostile(PageCase):
         self.nothing_ran()
 
     def test_in_the_address(self) -> None:
-        for it in ("#<img src=x onerror=window.hit=1>/1", "#main/<img src=x onerror=window.hit=1>", "#javascript:window.hit=1"):
-            self.open(page_cases.RUN, it)
+        for place in ("#<img src=x onerror=window.hit=1>/1", "#main/<img src=x onerror=window.hit=1>", "#javascript:window.hit=1"):
+            self.open(page_cases.RUN, place)
             self.nothing_ran()
 
     def test_bytes_that_are_no_text(self) -> None:

@@ -44,9 +44,9 @@ class Served:
     """A live page that `./lab page --serve` serves, with the addresses that it says."""
 
     def __init__(self, script: str):
-        with socket.socket() as it:
-            it.bind(("127.0.0.1", 0))
-            port = it.getsockname()[1]
+        with socket.socket() as listening:
+            listening.bind(("127.0.0.1", 0))
+            port = listening.getsockname()[1]
         path = f"{desk_folder()}/live.pfl"
         with open(path, "w", encoding="utf-8") as file:
             file.write(script)
@@ -91,17 +91,17 @@ class Live(unittest.TestCase):
 
     def setUp(self) -> None:
         self.served.begin_again()
-        for it, name in ((ann, "Ann"), (bob, "Bob")):
-            it.size(1440)
-            it.open(self.served.steps)
-            it.evaluate("document.querySelector('#name').value = arguments[0]", name)
-            it.keys_at("#slider", "End")
+        for browser, name in ((ann, "Ann"), (bob, "Bob")):
+            browser.size(1440)
+            browser.open(self.served.steps)
+            browser.evaluate("document.querySelector('#name').value = arguments[0]", name)
+            browser.keys_at("#slider", "End")
 
     def tearDown(self) -> None:
-        for it in (ann, bob):
-            self.assertEqual(it.errors(), [])
-            self.assertTrue(it.evaluate("window.hit === undefined"))
-            it.open("about:blank")
+        for browser in (ann, bob):
+            self.assertEqual(browser.errors(), [])
+            self.assertTrue(browser.evaluate("window.hit === undefined"))
+            browser.open("about:blank")
 
     def at(self, browser: Browser, place: str, seconds: float = 3) -> None:
         browser.wait_until(f"{PLACE} === arguments[0]", seconds, place)
@@ -128,10 +128,10 @@ class Steps(Live):
         self.at(bob, "3 / 3", 1)
         self.assertLess(time.monotonic() - begun, 1)
         self.at(ann, "3 / 3")
-        for it in (ann, bob):
-            self.assertRegex(it.evaluate(SAID), "^Ann: step main deliver 1")
-            self.assertEqual((it.text("#event"), it.text("#who")), ("deliver 1", "by Ann"))
-            self.assertEqual(it.count("#tables [data-node=b] [data-state='1.1'].same"), 1)
+        for browser in (ann, bob):
+            self.assertRegex(browser.evaluate(SAID), "^Ann: step main deliver 1")
+            self.assertEqual((browser.text("#event"), browser.text("#who")), ("deliver 1", "by Ann"))
+            self.assertEqual(browser.count("#tables [data-node=b] [data-state='1.1'].same"), 1)
         bob.wait_until("/2 people/.test(document.querySelector('#people').textContent)", 3)
 
     def test_a_frame_is_lost_by_its_button(self) -> None:
@@ -201,9 +201,9 @@ class Steps(Live):
             it.evaluate(f"{LISTEN} || document.activeElement.blur()")
         self.click(bob, "deliver 1")
         self.at(ann, "1 / 3")
-        for it, said in ((ann, "main: 1 event since, by Bob"), (bob, "event 3 of 3: deliver 1: taken 1, by Bob")):
-            it.wait_until("window.said.length", 3)
-            self.assertEqual(it.evaluate("window.said"), [said])
+        for browser, said in ((ann, "main: 1 event since, by Bob"), (bob, "event 3 of 3: deliver 1: taken 1, by Bob")):
+            browser.wait_until("window.said.length", 3)
+            self.assertEqual(browser.evaluate("window.said"), [said])
         self.click(bob, "retry a")
         bob.wait_until("window.said.length === 2", 3)
         self.assertRegex(bob.evaluate("window.said")[1], "^retry a. .*waits for no bulk update")
@@ -369,9 +369,9 @@ class Looks(Live):
         # (from the last one the focus goes to the browser's own buttons, and from there to the first one)
         for _ in range(len(wanted) + 2):
             ann.keys("Tab")
-            it = ann.evaluate(FOCUSED)
-            reached.add(it)
-            self.assertTrue(not it or ann.evaluate(SEES_FOCUS), it)
+            focused = ann.evaluate(FOCUSED)
+            reached.add(focused)
+            self.assertTrue(not focused or ann.evaluate(SEES_FOCUS), focused)
         self.assertEqual([it for it in wanted if it not in reached], [])
 
     def prepare(self) -> None:
@@ -415,19 +415,19 @@ class Ends(Live):
     def test_a_bridge_that_is_killed(self) -> None:
         self.come_counted()
         self.served.end(signal.SIGKILL)
-        for it in (ann, bob):
-            it.wait_until(f"{BANNERS}.some(it => /connection is lost/.test(it))", 5)
-            it.errors()
+        for browser in (ann, bob):
+            browser.wait_until(f"{BANNERS}.some(it => /connection is lost/.test(it))", 5)
+            browser.errors()
         begun = time.monotonic()
         bob.wait_until("window.sources.length === 3", 10)
         # Two tries to connect again are two lines of the console, more than a second apart.
         self.assertGreater(time.monotonic() - begun, 2)
-        for it in (ann, bob):
-            found = it.errors()
+        for browser in (ann, bob):
+            found = browser.errors()
             self.assertLessEqual(len(found), 3)
             self.assertEqual([one for one in found if "ERR_CONNECTION_REFUSED" not in one], [])
-            it.keys_at("#slider", "Home", "ArrowRight")
-            self.at(it, "1 / 2")
+            browser.keys_at("#slider", "Home", "ArrowRight")
+            self.at(browser, "1 / 2")
         self.go(ann, "main/2")
         self.assertEqual(ann.count("button[data-event]"), 0)
         ann.click("#undo")
@@ -437,9 +437,10 @@ class Ends(Live):
 
     def test_a_bridge_that_is_stopped_says_so_and_is_not_asked_again(self) -> None:
         self.served.end(signal.SIGINT)
-        for it in (ann, bob):
-            it.wait_until(f"{BANNERS}.some(it => /has ended/.test(it))", 5)
-            self.assertEqual(it.evaluate("Array.from(document.querySelectorAll('[data-event]')).filter(it => it.offsetParent).length"), 0)
+        for browser in (ann, bob):
+            browser.wait_until(f"{BANNERS}.some(it => /has ended/.test(it))", 5)
+            shown = "Array.from(document.querySelectorAll('[data-event]')).filter(it => it.offsetParent).length"
+            self.assertEqual(browser.evaluate(shown), 0)
 
 
 if __name__ == "__main__":

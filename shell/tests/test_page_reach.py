@@ -30,11 +30,11 @@ class Reach(PageCase):
         reached: List[str] = []
         for _ in range(len(wanted) + 5):
             self.browser.keys("Tab")
-            it = self.browser.evaluate(FOCUSED)
-            if not it or it in reached:
+            focused = self.browser.evaluate(FOCUSED)
+            if not focused or focused in reached:
                 break
-            reached.append(it)
-            self.assertTrue(self.browser.evaluate(SEES_FOCUS), it)
+            reached.append(focused)
+            self.assertTrue(self.browser.evaluate(SEES_FOCUS), focused)
         self.assertEqual([it for it in wanted if it not in reached], [])
         self.assertEqual(self.browser.count("[tabindex]:not([tabindex='0']):not([tabindex='-1'])"), 0)
 
@@ -48,7 +48,7 @@ class Reach(PageCase):
         self.open(RUN, "#main/2")
         self.browser.evaluate(LISTEN)
         said = ["event 3 of 4: deliver 1: taken 1", "event 4 of 4: tick b 500: clock 500"]
-        for at, it in enumerate(said, 1):
+        for at, words in enumerate(said, 1):
             self.browser.click("#forward")
             self.browser.wait_until("window.said.length === arguments[0]", 5, at)
             self.assertEqual(self.browser.evaluate("window.said"), said[:at])

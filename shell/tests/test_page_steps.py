@@ -42,9 +42,9 @@ class Opens(PageCase):
     def test_the_pages_of_the_lessons(self) -> None:
         pages = sorted(glob(f"{TOP}/examples/*.html"))
         self.assertTrue(pages)
-        for it in pages:
-            with self.subTest(it):
-                self.open_file(it)
+        for page in pages:
+            with self.subTest(page):
+                self.open_file(page)
                 self.assertEqual(self.place()[0], 0)
                 self.browser.keys_at("#slider", "End")
                 self.browser.wait_until(f"new Set({page_cases.PLACE}.split(' / ')).size === 1")

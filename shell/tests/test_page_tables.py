@@ -133,8 +133,8 @@ def rest_of(node: Node) -> List[str]:
 @lru_cache(maxsize=None)
 def happened(lab: Laboratory, branch: str) -> List[List[str]]:
     """Each event of a branch that stands, with what came of it in a run of its own."""
-    it = lab.branch(branch)
-    events = it.events[: it.cursor]
+    its = lab.branch(branch)
+    events = its.events[: its.cursor]
     return [[*both] for both in zip(events, lab.outcomes(events))]
 
 
@@ -144,13 +144,13 @@ def expected(lab: Laboratory, branch: str, moment: int) -> Dict[str, Any]:
     for name in NODES:
         node = pair.nodes[name]
         told[name] = {
-            str(it.name): {
-                "kind": kind_of(it, pair, name, setup),
-                "flow": f"{it.name} {flow(it)}",
-                "levels": levels(it),
-                "small": small_of(it, node, setup),
+            str(state.name): {
+                "kind": kind_of(state, pair, name, setup),
+                "flow": f"{state.name} {flow(state)}",
+                "levels": levels(state),
+                "small": small_of(state, node, setup),
             }
-            for it in node.states.values()
+            for state in node.states.values()
         }
     said = happened(lab, branch)[moment - 1] if moment else [f"the opening of {branch}", ""]
     return {**told, "frames": sorted(map(str, pair.frames)), "pair": pair, "said": [*said, between_nodes(pair, setup, PLAIN)[0]]}
@@ -189,9 +189,9 @@ class Moments(PageCase):
         self.addCleanup(lab.close)
         self.open(script)
         seen: Dict[int, Any] = {}
-        for it in moments:
-            shown = self.moment(lab, branch, it)
-            self.assertEqual(shown, seen.setdefault(it, shown), f"moment {it}, as it was when it was shown first")
+        for moment in moments:
+            shown = self.moment(lab, branch, moment)
+            self.assertEqual(shown, seen.setdefault(moment, shown), f"moment {moment}, as it was when it was shown first")
         return seen
 
     def test_each_moment_of_examples(self) -> None:
@@ -244,11 +244,11 @@ class Unknown(PageCase):
         made = run_of(program(), lines_of(RUN), "run")
         run: Dict[str, Any] = made.as_data()
         made.close()
-        for it in run["branches"][0]["moments"][1:3]:
-            it["edits"] = None
+        for unseen in run["branches"][0]["moments"][1:3]:
+            unseen["edits"] = None
         path = f"{desk_folder()}/unknown.html"
-        with open(path, "w", encoding="utf-8") as it:
-            it.write(page(run))
+        with open(path, "w", encoding="utf-8") as file:
+            file.write(page(run))
         self.open_file(path, "#main/1")
         self.assertEqual(self.browser.text("#as-of"), "")
         for moment in (2, 3):

@@ -34,18 +34,18 @@ class Pages(unittest.TestCase):
     def test_pictures_are_those_of_the_scripts(self) -> None:
         pictures = glob(f"{TOP}/examples/*.svg")
         self.assertTrue(pictures)
-        for it in pictures:
-            script = lines_of(texts.read(it.replace(".svg", ".pfl")))
-            self.assertEqual(texts.read(it), draw(drawn_from(program(), script, "main"), texts.title_of(script)), it)
+        for picture in pictures:
+            script = lines_of(texts.read(picture.replace(".svg", ".pfl")))
+            self.assertEqual(texts.read(picture), draw(drawn_from(program(), script, "main"), texts.title_of(script)), picture)
 
     def test_pages_of_the_lessons_are_those_of_the_scripts(self) -> None:
         pages = glob(f"{TOP}/examples/*.html")
         self.assertEqual(len(pages), 4)
-        for it in pages:
-            path = it.replace(".html", ".pfl")
+        for written in pages:
+            path = written.replace(".html", ".pfl")
             with closing(run_of(program(), lines_of(texts.read(path)), os.path.basename(path))) as run:
-                is_same = read(it) == page_of(run.as_data())
-            self.assertTrue(is_same, f"{it}: ./lab page writes it otherwise")
+                is_same = read(written) == page_of(run.as_data())
+            self.assertTrue(is_same, f"{written}: ./lab page writes it otherwise")
 
     def test_lists_of_the_shells_words_are_what_its_help_says(self) -> None:
         ran = subprocess.run((sys.executable, f"{TOP}/docs/words.py", "--check"), capture_output=True, text=True, timeout=20)

@@ -46,39 +46,39 @@ class Choice(unittest.TestCase):
 class Shown(unittest.TestCase):
     def terminal(self, *words: str, **more: str) -> Terminal:
         its = {"PFL_LAB": program(), "PFL_LAB_HISTORY": "", "NO_COLOR": "1", **more}
-        it = Terminal([sys.executable, f"{TOP}/lab", *words], its, columns=80, rows=12)
-        self.addCleanup(it.close)
-        return it
+        terminal = Terminal([sys.executable, f"{TOP}/lab", *words], its, columns=80, rows=12)
+        self.addCleanup(terminal.close)
+        return terminal
 
     def test_a_long_answer_of_a_dialogue(self) -> None:
-        it = self.terminal("shell", PAGER=THREE, LESS="FRX")
-        it.wait_for("setup>")
-        it.type("help\r")
-        rows = it.wait(lambda rows: rows[-1] == "setup>" and len(rows) > 2)
+        terminal = self.terminal("shell", PAGER=THREE, LESS="FRX")
+        terminal.wait_for("setup>")
+        terminal.type("help\r")
+        rows = terminal.wait(lambda rows: rows[-1] == "setup>" and len(rows) > 2)
         self.assertEqual(rows[2], "Setup, up to `open`")
         self.assertEqual(rows[5:], ["FRX", "setup>"])
         # What fits is printed.
-        it.type("help quit\r")
-        rows = it.wait(lambda rows: rows[-1] == "setup>" and len(rows) > 8)
+        terminal.type("help quit\r")
+        rows = terminal.wait(lambda rows: rows[-1] == "setup>" and len(rows) > 8)
         self.assertEqual(rows[7:], ["quit", "  ends the shell, as the end of input does", "setup>"])
 
     def test_less_has_its_options(self) -> None:
         with mock.patch.dict(os.environ):
             os.environ.pop("LESS", None)
-            it = self.terminal("chart", f"{TOP}/examples/failover-in-mid-stream.pfl", PAGER="echo $LESS $LV")
-            it.wait(lambda rows: rows[0] == "FRX -c")
+            terminal = self.terminal("chart", f"{TOP}/examples/failover-in-mid-stream.pfl", PAGER="echo $LESS $LV")
+            terminal.wait(lambda rows: rows[0] == "FRX -c")
 
     def test_a_pager_that_is_not_there_hides_nothing(self) -> None:
-        it = self.terminal("chart", f"{TOP}/examples/failover-in-mid-stream.pfl", PAGER="no-such-pager")
-        it.wait(lambda rows: any("b (boot 2)" in row for row in rows))
+        terminal = self.terminal("chart", f"{TOP}/examples/failover-in-mid-stream.pfl", PAGER="no-such-pager")
+        terminal.wait(lambda rows: any("b (boot 2)" in row for row in rows))
 
     def test_an_interrupt_is_for_the_pager(self) -> None:
-        it = self.terminal("shell", PAGER="trap 'echo ended; exit' INT; echo begun; while :; do sleep 0.1; done")
-        it.wait_for("setup>")
-        it.type("help\r")
-        it.wait(lambda rows: "begun" in rows)
-        it.type("\x03")
-        rows = it.wait(lambda rows: rows[-1] == "setup>" and len(rows) > 2)
+        terminal = self.terminal("shell", PAGER="trap 'echo ended; exit' INT; echo begun; while :; do sleep 0.1; done")
+        terminal.wait_for("setup>")
+        terminal.type("help\r")
+        terminal.wait(lambda rows: "begun" in rows)
+        terminal.type("\x03")
+        rows = terminal.wait(lambda rows: rows[-1] == "setup>" and len(rows) > 2)
         self.assertEqual(rows[-2].replace("^C", ""), "ended")
 
     def test_elsewhere_there_is_none(self) -> None:

@@ -13,10 +13,10 @@ BLOCK = 65536
 
 def ran(*words: str, given: bytes = b"") -> "subprocess.CompletedProcess[bytes]":
     """What the program gives with these words; its input is a file, of which it gets whole blocks."""
-    with tempfile.TemporaryFile() as it:
-        it.write(given)
-        it.seek(0)
-        return subprocess.run((program(), *words), stdin=it, capture_output=True, timeout=60)
+    with tempfile.TemporaryFile() as file:
+        file.write(given)
+        file.seek(0)
+        return subprocess.run((program(), *words), stdin=file, capture_output=True, timeout=60)
 
 
 class Words(unittest.TestCase):
@@ -39,8 +39,8 @@ class Words(unittest.TestCase):
             "serve --port 4000 --port 4001",
         ):
             with self.subTest(words):
-                it = ran(*words.split())
-                self.assertEqual((it.returncode, it.stdout, it.stderr[:7]), (2, b"", b"error: "))
+                answer = ran(*words.split())
+                self.assertEqual((answer.returncode, answer.stdout, answer.stderr[:7]), (2, b"", b"error: "))
 
     def test_what_the_first_fault_of_words_is(self) -> None:
         for words, fault in (("fly", b"unrecognized subcommand 'fly'"), ("run now", b"unexpected argument 'now' found")):
@@ -50,16 +50,16 @@ class Words(unittest.TestCase):
     def test_help_is_no_fault(self) -> None:
         for words, first in (("--help", b"A laboratory for a pair of pf firewalls that share states by pfsync\n"), ("serve --help", b"")):
             with self.subTest(words):
-                it = ran(*words.split())
-                self.assertEqual((it.returncode, it.stderr), (0, b""))
-                self.assertTrue(it.stdout.startswith(first))
+                answer = ran(*words.split())
+                self.assertEqual((answer.returncode, answer.stderr), (0, b""))
+                self.assertTrue(answer.stdout.startswith(first))
 
     def test_a_run_goes_on_after_a_faulty_line_and_a_check_counts_the_others(self) -> None:
         script = b"rule a pass out\nopen\n# nothing to undo\nback main 0\nview\nnames\n"
         for word, written in (("run", b"at 0\nbad 3 Unknown\nnames main\n"), ("check", b"line 5 bad 3 Unknown\ngood 2\n")):
             with self.subTest(word):
-                it = ran(word, given=script)
-                self.assertEqual((it.returncode, it.stdout, it.stderr), (1, written, b""))
+                answer = ran(word, given=script)
+                self.assertEqual((answer.returncode, answer.stdout, answer.stderr), (1, written, b""))
 
     def test_words_with_an_empty_script(self) -> None:
         for words in (
@@ -71,8 +71,8 @@ class Words(unittest.TestCase):
             "serve --port=4000 --sessions=3",
         ):
             with self.subTest(words):
-                it = ran(*words.split())
-                self.assertEqual((it.returncode, it.stdout, it.stderr), (1, b"", b"pfl_lab: setup line 0: no open\n"))
+                answer = ran(*words.split())
+                self.assertEqual((answer.returncode, answer.stdout, answer.stderr), (1, b"", b"pfl_lab: setup line 0: no open\n"))
 
 
 def way_back(length: int) -> bytes:
@@ -85,9 +85,9 @@ class Blocks(unittest.TestCase):
         """What is told of lines that begin where so many bytes are left of the first block."""
         setup = b"open\n"
         comment = b"#".ljust(BLOCK - len(setup) - left - 1) + b"\n"
-        it = ran("run", given=setup + comment + lines)
-        self.assertEqual(it.stderr, b"")
-        return it.stdout
+        answer = ran("run", given=setup + comment + lines)
+        self.assertEqual(answer.stderr, b"")
+        return answer.stdout
 
     def test_a_line_ends_at_each_place_about_the_end_of_a_block(self) -> None:
         # (a carriage return is dropped before a line feed alone)
@@ -103,8 +103,8 @@ class Blocks(unittest.TestCase):
                 self.assertEqual(self.told(left, lines), b"at 0\nbad 1 Long\nbad 3 Unknown\n")
 
     def test_a_script_without_commands(self) -> None:
-        it = ran("check", given=b"open\n# the end")
-        self.assertEqual((it.returncode, it.stdout, it.stderr), (0, b"good 0\n", b""))
+        answer = ran("check", given=b"open\n# the end")
+        self.assertEqual((answer.returncode, answer.stdout, answer.stderr), (0, b"good 0\n", b""))
 
 
 if __name__ == "__main__":

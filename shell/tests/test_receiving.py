@@ -64,10 +64,10 @@ class LastUses(unittest.TestCase):
     def last(self, words: str, lines: Sequence[str], clock: int, remaining: int) -> Tuple[int, int]:
         """When an imported state was last used, and when it expires."""
         node = node_b(clock)
-        (it,) = self.came(words, lines, node, (inserted(1, remaining), "imported 0"))
-        assert it
-        node.states[it.state.name] = it.state
-        return it.state.last, expires_at(Setup.of(lines), node, it.state)
+        (came,) = self.came(words, lines, node, (inserted(1, remaining), "imported 0"))
+        assert came
+        node.states[came.state.name] = came.state
+        return came.state.last, expires_at(Setup.of(lines), node, came.state)
 
     def test_what_is_left_of_an_imported_state(self) -> None:
         for lines, clock, remaining, profile, kernel in (
@@ -108,8 +108,8 @@ class LastUses(unittest.TestCase):
 
     def test_rules_are_kept_where_both_have_the_same(self) -> None:
         for lines, rule, kept in ((RULES, "0", 0), (RULES, "1", None), (RULES, "-", None), (OTHER_RULES, "0", None)):
-            (it,) = self.came("", lines, node_b(0), (inserted(1, 60, rule), "imported 0"))
-            self.assertEqual(it and it.state.rule, kept, (lines, rule))
+            (came,) = self.came("", lines, node_b(0), (inserted(1, 60, rule), "imported 0"))
+            self.assertEqual(came and came.state.rule, kept, (lines, rule))
 
     def test_a_merge_is_a_use_by_the_kernel(self) -> None:
         """The class that comes has 30 s, and b's rule none of its own."""
@@ -117,17 +117,18 @@ class LastUses(unittest.TestCase):
             *(("", 10, 80000), ("merge", 10, 80000), ("", 30, 100000), ("", 99, 100000), ("", 0, 70000)),
             *(("expiry", 10, 100000), ("expiry", 0, 100000), ("all", 99, 100000)),
         ):
-            (it,) = self.came(words, RULES, node_b(100000, "1 5000 0 1 0"), (updated(1, remaining), "merged - 0"))
-            self.assertEqual(it and (it.state.last, it.state.timeout_class, it.state.rule), (wanted, "udp.single", 0), (words, remaining))
+            (came,) = self.came(words, RULES, node_b(100000, "1 5000 0 1 0"), (updated(1, remaining), "merged - 0"))
+            found = came and (came.state.last, came.state.timeout_class, came.state.rule)
+            self.assertEqual(found, (wanted, "udp.single", 0), (words, remaining))
 
     def test_unless_both_ends_are_stale(self) -> None:
         held, stale = "1 5000 - 2 1", {"1 0": ("source", "destination"), "2 0": ("destination",), "1 1": ("source",)}
         for levels, ends in stale.items():
             for words, last in (("", 80000), ("expiry", 100000), ("all", 100000)):
-                (it,) = self.came(words, RULES, node_b(100000, held), (updated(1, 10, levels), "merged both 0"))
-                assert it and it.merged
-                self.assertEqual(it.merged.stale, ends)
-                self.assertEqual(it.state.last, 5000 if len(ends) == 2 else last, (levels, words))
+                (came,) = self.came(words, RULES, node_b(100000, held), (updated(1, 10, levels), "merged both 0"))
+                assert came and came.merged
+                self.assertEqual(came.merged.stale, ends)
+                self.assertEqual(came.state.last, 5000 if len(ends) == 2 else last, (levels, words))
 
     def test_an_update_of_what_the_frame_has_brought(self) -> None:
         """It finds the rule that the state got, by which it has 5 s."""

@@ -130,21 +130,21 @@ class Seated(AtPage):
 
     def test_who_watches_sees_all_and_steps_nothing(self) -> None:
         door = self.live(PACKET)
-        it = self.seat(door, "Ann", "watch")
+        guest = self.seat(door, "Ann", "watch")
         refusal = "the page answers: this address is for watching, not for stepping"
         self.assertEqual(self.heard, ["connected to the page: 1 command so far; this address is for watching, not for stepping, and nobody sees your name"])
-        self.assertEqual(self.said(it, "flush a"), [refusal])
+        self.assertEqual(self.said(guest, "flush a"), [refusal])
         self.step(door, "step main flush a", "Bob")
-        self.assertEqual(self.said(it, "names"), ["names main", "[Bob] step main flush a -> sent 1 148"])
-        self.assertIn("log main", self.said(it, "log")[0].replace("main:", "log main"))
+        self.assertEqual(self.said(guest, "names"), ["names main", "[Bob] step main flush a -> sent 1 148"])
+        self.assertIn("log main", self.said(guest, "log")[0].replace("main:", "log main"))
         self.assertEqual(len(self.page(door)["branches"][0]["moments"]), 2)
 
     def test_faulty_lines_and_questions_to_a_server(self) -> None:
-        it = self.seat(self.live())
-        self.assertEqual(self.said(it, "step main flush")[0], "bad 4 Missing")
-        self.assertEqual(self.said(it, "frob")[0], "bad 3 Unknown")
-        self.assertEqual(self.said(it, "summary"), ["`summary` asks a server; here `view` shows the pair"])
-        self.assertRegex(self.said(it, "follow 0")[0], "^this shell follows the server's journal already")
+        guest = self.seat(self.live())
+        self.assertEqual(self.said(guest, "step main flush")[0], "bad 4 Missing")
+        self.assertEqual(self.said(guest, "frob")[0], "bad 3 Unknown")
+        self.assertEqual(self.said(guest, "summary"), ["`summary` asks a server; here `view` shows the pair"])
+        self.assertRegex(self.said(guest, "follow 0")[0], "^this shell follows the server's journal already")
 
     def test_many_who_step_have_one_pair(self) -> None:
         door = self.live()
@@ -174,18 +174,18 @@ class Seated(AtPage):
         door = self.live()
         watcher = self.watcher(door)
         self.assertEqual(watcher.next(), {"people": 1})
-        it = self.seat(door)
+        guest = self.seat(door)
         self.assertEqual(watcher.next(), {"people": 2})
-        it.lab.close()
+        guest.lab.close()
         self.assertEqual(watcher.next(), {"people": 1})
 
     def test_the_end_of_the_page_comes_to_all(self) -> None:
         door = self.live()
-        it = self.seat(door)
+        guest = self.seat(door)
         door.bridge.end("the page is no longer served: its bridge was stopped")
         with self.assertRaisesRegex(Ended, "^the page is no longer served: its bridge was stopped$"):
-            self.shared(it).hear(PROMPT)
-            self.shared(it).hear(PROMPT)
+            self.shared(guest).hear(PROMPT)
+            self.shared(guest).hear(PROMPT)
 
 
 class Named(AtPage):
@@ -445,9 +445,9 @@ class Doors(AtPage):
                 guest.come(PROMPT)
 
     def guest(self, text: str) -> Journal:
-        it = Journal(Page(Address(self.once(text), "x")))
-        self.addCleanup(it.messages.close)
-        return it
+        journal = Journal(Page(Address(self.once(text), "x")))
+        self.addCleanup(journal.messages.close)
+        return journal
 
     def once(self, text: str) -> int:
         """The port at which whoever comes first is answered with a text."""

@@ -47,13 +47,13 @@ class Seminar(unittest.TestCase):
         return [it.split()[0] for it in lines[:2]]
 
     def shell(self, *words: str) -> Terminal:
-        it = Terminal([sys.executable, f"{TOP}/lab", "shell", *words], MORE, columns=132, rows=40)
-        self.ends.callback(it.close)
-        return it
+        terminal = Terminal([sys.executable, f"{TOP}/lab", "shell", *words], MORE, columns=132, rows=40)
+        self.ends.callback(terminal.close)
+        return terminal
 
-    def note(self, it: Terminal, text: str) -> None:
+    def note(self, terminal: Terminal, text: str) -> None:
         """Waits for a note above the prompt."""
-        it.wait(lambda rows: rows[-2:-1] == [text])
+        terminal.wait(lambda rows: rows[-2:-1] == [text])
 
     def test_who_comes_late_leaves_and_returns(self) -> None:
         step, watch = self.page()

@@ -68,10 +68,10 @@ class Turned(Served):
             self.proved.process.send_signal(signal.SIGCONT)
 
     def stranger(self, port: int) -> socket.socket:
-        it = socket.create_connection(("127.0.0.1", port), PROMPT)
-        it.setsockopt(socket.IPPROTO_TCP, socket.TCP_NODELAY, 1)
-        self.ends.callback(it.close)
-        return it
+        connection = socket.create_connection(("127.0.0.1", port), PROMPT)
+        connection.setsockopt(socket.IPPROTO_TCP, socket.TCP_NODELAY, 1)
+        self.ends.callback(connection.close)
+        return connection
 
     def assert_shut(self, stranger: socket.socket) -> None:
         """That nothing is answered, and that the connection is shut although its other end is open."""
@@ -128,9 +128,9 @@ class Requests(Turned):
         """That a request which comes piece by piece, each after some seconds of silence, has used its seat up, and does nothing else."""
         port = self.serve()
         stranger = self.stranger(port)
-        for it in pieces:
+        for piece in pieces:
             time.sleep(silence)
-            stranger.sendall(it)
+            stranger.sendall(piece)
         # (it is answered once both seats are taken)
         client = self.client(port)
         self.assert_nothing_taken([client])
@@ -217,9 +217,9 @@ class Requests(Turned):
         port = self.serve()
         strangers = [self.stranger(port) for _ in range(2)]
         time.sleep(LONGER)
-        for it in strangers:
-            it.sendall(request())
-            self.assert_shut(it)
+        for stranger in strangers:
+            stranger.sendall(request())
+            self.assert_shut(stranger)
         self.assertEqual(self.end(), End(["closed 0"], [REPORT] * 2, 0))
 
     def test_what_is_no_request(self) -> None:

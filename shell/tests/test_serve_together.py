@@ -57,33 +57,33 @@ class Turns(Served):
     def test_each_is_served_while_the_others_are(self) -> None:
         # (a service of one to its end before the other would keep one of them waiting)
         callers = self.callers(self.serve(2), 2)
-        for it in callers * 3:
-            it.send("names\n")
-            self.assert_heard(it, ["names main"])
+        for caller in callers * 3:
+            caller.send("names\n")
+            self.assert_heard(caller, ["names main"])
 
     def test_they_count_in_the_order_in_which_they_came(self) -> None:
         one, two = self.callers(self.serve(2), 2)
-        for it, said, answers in ((two, "fly\nnames\n", ["bad 3 Unknown", "names main"]), (one, "names\n", ["names main"])):
-            it.send(said)
-            self.assert_heard(it, answers)
+        for caller, said, answers in ((two, "fly\nnames\n", ["bad 3 Unknown", "names main"]), (one, "names\n", ["names main"])):
+            caller.send(said)
+            self.assert_heard(caller, answers)
         one.say("follow 0\n")
         self.assertEqual(one.rest().splitlines(), ["following 0", "entry 1 2 names", "entry 2 1 names", "followed 2"])
 
     def test_one_ends_before_another(self) -> None:
         one, two = self.callers(self.serve(2), 2)
-        for it in (one, two):
-            it.say("names\n")
-            self.assertEqual(it.rest(), "names main\n")
+        for caller in (one, two):
+            caller.say("names\n")
+            self.assertEqual(caller.rest(), "names main\n")
         self.assertEqual(self.end(), End.after(2))
 
     def test_one_pauses_after_it_followed(self) -> None:
-        [it] = self.callers(self.serve(1), 1)
-        it.send("follow\n")
-        self.assert_heard(it, ["following 0"])
+        [caller] = self.callers(self.serve(1), 1)
+        caller.send("follow\n")
+        self.assert_heard(caller, ["following 0"])
         for answers in (["followed 0", "view 0 1 0 0 0 0 0 0"], ["view 0 1 0 0 0 0 0 0"]):
             time.sleep(PAUSE)
-            it.send(f"{VIEW}\n")
-            self.assert_heard(it, answers)
+            caller.send(f"{VIEW}\n")
+            self.assert_heard(caller, answers)
 
     def test_one_that_follows_hears_of_another_without_a_word_of_its_own(self) -> None:
         one, two = self.callers(self.serve(2), 2)
@@ -114,10 +114,10 @@ class Turns(Served):
         for _ in range(MOST // TOGETHER):
             one.send("names\n" * TOGETHER)
             self.assert_heard(one, ["names main"] * TOGETHER)
-        for it in (two, one):
-            it.say(f"names\n{VIEW}\nfollow {MOST - 1}\n")
+        for caller in (two, one):
+            caller.say(f"names\n{VIEW}\nfollow {MOST - 1}\n")
             answers = [FULL, f"view {MOST} 1 0 0 0 0 0 0", f"following {MOST - 1}", f"entry {MOST} 1 names", f"followed {MOST}"]
-            self.assertEqual(it.rest().splitlines(), answers)
+            self.assertEqual(caller.rest().splitlines(), answers)
         self.assertEqual(self.end(), End.after(MOST))
 
 

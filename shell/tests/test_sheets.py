@@ -115,8 +115,8 @@ class Both(Room):
             wanted = ["A lost frame. It is ", "sent", " once.", "The query leaves.", "Event 1 of main", "Now it comes.", "Event 3 of main"]
             wanted.append("The end.")
             places, at = [], 0
-            for it in wanted:
-                at = order.index(it, at)
+            for text in wanted:
+                at = order.index(text, at)
                 places.append(at)
             self.assertEqual(places, sorted(places))
 
@@ -267,8 +267,8 @@ class Pieces(unittest.TestCase):
         self.assertGreater(len(its), 2)
         self.assertEqual([its[0].first, its[-1].last], [1, 100])
         self.assertEqual([it.first for it in its[1:]], [it.last + 1 for it in its[:-1]])
-        for it in its:
-            height = float(str(ElementTree.fromstring(it.pictures[1]).get("height")))
+        for piece in its:
+            height = float(str(ElementTree.fromstring(piece.pictures[1]).get("height")))
             self.assertLessEqual(height, TALLEST + 40)
         self.assertEqual(pieces(drawn(steps())), [])
 

@@ -268,9 +268,9 @@ class Files(Dialogue):
             path = f"{folder}/saved.pfl"
             self.said(shell, "# A story.", *SETUP, QUERY, "quiet", f"save {path}")
             self.assertEqual(self.said(shell, f"verify {path}"), ["1 script: all replies as they say"])
-            with open(path, encoding="utf-8") as it:
+            with open(path, encoding="utf-8") as file:
                 self.assertEqual(
-                    it.read().splitlines()[:6], ["# A story.", *SETUP, f"step main {QUERY}", "#> step pass 1.1 dropped 0"]
+                    file.read().splitlines()[:6], ["# A story.", *SETUP, f"step main {QUERY}", "#> step pass 1.1 dropped 0"]
                 )
 
     def test_comments_that_were_typed_stay_in_what_is_saved(self) -> None:
@@ -640,9 +640,9 @@ class Command(unittest.TestCase):
 
 
 def free_port() -> int:
-    with socket.socket() as it:
-        it.bind(("127.0.0.1", 0))
-        return int(it.getsockname()[1])
+    with socket.socket() as listening:
+        listening.bind(("127.0.0.1", 0))
+        return int(listening.getsockname()[1])
 
 
 class Server(Dialogue):

@@ -48,9 +48,9 @@ class Silent:
 
 class SilentClients(ProvedFollowers):
     def silent(self, port: int) -> Silent:
-        it = Silent(port)
-        self.ends.callback(it.close)
-        return it
+        client = Silent(port)
+        self.ends.callback(client.close)
+        return client
 
     def bytes_of_server(self) -> int:
         with open(f"/proc/{self.proved.process.pid}/status", encoding="ascii") as status:

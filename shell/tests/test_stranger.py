@@ -140,9 +140,9 @@ class Stranger(Clone):
     def test_what_is_printed_works(self) -> None:
         found = [it for page in PAGES for it in commands(page)]
         self.assertEqual({it.page for it in found}, {*PAGES})
-        for it in found:
-            with self.subTest(it.page, line=it.line):
-                (self.serve if it.serves else self.run_it)(it)
+        for dialogue in found:
+            with self.subTest(dialogue.page, line=dialogue.line):
+                (self.serve if dialogue.serves else self.run_it)(dialogue)
 
     def run_it(self, command: Command) -> None:
         """Runs a command to its end. A shell gets what is typed in the tutorial."""

@@ -61,10 +61,10 @@ class Play:
         self.address = self._begin_page(port)
         for who in SHELLS:
             words = [sys.executable, f"{TOP}/lab", "shell", "--port", str(port), "--page", self.address, "--name", who]
-            it = self.terminals[who] = Terminal(words, MORE, columns=132, rows=60)
-            ends.callback(it.close)
-        for it in self.terminals.values():
-            it.wait_for("main 0/0>")
+            terminal = self.terminals[who] = Terminal(words, MORE, columns=132, rows=60)
+            ends.callback(terminal.close)
+        for terminal in self.terminals.values():
+            terminal.wait_for("main 0/0>")
         # How many rows of each were taken.
         self.taken = {who: 1 for who in SHELLS}
 
@@ -92,18 +92,18 @@ class Play:
 
     def _take(self, who: str) -> None:
         """Takes the rows that come to a terminal above its next prompt."""
-        it, taken = self.terminals[who], self.taken[who]
-        rows = it.wait(lambda rows: len(rows) > taken + 1 and bool(PROMPT.fullmatch(f"{rows[-1]} ")))
+        terminal, taken = self.terminals[who], self.taken[who]
+        rows = terminal.wait(lambda rows: len(rows) > taken + 1 and bool(PROMPT.fullmatch(f"{rows[-1]} ")))
         self.taken[who] = len(rows) - 1
         self.rows += [f"{who}  {row}".rstrip() for row in rows[taken:-1]]
 
 
 def played(port: int, text: str, ends: contextlib.ExitStack) -> str:
     """A dialogue as it comes where its lines are typed."""
-    it = Play(port, ends)
+    play = Play(port, ends)
     for turn in turns(text):
-        it.play(turn)
-    return "".join(f"{row}\n" for row in it.rows)
+        play.play(turn)
+    return "".join(f"{row}\n" for row in play.rows)
 
 
 def told() -> Tuple[str, str, str]:

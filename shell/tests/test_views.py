@@ -124,8 +124,8 @@ class Whole(unittest.TestCase):
 
 class States(unittest.TestCase):
     def one(self, line: str) -> Tuple[str, str]:
-        (it,) = shown(line).a.states.values()
-        return flow(it), levels(it)
+        (state,) = shown(line).a.states.values()
+        return flow(state), levels(state)
 
     def test_the_way_of_the_first_packet(self) -> None:
         keys = "192.0.2.9:53 10.0.0.1:1000 192.0.2.9:53 10.0.0.1:1000"
@@ -156,8 +156,8 @@ class States(unittest.TestCase):
             " changed by the peer 1 s ago, no rule",
         ]
         self.assertEqual(lines[:3], expected)
-        (it,) = shown(state(f"tcp in {keys}", ends)).a.states.values()
-        self.assertEqual(sequence(it.source), "[100 + 2000] wscale 3 win 1000")
+        (only,) = shown(state(f"tcp in {keys}", ends)).a.states.values()
+        self.assertEqual(sequence(only.source), "[100 + 2000] wscale 3 win 1000")
 
     def test_the_timeout_of_the_rule(self) -> None:
         line = state("udp out 192.0.2.9:53 10.0.0.1:1000 192.0.2.9:53 10.0.0.1:1000")

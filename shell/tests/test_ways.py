@@ -42,12 +42,12 @@ def lines(way: Way) -> List[str]:
 
 def after(kernel: Kernel, now: Optional[State], packets: Sequence[PacketEvent]) -> Optional[State]:
     """The state after packets; nothing if one is dropped."""
-    for it in packets:
+    for packet in packets:
         if now is None:
-            source, destination, timeout_class = started(kernel, it)
-            now = replace(state((source, destination), it.protocol), timeout_class=timeout_class)
+            source, destination, timeout_class = started(kernel, packet)
+            now = replace(state((source, destination), packet.protocol), timeout_class=timeout_class)
         else:
-            now = moved(kernel, now, it, 0)
+            now = moved(kernel, now, packet, 0)
             if now is None:
                 return None
     return now
@@ -207,8 +207,8 @@ class ByTheProgram(unittest.TestCase):
                     way = way_to(kernel, "a", None, wanted(ends))
                     self.assertEqual(way.missed, "")
                     ran = run_lines(program(), [*setup, *(f"step main {it}" for it in lines(way)), "show main"])
-                    (it,) = read_shown(ran.replies[-1]).a.states.values()
-                    self.assertEqual((it.source, it.destination), ends)
+                    (state,) = read_shown(ran.replies[-1]).a.states.values()
+                    self.assertEqual((state.source, state.destination), ends)
 
 
 def begun(chance: random.Random) -> PacketEvent:

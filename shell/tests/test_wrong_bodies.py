@@ -111,9 +111,9 @@ class Together(unittest.TestCase):
             checks, alone = self.tool["together"](bodies, f"{TOP}/crates/{crate}")
             tried = [body for it in checks for body in it.functions]
             self.assertEqual(sorted((*tried, *alone)), sorted(bodies))
-            for it in checks:
-                self.assertEqual(len(set(it.functions.values())), len(it.functions))
-                self.assertTrue(2 <= len(it.functions) <= self.tool["MOST_TOGETHER"])
+            for check in checks:
+                self.assertEqual(len(set(check.functions.values())), len(check.functions))
+                self.assertTrue(2 <= len(check.functions) <= self.tool["MOST_TOGETHER"])
 
     def test_only_what_a_function_says_itself_refuses_its_body(self) -> None:
         of = self.tool["refused"]
