@@ -55,7 +55,7 @@ class MeasuredRun:
 
     def send(self, lines: Sequence[str], wanted: Sequence[str], commands: int) -> Cost:
         """Sends lines and waits for the replies, which must be those wanted; returns what that took, for this many commands."""
-        left = memoryview("".join(f"{it}\n" for it in lines).encode())
+        left = memoryview("".join(f"{line}\n" for line in lines).encode())
         before, nap = self.taken(0), 0.0005
         while left or not self.waits():
             left = left[self.give(left) :]

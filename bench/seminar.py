@@ -49,7 +49,7 @@ class Served:
         self.had: List[str] = []
 
     def give(self, lines: Iterable[str]) -> None:
-        self.connection.sendall("".join(f"{it}\n" for it in lines).encode())
+        self.connection.sendall("".join(f"{line}\n" for line in lines).encode())
 
     def reply(self) -> str:
         return self.replies.readline().rstrip("\n")
@@ -118,7 +118,7 @@ class Replay:
 
     def take(self, lines: List[str]) -> List[str]:
         """The replies to commands of one line each."""
-        self.lines.write("".join(f"{it}\n" for it in lines))
+        self.lines.write("".join(f"{line}\n" for line in lines))
         self.lines.flush()
         return [self.replies.readline().rstrip("\n") for _ in lines]
 
@@ -203,7 +203,7 @@ def main() -> int:
     new, kept = options.sessions * options.commands, (server.kilobytes() - before) * 1024
     print(f"| {options.sessions} sessions of {options.commands:,} commands | {seconds:.1f} s, {seconds / new * 1e6:.1f} µs a command |")
     print(f"| memory of the server for {new:,} entries | {kept / 1e6:.1f} MB, {kept / new:.1f} bytes an entry |")
-    entries = sum(len(it.had) for it in server.sessions)
+    entries = sum(len(session.had) for session in server.sessions)
     began = time.monotonic()
     good = agree(server, replay, entries)
     print(f"| the journal followed and replayed | {time.monotonic() - began:.1f} s, {'all replies are the same' if good else 'A REPLY DIFFERS'} |")

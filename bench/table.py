@@ -27,12 +27,12 @@ class Table:
         print(f"bench: {load} at {states:,}: {what}: {cost.commands:,} at {figures}", file=sys.stderr, flush=True)
 
     def text(self) -> str:
-        many = [f"{it:,}" for it in self.states]
+        many = [f"{state:,}" for state in self.states]
         heads = [f"{what} {it}" for what in ("µs a command at", "seconds at", "MB at") for it in many]
         lines = [self.line("Load", "Command", *heads, f"bytes kept at {many[-1]}"), "|---" * (len(heads) + 3) + "|"]
         for (load, what), costs in self.rows.items():
             if load not in STATES_OF:
-                cells = [self.cell(show, costs.get(it)) for show in (self.each, self.all, self.most) for it in self.states]
+                cells = [self.cell(show, costs.get(state)) for show in (self.each, self.all, self.most) for state in self.states]
                 lines.append(self.line(load, what, *cells, self.cell(self.kept, costs.get(self.states[-1]))))
         return "\n".join(lines + self.alone()) + "\n"
 

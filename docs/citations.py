@@ -93,7 +93,7 @@ def sources() -> List[Source]:
 @functools.lru_cache(maxsize=None)
 def passed_on() -> Dict[Place, str]:
     """The path of each name that a file passes on."""
-    return {(it.module, name): it.imports[name] for it in sources() for name in it.passes}
+    return {(source.module, name): source.imports[name] for source in sources() for name in source.passes}
 
 
 @functools.lru_cache(maxsize=None)

@@ -26,7 +26,7 @@ def passed_on(crate: str) -> Dict[str, str]:
     """The crates whose specs a crate passes on, by the names that it gives to them."""
     path = CRATES / crate / "specs/Lib.antt"
     lines = PASSES.finditer(path.read_text()) if path.exists() else ()
-    return {it["name"]: _reached_by(it["crate"], (it["aliases"] or "").split(".")) for it in lines}
+    return {line["name"]: _reached_by(line["crate"], (line["aliases"] or "").split(".")) for line in lines}
 
 
 def _reached_by(crate: str, aliases: Iterable[str]) -> str:
@@ -101,7 +101,7 @@ def _definitions(lines: List[str]) -> Iterator[Tuple[str, List[str]]]:
         if head:
             while at < len(lines) and lines[at].strip() and not STARTS.match(lines[at]):
                 at += 1
-            yield head["name"], [it for it in lines[start:at] if not it.lstrip().startswith("--")]
+            yield head["name"], [line for line in lines[start:at] if not line.lstrip().startswith("--")]
 
 
 @functools.lru_cache(maxsize=None)
@@ -124,7 +124,7 @@ def all_definitions() -> Dict[Place, Definition]:
 
 def places_of(crate: str, name: str) -> List[Place]:
     """Where a crate has a definition of the name."""
-    return [it for it in all_definitions() if it[1] == name and it[0].startswith(f"{crate}.")]
+    return [definition for definition in all_definitions() if definition[1] == name and definition[0].startswith(f"{crate}.")]
 
 
 def reached(roots: Iterable[Place]) -> Set[Place]:
@@ -141,5 +141,5 @@ def reached(roots: Iterable[Place]) -> Set[Place]:
 
 def size(places: Iterable[Place]) -> Tuple[int, int]:
     """How many definitions there are, and how many lines they have."""
-    lines = [len(all_definitions()[it].lines) for it in places]
+    lines = [len(all_definitions()[place].lines) for place in places]
     return len(lines), sum(lines)

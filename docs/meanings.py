@@ -40,7 +40,7 @@ def _cases(place: Place) -> Iterator[re.Match[str]]:
 
 def words() -> Dict[str, str]:
     """The words of events in lines."""
-    cases = (case for it in WORDS for place in definitions.places_of(*it) for case in _cases(place))
+    cases = (case for word in WORDS for place in definitions.places_of(*word) for case in _cases(place))
     return {case["event"]: case["said"].split('"')[1] for case in cases if '"' in case["said"]}
 
 

@@ -191,7 +191,7 @@ def of_file(path: Path) -> List[Fault]:
 
 
 def main(words: List[str]) -> int:
-    paths = [Path(it) for it in words] or [it for it in (TOP / name for name in DOCUMENTS) if it.exists()]
+    paths = [Path(word) for word in words] or [it for it in (TOP / name for name in DOCUMENTS) if it.exists()]
     status = 0
     for path in paths:
         for fault in of_file(path):

@@ -181,7 +181,7 @@ def impl_head(lines: List[str], at: int) -> str:
     start = at
     while start > 0 and lines[start].startswith((">", " ")):
         start -= 1
-    head, angles = " ".join(it.strip() for it in lines[start : at + 1]).split("{")[0], re.compile(r"<[^<>]*>")
+    head, angles = " ".join(line.strip() for line in lines[start : at + 1]).split("{")[0], re.compile(r"<[^<>]*>")
     while angles.search(head):
         head = angles.sub("", head)
     return head
@@ -274,7 +274,7 @@ def shown_on(page: Path) -> Set[Place]:
 def cited_by(family: str, name: str) -> Set[Place]:
     """The definitions that a function's clauses cite."""
     _path, lines, at = find_function(family, name)
-    clauses = "\n".join(it for it in lines[at:body_start(lines, at)] if CLAUSE.match(it) or it.startswith("        "))
+    clauses = "\n".join(line for line in lines[at:body_start(lines, at)] if CLAUSE.match(line) or line.startswith("        "))
     return {it for it in definitions.Scope.of(lines).cited(clauses) if it in definitions.all_definitions()}
 
 

@@ -101,7 +101,7 @@ def macros(token: str, names: Tuple[str, ...]) -> str:
     if not span:
         return ""
     opened, inner, closed = span.groups()
-    if inner.split()[0] in helps.WORDS and (inner in helps.WORDS or any(it in names for it in inner.split())):
+    if inner.split()[0] in helps.WORDS and (inner in helps.WORDS or any(word in names for word in inner.split())):
         own = form_macros(inner, "Ic")
     elif inner.startswith("--"):
         own = form_macros(inner, "Cm")

@@ -73,7 +73,7 @@ def instrumented(top: str, room: str) -> str:
     with open(f"{room}/build.log", "w", encoding="utf-8") as log:
         libraries = [f"{kit}/c/libos_c.a", f"{kit}/c/liblibc_c.a", RUNTIME, "-lm", "-lpthread", "-ldl"]
         commands = ([*words, "-o", f"{program}.o"], ["cc", "-o", program, f"{program}.o", *libraries])
-        ran = (subprocess.run(it, cwd=f"{top}/crates/{NAME}", stdout=log, stderr=log) for it in commands)
+        ran = (subprocess.run(command, cwd=f"{top}/crates/{NAME}", stdout=log, stderr=log) for command in commands)
         is_built = not any(it.returncode for it in ran)
     if not is_built:
         raise Missing(f"the program could not be built for AFL++; the compilers' output is in {room}/build.log")
@@ -130,7 +130,7 @@ def write_corpus(top: str, folder: str) -> None:
     os.makedirs(folder)
     for number, script in enumerate(corpus(top)):
         lines = [it for it in (*script.setup, *script.commands) if it and not it.startswith("#")]
-        text = "".join(f"{it}\n" for it in lines)
+        text = "".join(f"{line}\n" for line in lines)
         if len(text) <= LONGEST_SCRIPT:
             with open(f"{folder}/{number}.pfl", "w", encoding="latin-1", newline="") as it:
                 it.write(text)

@@ -31,7 +31,7 @@ class Draft:
         self.setup, self.commands = list(script.setup), script.commands[:MOST_COMMANDS]
         if chance.random() < 0.8:
             self.setup = [it for it in self.setup if not it.startswith("#")]
-            self.commands = [it for it in self.commands if not it.startswith("#")]
+            self.commands = [command for command in self.commands if not command.startswith("#")]
 
     def text(self) -> str:
         return "".join(f"{line}\n" for line in (*self.setup, *self.commands[:MOST_COMMANDS]))
@@ -111,7 +111,7 @@ class Draft:
         lines = [f"flush {node}" for node in NODES] + [f"deliver {it}" for it in range(1, self.chance.choice((4, 9, 15)))]
         if self.chance.random() < 0.3:
             lines += [f"restart {self.chance.choice(NODES)}", *lines, "turn a", "turn b", *lines]
-        self.commands[at:at] = [f"step {name} {it}" for it in lines if self.chance.random() < 0.9]
+        self.commands[at:at] = [f"step {name} {line}" for line in lines if self.chance.random() < 0.9]
 
     def add_flows(self) -> None:
         """Packets of many flows, so that tables fill up; some come again while states are killed."""

@@ -71,7 +71,7 @@ def with_few_runs(text: str) -> str:
 
 def rule(chance: random.Random) -> str:
     """A rule with some of its options, mostly in order."""
-    taken = [_option(chance, it) for it in OPTIONS.values() if chance.random() < 0.15]
+    taken = [_option(chance, option) for option in OPTIONS.values() if chance.random() < 0.15]
     if chance.random() < 0.1:
         chance.shuffle(taken)
     values = (chance.choice(it.words) for it in (NODE, ACTION, RULE_DIRECTION))
@@ -85,5 +85,5 @@ def kernel(chance: random.Random) -> str:
 
 
 def _option(chance: random.Random, option: Option) -> str:
-    values = (chance.choice(BY_NAME.get(it.name) or it.words or FEW) for it in option.values)
+    values = (chance.choice(BY_NAME.get(value.name) or value.words or FEW) for value in option.values)
     return " ".join([option.word, *map(str, values)])

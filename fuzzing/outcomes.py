@@ -21,7 +21,7 @@ def outcome_in(event: str, reply: str) -> str:
     """The outcome in a reply, or the name of the refusal, which must be in the event's row."""
     row = EVENTS[event.split()[0]]
     accepted = re.fullmatch(f"step (.+) dropped {_N}", reply)
-    if accepted and any(re.fullmatch(it.pattern, accepted[1]) for it in row.outcomes):
+    if accepted and any(re.fullmatch(outcome.pattern, accepted[1]) for outcome in row.outcomes):
         return accepted[1]
     refusals = {f"refused {numbered('Event', COMMAND_REFUSALS)} {refused}": name for refused, name in zip(row.refused, row.refusals)}
     if reply not in refusals:

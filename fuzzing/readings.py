@@ -79,11 +79,11 @@ def fault_of_rules(setup: Setup) -> str:
 def _fault_of(rules: Sequence[Rule]) -> Optional[str]:
     if len(rules) > MOST_RULES:
         return "TooMany"
-    if any(it.has(NAT) and it.words[1] != "out" for it in rules):
+    if any(rule.has(NAT) and rule.words[1] != "out" for rule in rules):
         return "NatNotOut"
-    if any(it.most_states == 0 for it in rules):
+    if any(rule.most_states == 0 for rule in rules):
         return "ZeroMax"
-    return "RdrNotIn" if any(it.has(RDR) and it.words[1] != "in" for it in rules) else None
+    return "RdrNotIn" if any(rule.has(RDR) and rule.words[1] != "in" for rule in rules) else None
 
 
 def fault_of_limits(setup: Setup) -> str:

@@ -43,7 +43,7 @@ class Timeline:
             return self.search(line, words[1])
         reply = self.need(line, self.wanted(words[0], words[1:]))
         self.seen[words[0], how(reply[0])] += 1
-        for name in [it for it in self.branches if it in words[1:]]:
+        for name in [branch for branch in self.branches if branch in words[1:]]:
             self.branches[name].compare(self.lab, name, line)
             self.branches[name].compare_log(self.lab, name, line)
         return reply

@@ -35,7 +35,7 @@ class Trial(NamedTuple):
         compare_runs("check", Ran(reading.checked(), reading.reported, reading.status), checked)
         compare_runs("run", Ran(whole.out, reading.reported, reading.status), whole)
         replies = [] if reading.fault else self.replies(reading, seen)
-        compare_runs("run", whole._replace(out="".join(f"{it}\n" for it in replies)), whole)
+        compare_runs("run", whole._replace(out="".join(f"{reply}\n" for reply in replies)), whole)
         chance = random.Random(self.seed)
         word, wanted = chance.choice((("run", whole), ("run", whole), ("check", checked)))
         compare_runs(f"{word}, in pieces", wanted, ran_in_pieces(self.program, word, script, SECONDS, chance))

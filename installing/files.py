@@ -52,7 +52,7 @@ def files(program: str) -> List[File]:
     return [
         File("bin/pfl_lab", RUNNABLE, Path(program).read_bytes()),
         File("bin/pfl_shell", RUNNABLE, archive(TOP / "shell", TOP / "page", START)),
-        *(File(f"share/man/man1/{it}.1", READABLE, (TOP / f"docs/man/{it}.1").read_bytes()) for it in COMMANDS),
+        *(File(f"share/man/man1/{command}.1", READABLE, (TOP / f"docs/man/{command}.1").read_bytes()) for command in COMMANDS),
         *completions(),
         *examples(),
         File(DISSECTOR, READABLE, (TOP / "wireshark/pfsync.lua").read_bytes()),

@@ -158,7 +158,7 @@ def uninstall(prefix: str) -> Iterator[str]:
             yield f"left as it is, since it was changed after it was installed: {path}"
     os.unlink(os.path.join(prefix, lists.NAME))
     yield f"removed {os.path.join(prefix, lists.NAME)}"
-    for path in sorted((os.path.normpath(os.path.join(prefix, it)) for it in old.folders), key=len, reverse=True):
+    for path in sorted((os.path.normpath(os.path.join(prefix, folder)) for folder in old.folders), key=len, reverse=True):
         remove_folder(path)
 
 

@@ -39,12 +39,12 @@ class Installed:
         for name, its in other.digests.items():
             for digest in its:
                 found.add(name, digest)
-        found.folders += [it for it in other.folders if it not in found.folders]
+        found.folders += [folder for folder in other.folders if folder not in found.folders]
         return found
 
     def text(self) -> str:
         """The list as in its file; `sha256sum -c` reads it, too."""
-        folders = "".join(f"{FOLDER}{it}\n" for it in self.folders)
+        folders = "".join(f"{FOLDER}{folder}\n" for folder in self.folders)
         return HEAD + folders + "".join(f"{digest}  {name}\n" for name, its in self.digests.items() for digest in sorted(its))
 
 

@@ -191,7 +191,7 @@ class WantedBranch:
         sent = next((at for at, it in enumerate(self.shown) if it.outcome.startswith(f"sent {ticket} ")), None)
         if sent is None:
             return ["refused 11 NoFrame"]
-        frame = next(it for it in self.shown[sent].lines if it.startswith(f"frame {ticket} "))
+        frame = next(line for line in self.shown[sent].lines if line.startswith(f"frame {ticket} "))
         data = frame.split()[3].replace("-", "")
         later = [it for it, event in zip(steps, self.events) if event.split()[0] in OF_FRAME and event.split()[1] == str(ticket)]
         lines = [*steps[sent - 1], frame, *contents(bytes.fromhex(data)), *(line for two in later for line in two)]

@@ -69,7 +69,7 @@ class Tries:
         self.room, self.search = room, search
         self.stand: Tuple[str, ...] = ()
         self.tried = self.asked = 0
-        self.first = self.run_here(tuple(it.uses for it in search.choices), 0, None)
+        self.first = self.run_here(tuple(choice.uses for choice in search.choices), 0, None)
 
     def answer(self) -> List[str]:
         """The reply that the search must get; the branch is as it was."""

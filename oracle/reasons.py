@@ -79,7 +79,7 @@ def _outcome(setup: Setup, packet: PacketEvent, judged: Judged) -> str:
 def _judged(setup: Setup, node: Node, packet: PacketEvent) -> Judged:
     """What the rules make of a packet that no state takes, or in place of a closed state."""
     closed, rules = node.found(packet), setup.rules[packet.node]
-    standing = [it for it in node.states.values() if it is not closed]
+    standing = [state for state in node.states.values() if state is not closed]
     number, name = deciding(rules, packet), closed.name if closed else None
     if number is None:
         return Judged(name, None, "", ())
@@ -101,8 +101,8 @@ def _judged(setup: Setup, node: Node, packet: PacketEvent) -> Judged:
 
 def _with_keys(states: Sequence[State], protocol: str, keys: Keys) -> List[Tuple[str, Name]]:
     """Which key of a new state the states have, those with its wire key first."""
-    found = [("wire", it.name) for it in states if (it.protocol, it.wire) == (protocol, keys.wire)]
-    return found + [("stack", it.name) for it in states if (it.protocol, it.stack) == (protocol, keys.stack)]
+    found = [("wire", state.name) for state in states if (state.protocol, state.wire) == (protocol, keys.wire)]
+    return found + [("stack", state.name) for state in states if (state.protocol, state.stack) == (protocol, keys.stack)]
 
 
 # ---- a frame that comes

@@ -67,9 +67,9 @@ class Search(NamedTuple):
         """Whether the question is asked in a pair."""
         if self.scope and pair.frames:
             return False
-        if self.scope in (QUIET, SETTLED) and any(it.pending or it.serve != "-" for it in pair.nodes.values()):
+        if self.scope in (QUIET, SETTLED) and any(node.pending or node.serve != "-" for node in pair.nodes.values()):
             return False
-        return self.scope != SETTLED or all(it.sync == "-" for it in pair.nodes.values())
+        return self.scope != SETTLED or all(node.sync == "-" for node in pair.nodes.values())
 
     def is_met(self, room: Room, pair: Pair) -> bool:
         """Whether a pair, which the room's branch shows, meets the goal."""
@@ -235,7 +235,7 @@ def compare_walks(room: Room, search: Search, answer: Answer, chance: random.Ran
 def _walk(room: Room, search: Search, most: int, walked: List[str], chance: random.Random) -> Iterator[Pair]:
     """The pairs of a random run of the choices, in which at most this many events are tried; those that are accepted are noted."""
     lab, name = room
-    uses, phase = [it.uses for it in search.choices], 0
+    uses, phase = [choice.uses for choice in search.choices], 0
     pair = pair_of(room)
     yield pair
     for _ in range(most):

@@ -60,7 +60,7 @@ def same_faults(lab: Laboratory) -> List[str]:
 def named(lines: Sequence[str]) -> List[str]:
     """The names of the faults of such groups, each fault by itself."""
     names = [it for head, line in zip(lines, lines[1:]) if HEAD.fullmatch(head) for it in line.strip().split("; ")]
-    return [one for it in names for one in single(it) if not it.startswith("and ")]
+    return [one for name in names for one in single(name) if not name.startswith("and ")]
 
 
 def single(name: str) -> List[str]:
@@ -78,17 +78,17 @@ def faulty(events: Sequence[str], name: str) -> List[Step]:
     found = re.fullmatch(r"(?:(a|b) restarts|the clock of (a|b) advances by 61 s) before event (\d+)", name)
     if found:
         own[int(found[3])].insert(0, (0, ["restart", found[1]] if found[1] else ["tick", found[2], "61000"]))
-        return [it for steps in own for it in steps]
+        return [step for steps in own for step in steps]
     found = re.fullmatch(r"without event (\d+) \(.*\)", name)
     if found:
         own[int(found[1])].clear()
-        return [it for steps in own for it in steps]
+        return [step for steps in own for step in steps]
     found = re.fullmatch(r"frame (\d+) (.*) \((?:event|(sent by) event) (\d+)\)", name)
     if not found:
         raise Differs(f"whatif names a fault that is not known: {name}")
     ticket, what, is_sent, at = found[1], found[2], bool(found[3]), int(found[4])
     _of_frame(own, ticket, what, 0 if is_sent else at, last)
-    return [it for steps in own for it in steps]
+    return [step for steps in own for step in steps]
 
 
 def _of_frame(own: List[List[Step]], ticket: str, what: str, at: int, last: List[Step]) -> None:
@@ -168,7 +168,7 @@ class Replay:
     def follow(self, kind: str) -> None:
         """Sees how packets ended that were held."""
         now = look(self.show())
-        freed, lost = (sum(now.counts[it][which] - self.look.counts[it][which] for it in NODES) for which in (0, 1))
+        freed, lost = (sum(now.counts[node][which] - self.look.counts[node][which] for node in NODES) for which in (0, 1))
         for packet in [it for it in self.waiting if it not in now.held]:
             is_lost = kind == "restart" or not freed or lost and not self.is_acknowledged(packet[1])
             self.run.held[self.waiting.pop(packet)] = "lost" if is_lost else "freed"
@@ -199,8 +199,8 @@ def has_state(outcome: Sequence[str]) -> bool:
 
 def look(shown: Sequence[str]) -> Look:
     words = [line.split() for line in shown]
-    held = {(it[1], it[2]): it[3] for it in words if it[0] == "held"}
-    return Look(held, {it[1]: (int(it[4]), int(it[5])) for it in words if it[0] == "count"})
+    held = {(word[1], word[2]): word[3] for word in words if word[0] == "held"}
+    return Look(held, {word[1]: (int(word[4]), int(word[5])) for word in words if word[0] == "count"})
 
 
 def whole(shown: Sequence[Sequence[str]]) -> Iterator[str]:

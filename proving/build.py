@@ -28,7 +28,7 @@ def made_of(crate: Crate, what: str) -> bool:
         return False
     made = os.stat(f"{crate.folder}/{what}").st_mtime
     files = [f"{TOP}/crates.txt", *(file for it in below(crate.name).values() for file in files_of(it.folder))]
-    return all(os.stat(it).st_mtime <= made for it in files)
+    return all(os.stat(file).st_mtime <= made for file in files)
 
 
 def functions_of(name: str) -> Optional[List[int]]:
@@ -187,7 +187,7 @@ class Build:
             stop([it.process for it in self.running.values()])
 
     def is_ready(self, name: str) -> bool:
-        return not any(it in self.left or it in self.running for it in self.crates[name].libraries)
+        return not any(library in self.left or library in self.running for library in self.crates[name].libraries)
 
     def begin(self) -> None:
         """Begins checks while there are lanes for them, the one with the most expensive chain above it first."""

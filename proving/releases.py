@@ -74,13 +74,13 @@ def sources() -> Iterator[str]:
     yield "HANDLES"
     for crate in below(NAME).values():
         files = (it[len(TOP) + 1 :] for it in files_of(crate.folder) if os.path.isfile(it))
-        yield from (it for it in files if it != STAMP)
+        yield from (file for file in files if file != STAMP)
 
 
 def sources_sum(kit: str) -> str:
     """The sum of the tree's sources, as this kit proves them."""
     lines = [crate.line for crate in below(NAME).values()]
-    files = [f"{sum_of(content_of(it))}  {it}" for it in sorted(sources())]
+    files = [f"{sum_of(content_of(source))}  {source}" for source in sorted(sources())]
     return sum_of("".join(f"{it}\n" for it in (*lines, *files, kit)).encode())
 
 

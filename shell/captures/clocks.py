@@ -117,7 +117,7 @@ def measured(them: Iterable[Both]) -> Measured:
     drift = _slope([_middles(it, 0.0, "") for it in (groups if len(ordered) > _MOST_GROUPS else [[it] for it in ordered])])
     later, error = _later(ordered, drift)
     first = next((sender for sender, its in later.items() if its > 0), "")
-    middles = [_middles(it, drift.slope, first) for it in groups]
+    middles = [_middles(group, drift.slope, first) for group in groups]
     # (what is least late says most of the clocks)
     apart = [it[first].apart - its.apart for it in middles if len(it) == 2 and first in it for sender, its in it.items() if sender != first]
     ways = {it: (1 if it == first else -1) * (median_low(apart) if apart else 0) for it in later} if first else {}
@@ -193,11 +193,11 @@ def _slope(middles: Sequence[Dict[str, _Middle]]) -> _Drift:
     """How much the clocks drift apart: the median of what each two groups say of a sender."""
     slopes: List[float] = []
     for sender in {*chain.from_iterable(middles)}:
-        its = [it[sender] for it in middles if sender in it]
+        its = [middle[sender] for middle in middles if sender in middle]
         apart = [(two.apart - one.apart, two.time - one.time) for one, two in combinations(its, 2)]
         # (those of more are across a moment when a clock was set)
         slopes += [difference / time for difference, time in apart if time >= _LEAST_TIME and abs(difference) < _DRIFT * time]
     found = median(slopes) if slopes else 0.0
     if len(slopes) < _LEAST_SLOPES:
         return _Drift(found, _USUAL_DRIFT)
-    return _Drift(found, _ERROR * median([abs(it - found) for it in slopes]) / len(middles) ** 0.5)
+    return _Drift(found, _ERROR * median([abs(slope - found) for slope in slopes]) / len(middles) ** 0.5)

@@ -146,7 +146,7 @@ class Decoded(NamedTuple):
 
 def _form(layout: Layout, codes: Dict[str, str]) -> str:
     """The bytes of a layout, where only the fields with a code are read."""
-    form = "".join(codes.get(it.name, f"{it.size}x") for it in layout.fields)
+    form = "".join(codes.get(field.name, f"{field.size}x") for field in layout.fields)
     assert struct.calcsize(f">{form}") == layout.size
     return form
 
@@ -166,7 +166,7 @@ _NAME = struct.Struct(f">{_form(NAME, _NUMBERS)}")
 _CLEAR = struct.Struct(f">{_form(CLEAR, _NUMBERS)}")
 _STATUS = struct.Struct(f">{_form(BULK_STATUS, {'creatorid': 'I', 'endtime': 'I'})}")
 assert _SUBHEADER.size == 4
-_SIZES, _END = {it.number: it.layout.size for it in ACTIONS.values()}, END.number
+_SIZES, _END = {action.number: action.layout.size for action in ACTIONS.values()}, END.number
 _KEY_SIZE = 36
 _KEYS = _slice("key[0].addr[2]", 2 * _KEY_SIZE)
 _FAMILY = slice(STATE.at("af"), STATE.at("direction") + 1)

@@ -137,7 +137,7 @@ def _peer(end: End) -> bytes:
 def _addresses(key: Key) -> bytes:
     """The far address and the near one; those of IPv4 take the first 4 of 16 bytes."""
     addresses = (ipaddress.ip_address(end.rpartition(":")[0].strip("[]")) for end in (key.far, key.near))
-    return b"".join(it.packed.ljust(_ADDRESS_SIZE, b"\0") for it in addresses)
+    return b"".join(address.packed.ljust(_ADDRESS_SIZE, b"\0") for address in addresses)
 
 
 def _ports(key: Key) -> bytes:

@@ -113,4 +113,4 @@ class Findings:
 
     @property
     def number(self) -> int:
-        return sum(it.count for it in self.parts.values())
+        return sum(part.count for part in self.parts.values())

@@ -28,12 +28,12 @@ class Layout:
 
     @property
     def size(self) -> int:
-        return sum(it.size for it in self.fields)
+        return sum(field.size for field in self.fields)
 
     def at(self, name: str) -> int:
         """Where a field begins."""
-        names = [it.name for it in self.fields]
-        return sum(it.size for it in self.fields[: names.index(name)])
+        names = [field.name for field in self.fields]
+        return sum(field.size for field in self.fields[: names.index(name)])
 
 
 HEADER = Layout(

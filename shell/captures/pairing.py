@@ -50,7 +50,7 @@ class Overlay:
     def __init__(self, paths: Sequence[str], a: Optional[str] = None):
         # (a pipe can be read only once)
         self._copies: List[IO[bytes]] = []
-        files = [it if os.path.isfile(it) else self._copied(it) for it in paths]
+        files = [path if os.path.isfile(path) else self._copied(path) for path in paths]
         _refuse_the_same(files, paths)
         self.surveys = [surveyed(file, path) for file, path in zip(files, paths)]
         shortest = min(it.shortest for it in self.surveys)
@@ -74,7 +74,7 @@ class Overlay:
     def _period(self, which: int, survey: Survey) -> Tuple[int, int]:
         """From when to when a capture is, by the clock of a. (Where a clock was set back, it does not begin with its earliest time.)"""
         times = survey.first, survey.last, survey.begun, survey.ended
-        by_a = [self.sides.clocks.to_a(it) for it in times] if which else times
+        by_a = [self.sides.clocks.to_a(time) for time in times] if which else times
         return min(by_a), max(by_a)
 
     def _copied(self, path: str) -> str:
@@ -93,7 +93,7 @@ class Overlay:
     @property
     def faults(self) -> List[str]:
         """Where the files could not be read on."""
-        return [it.fault for it in self.surveys if it.fault]
+        return [survey.fault for survey in self.surveys if survey.fault]
 
     @property
     def others(self) -> Dict[str, int]:
@@ -137,7 +137,7 @@ class Overlay:
                 yield tuple.__new__(Sent, (number, entry.time, entry.node, *its, decoded(entry.bytes, entry.length)))
 
     def _compared(self) -> int:
-        return min(it.compared for it in self.surveys)
+        return min(survey.compared for survey in self.surveys)
 
     def _entries(self, which: int) -> Iterator[_Entry]:
         """The messages of a capture, by the clock of a. Where it has most of them twice, each is one; but what comes from the other node

@@ -39,7 +39,7 @@ _DROPPED, _PASSED = 1, 0
 _DIRECTIONS = {1: "in", 2: "out"}
 _NONE = 2**32 - 1
 _FORMS = {1: "B", 4: "I", 16: "16s"}
-_HEADER = struct.Struct(">" + "".join(_FORMS[it.size] for it in HEADER.fields))
+_HEADER = struct.Struct(">" + "".join(_FORMS[field.size] for field in HEADER.fields))
 # What follows the header begins at a multiple of this many bytes.
 _ALIGNED = 4
 

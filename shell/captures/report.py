@@ -73,7 +73,7 @@ def _head(overlay: Overlay, story: Story, times: Times, paint: Paint) -> List[st
     for node, survey, (begin, end) in zip(NODES, overlay.surveys, overlay.covered):
         period = f"from {times.to_second(begin)} to {times.to_second(end)}"
         lines.append(f"{node}: {counted(survey.messages, 'message')} in {survey.name}, {period}")
-    lines += [paint.note(f"{it}; what comes before that counts") for it in overlay.faults]
+    lines += [paint.note(f"{fault}; what comes before that counts") for fault in overlay.faults]
     lines += [_way(node, story, overlay) for node in NODES if sum(story.came[node].values())]
     lines += _oddities(overlay)
     return [*lines, f"times are in {times.zone}" + _clocks(overlay, times)]

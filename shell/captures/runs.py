@@ -44,7 +44,7 @@ class Clocks:
     """The clocks of both nodes, by the events of a run."""
 
     def __init__(self, events: Sequence[str]) -> None:
-        self._after = {node: [*accumulate((_tick(it, node) for it in events), initial=0)] for node in NODES}
+        self._after = {node: [*accumulate((_tick(event, node) for event in events), initial=0)] for node in NODES}
 
     def time(self, node: str, place: int) -> int:
         """The time at a node of the event at this place, counted from 1. Events of one millisecond are a nanosecond apart."""

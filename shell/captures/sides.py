@@ -41,11 +41,11 @@ class Sides(NamedTuple):
 
 def sides(surveys: Sequence[Survey], a: Optional[str]) -> Sides:
     """Which sender is which node. `a` is the address that was given for node a."""
-    if a is not None and not any(a in it.senders for it in surveys):
+    if a is not None and not any(a in survey.senders for survey in surveys):
         raise NoSuchSender(f"no message is from {a}: {_list(_main_senders(surveys, None)) or 'none has an address'}")
-    if len(surveys) == 2 and all(it.is_own for it in surveys):
+    if len(surveys) == 2 and all(survey.is_own for survey in surveys):
         return Sides({}, _OWN, False, Clocks(), 0)
-    if len(surveys) == 2 and any(it.is_own for it in surveys):
+    if len(surveys) == 2 and any(survey.is_own for survey in surveys):
         return _with_one_own(surveys, a)
     if len(surveys) == 2:
         return _of_two(surveys, a)
@@ -68,7 +68,7 @@ def _main_senders(surveys: Sequence[Survey], a: Optional[str]) -> List[str]:
     most = sorted(numbers, key=lambda it: -numbers[it])
     if a:
         return [a, *[it for it in most if it != a][:1]]
-    return [it for it in numbers if it in most[:2]]
+    return [number for number in numbers if number in most[:2]]
 
 
 def _with_one_own(surveys: Sequence[Survey], a: Optional[str]) -> Sides:
@@ -105,7 +105,7 @@ def _of_two(surveys: Sequence[Survey], a: Optional[str]) -> Sides:
     """Both captures are of the link."""
     those = _main_senders(surveys, a)
     _thin(surveys)
-    one, two = (it.kept for it in surveys)
+    one, two = (survey.kept for survey in surveys)
     met = [
         Both(mark[0], its.time, two[mark].time)
         for mark, its in one.items()
@@ -139,7 +139,7 @@ class _Order(NamedTuple):
 
 def _thin(surveys: Sequence[Survey]) -> None:
     """Keeps the same kinds of messages of both captures."""
-    mask = max(it.mask for it in surveys)
+    mask = max(survey.mask for survey in surveys)
     for it in surveys:
         it.thin(mask)
 

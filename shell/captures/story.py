@@ -48,8 +48,8 @@ class Story:
         self.table = Table()
         self._bulk = Bulk(self.findings, selection.has_time, hears)
         # How many frames of each node came, did not, or may have; and of the last what later frames show.
-        self.came: Dict[str, Dict[Optional[bool], int]] = {it: {True: 0, False: 0, None: 0} for it in NODES}
-        self.shown: Dict[str, Dict[bool, int]] = {it: {True: 0, False: 0} for it in NODES}
+        self.came: Dict[str, Dict[Optional[bool], int]] = {node: {True: 0, False: 0, None: 0} for node in NODES}
+        self.shown: Dict[str, Dict[bool, int]] = {node: {True: 0, False: 0} for node in NODES}
         # How many requests were answered; how many states of lost frames there are, and how many of them were sent again.
         self.answered = self.lost_states = self.sent_again = 0
         self._twice: Deque[Tuple[int, Known, Known]] = deque()
@@ -341,7 +341,7 @@ class Story:
         """Whether a whole update is one of a bulk update, which counts it: its first ones may stand before its start in their frame."""
         if self._started is not frame:
             self._started, self._early = frame, (0, 0)
-            self._has_start = any(it.kind is BULK_STATUS and it.status == BULK_START for it in self._records)
+            self._has_start = any(record.kind is BULK_STATUS and record.status == BULK_START for record in self._records)
         if self._bulk.is_open(frame.node):
             self._bulk.updates(frame, int(not is_answer), int(is_answer))
             return True
@@ -427,10 +427,10 @@ def _asked_words(ask: Asked, is_heard: bool) -> str:
 
 def _lost_words(lost: LostFrame) -> str:
     """A frame that is not in the other capture, and what of it was sent again."""
-    frame, parts = lost.frame, {it.name: it for it in lost.parts}
-    again = [it.run.again for it in parts.values() if it.run.again]
-    tried = [it for it in parts.values() if not it.run.again and it.run.tries > it.tries]
-    never = [it.name for it in parts.values() if not it.run.again and it.run.tries == it.tries]
+    frame, parts = lost.frame, {part.name: part for part in lost.parts}
+    again = [part.run.again for part in parts.values() if part.run.again]
+    tried = [part for part in parts.values() if not part.run.again and part.run.tries > part.tries]
+    never = [part.name for part in parts.values() if not part.run.again and part.run.tries == part.tries]
     said = [f"frame {frame.number} of {frame.node}: {lost.summary}"]
     if again:
         last = max(again, key=lambda it: it.number)
@@ -447,9 +447,9 @@ def _lost_words(lost: LostFrame) -> str:
 def _tried_words(frame: Frame, parts: List[LostState]) -> str:
     """States of a lost frame that were sent again only in frames that are not in the other capture either."""
     them = f"{some([it.name for it in parts])} {'was' if len(parts) == 1 else 'were'} sent again only in"
-    tries = {it.run.tried for it in parts if it.run.tried}
+    tries = {part.run.tried for part in parts if part.run.tried}
     last = max(tries, key=lambda it: it.number)
     at = f"frame {last.number} after {lasting(last.time - frame.time)}"
-    if len(tries) == 1 and all(it.run.tries == it.tries + 1 for it in parts):
+    if len(tries) == 1 and all(part.run.tries == part.tries + 1 for part in parts):
         return f"{them} {at}, which is not in the capture of {OTHER[frame.node]} either"
     return f"{them} frames that are not in the capture of {OTHER[frame.node]} either, the last of them {at}"

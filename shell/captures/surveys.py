@@ -72,7 +72,7 @@ class Survey:
 
     @property
     def addresses(self) -> List[str]:
-        return [it for it in self.senders if it]
+        return [sender for sender in self.senders if sender]
 
     def keep(self, message: Message, checksum: int) -> None:
         """Keeps a message whose checksum has none of the bits of the mask."""

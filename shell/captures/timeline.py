@@ -76,7 +76,7 @@ class Timeline:
         for frame, what, records in self._lines:
             way = f"frame {frame.number}  {frame.node} -> {OTHER[frame.node]}"
             lines.append(f"{times.at(frame.time)}  {way}  {came_words(frame, paint)}  {what}")
-            lines += [f"    {it}" for it in records]
+            lines += [f"    {record}" for record in records]
         rest = self.number - len(self._lines)
         return lines + ([f"and {rest:,} more frame{'s' * (rest > 1)}; --all lists them"] if rest else [])
 

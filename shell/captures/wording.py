@@ -59,7 +59,7 @@ def lasting(nanoseconds: int) -> str:
 
 def summary(records: Iterable[Record]) -> str:
     """What a frame carries: `2 inserts, 1 bulk status`."""
-    return kinds_counted(it.kind for it in records)
+    return kinds_counted(record.kind for record in records)
 
 
 def some(words: Sequence[str], number: Optional[int] = None, most: int = 3) -> str:

@@ -55,7 +55,7 @@ def drawn(
 def explained(lab: Laboratory, branch: Branch) -> Iterator[Step]:
     """Each event that stands, explained, and the frame that it sent, if any: tickets are counted from 1."""
     events = branch.events[: branch.cursor]
-    sends = [it.split()[0] in (FLUSH.word, REPEAT.word) for it in events]
+    sends = [event.split()[0] in (FLUSH.word, REPEAT.word) for event in events]
     tickets = [*accumulate(map(int, sends))]
     if not lab.knows_setup:
         for number, (ticket, is_sent) in enumerate(zip(tickets, sends), 1):
@@ -103,11 +103,11 @@ class _Growing:
     def put(self, notes: Texts, forks: Texts) -> None:
         """Puts texts above the rows where they belong."""
         chart, (first, last, _) = self.chart, self.chart.window
-        firsts = [it.first for it in chart.rows]
+        firsts = [row.first for row in chart.rows]
         for stand in sorted(notes):
             if stand + 1 in chart.places or stand == last == chart.events:
                 chart.notes[bisect_left(firsts, stand + 1)] = [*notes[stand]]
-        for stand in sorted(it for it in forks if first - 1 <= it <= (last or 0)):
+        for stand in sorted(fork for fork in forks if first - 1 <= fork <= (last or 0)):
             chart.forks.setdefault(bisect_left(firsts, stand + 1), []).extend(forks[stand])
 
     # ---- rows

@@ -15,9 +15,9 @@ KEPT = "\u00a0"
 
 def besides(records: Sequence[TakenRecord]) -> str:
     """What a delivery did besides taking all records."""
-    bad, stale = sum(it.is_bad for it in records), sum(bool(it.stale) for it in records)
-    freed = sum(it.fate[0] == "acknowledged" for it in records)
-    asked = [it.about[0] for it in records if it.fate[0] == "asked"]
+    bad, stale = sum(record.is_bad for record in records), sum(bool(record.stale) for record in records)
+    freed = sum(record.fate[0] == "acknowledged" for record in records)
+    asked = [record.about[0] for record in records if record.fate[0] == "asked"]
     counts = ((bad, "bad"), (stale, "stale"), (freed, "held released"))
     parts = [f"{number} {words}" for number, words in counts if number]
     return ", ".join(parts + ([f"asks for {_names(asked)}"] if asked else []))
@@ -31,7 +31,7 @@ def record_words(records: Sequence[Record]) -> Tuple[str, ...]:
             groups[-1].append(record)
         else:
             groups.append([record])
-    return tuple(_group_words(it) for it in groups)
+    return tuple(_group_words(group) for group in groups)
 
 
 def _group_words(records: Sequence[Record]) -> str:
@@ -40,8 +40,8 @@ def _group_words(records: Sequence[Record]) -> str:
         return f"bulk {bulk_status(int(about[0]))}"
     if kind is CLEAR:
         return f"clear boot {about[0]} up to {'.'.join(about)}"
-    wanted = all(isinstance(it.state, Carried) and it.state.asks_for_acknowledgement for it in records)
-    names = [str(it.name) for it in records]
+    wanted = all(isinstance(record.state, Carried) and record.state.asks_for_acknowledgement for record in records)
+    names = [str(record.name) for record in records]
     # (tcpdump(8) has a shorter word than the message's name)
     what = "insert ack" if kind is INSERT_ACK else kind.name
     if len(records) == 1:

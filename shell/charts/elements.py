@@ -37,7 +37,7 @@ class Element(NamedTuple):
     def plain(self) -> List[object]:
         """The element as lists, with coordinates to a tenth."""
         attributes = {key: round(it, 1) if isinstance(it, float) else it for key, it in self.attributes.items()}
-        return [self.name, attributes, *([[list(it) for it in self.spans]] if self.spans else [])]
+        return [self.name, attributes, *([[list(span) for span in self.spans]] if self.spans else [])]
 
 
 _NARROW, _WIDE = f"ijlt.,:;'|!fr()[] {KEPT}", "mwMWGOQ@%→"
@@ -133,7 +133,7 @@ class Sheet:
         self.add("rect", {"x": middle - size[0] / 2, "y": top - self.top, "width": size[0], "height": size[1], **look})
 
     def text(self, at: Point, spans: Sequence[Span], size: int, anchor: str = "start") -> None:
-        said = [it._replace(words=it.words.replace(KEPT, " ")) if KEPT in it.words else it for it in spans]
+        said = [span._replace(words=span.words.replace(KEPT, " ")) if KEPT in span.words else span for span in spans]
         self.add("text", {"x": at[0], "y": at[1] - self.top, "font-size": size, "text-anchor": anchor}, said)
 
 

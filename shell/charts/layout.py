@@ -93,7 +93,7 @@ class Layout:
         frame, words = self.chart.frame_words(row, flight)
         room = self.geometry.zone - 16 if is_crossed else self.geometry.lost if flight.is_lost else self.geometry.label
         room -= text_width(f"{frame} ", size) * BOLDER
-        lines = in_lines([Span(it, FRAME_TONES.get(row.kind, FRAME)) for it in words], room, size)
+        lines = in_lines([Span(word, FRAME_TONES.get(row.kind, FRAME)) for word in words], room, size)
         return [[Span(frame, FRAME, True), *(lines[0] if lines else [])], *lines[1:]]
 
     def _above(self, place: int) -> None:
@@ -101,7 +101,7 @@ class Layout:
         measures, forks, notes = self.geometry, self.chart.forks.get(place), self.chart.notes.get(place)
         if forks:
             before, names, after = begins_here(forks)
-            spans = [Span(before, NOTE), *(Span(it, NOTE, True) for it in names), Span(after, NOTE)]
+            spans = [Span(before, NOTE), *(Span(name, NOTE, True) for name in names), Span(after, NOTE)]
             self.forks[place] = self.bottom, in_lines(spans, measures.side("a") - 20, measures.small)
             self.bottom += measures.leading * len(self.forks[place][1]) + 4
         if measures.is_page:
@@ -133,7 +133,7 @@ class Layout:
         """The words about frames that enter or leave."""
         lines: List[List[Span]] = []
         for words, flights in parts:
-            tickets = ", ".join(f"#{it.ticket}" for it in flights)
+            tickets = ", ".join(f"#{flight.ticket}" for flight in flights)
             room = self.geometry.lanes["b"] - self.geometry.lanes["a"]
             lines += in_lines([Span(words, FRAME), Span(tickets, FRAME, True)], room, self.geometry.size) if tickets else []
         return lines
@@ -178,12 +178,12 @@ class Layout:
 def _ordered(flights: Sequence[Flight]) -> List[Flight]:
     """Frames under way, from lane a to lane b: the older frames of a node are farther along, and those from a are to the left of
     those from b, so that few of their lines cross."""
-    return [it for it in reversed(flights) if it.source == "a"] + [it for it in flights if it.source == "b"]
+    return [flight for flight in reversed(flights) if flight.source == "a"] + [flight for flight in flights if flight.source == "b"]
 
 
 def _mark_spans(row: Row, mark: Mark) -> List[Span]:
     """The words next to a lane."""
-    spans = [Span(it.replace("->", "→"), INK) for it in mark.words]
+    spans = [Span(word.replace("->", "→"), INK) for word in mark.words]
     tone = mark.tone or INK
     if mark.kind == DELIVER.word and len(spans) > 1:
         spans[-1] = spans[-1]._replace(tone=tone)

@@ -32,7 +32,7 @@ class Painter:
         for node, x in self.measures.lanes.items():
             begin = top
             for place in self.places:
-                if any(it.kind == RESTART.word and it.node == node for it in self.chart.rows[place].marks):
+                if any(mark.kind == RESTART.word and mark.node == node for mark in self.chart.rows[place].marks):
                     y = self.layout.middles[place]
                     self.sheet.line([(x, begin), (x, y - 5)], INK, 3)
                     for bar in (y - 5, y + 5):

@@ -32,7 +32,7 @@ class PageSheet(NamedTuple):
             "top": round(self.top, 1),
             "height": round(self.height, 1),
             "rows": [[first, last, round(top, 1), round(bottom, 1)] for first, last, top, bottom in self.rows],
-            "elements": [it.plain() for it in self.elements],
+            "elements": [element.plain() for element in self.elements],
             "ways": [[ticket, [[round(x, 1), round(y, 1)] for x, y in points]] for ticket, points in self.ways],
         }
 
@@ -48,7 +48,7 @@ class PageChart(NamedTuple):
 
     def plain(self) -> Dict[str, object]:
         """The chart as lists and dictionaries, for JSON."""
-        return _plain(self, [it.plain() for it in self.sheets])
+        return _plain(self, [sheet.plain() for sheet in self.sheets])
 
 
 def _plain(page: PageChart, its_sheets: Sequence[Dict[str, object]]) -> Dict[str, object]:
@@ -90,9 +90,9 @@ class Part(NamedTuple):
         """Everything that the drawing of the sheet depends on: if this is the same, so is the drawing."""
         layout, first, end = self.layout, self.places.start, self.places.stop
         heights = [its[first:end] for its in (layout.tops, layout.middles, layout.bottoms)]
-        labels = [layout.labels.get(it) for it in self.places]
+        labels = [layout.labels.get(place) for place in self.places]
         forks = [layout.forks.get(it) for it in range(first, end + 1)]
-        ways = [layout.ways[it.ticket] for it in self.flights]
+        ways = [layout.ways[flight.ticket] for flight in self.flights]
         said = (layout.end, layout.said_below) if end == len(layout.chart.rows) else ()
         rows = layout.chart.rows[first:end]
         return self.sheet.top, self.sheet.bottom, rows, heights, labels, forks, self.flights, ways, layout.said_above, said
@@ -104,9 +104,9 @@ class Part(NamedTuple):
         painter.bands()
         painter.lanes(sheet.top)
         painter.contents(self.flights)
-        numbered = [(layout.chart.rows[it], layout.tops[it] - sheet.top, layout.bottoms[it] - sheet.top) for it in self.places]
+        numbered = [(layout.chart.rows[place], layout.tops[place] - sheet.top, layout.bottoms[place] - sheet.top) for place in self.places]
         rows = [(row.first, row.last, top, bottom) for row, top, bottom in numbered]
-        ways = [(it.ticket, sheet.cut(layout.ways[it.ticket])) for it in self.flights]
+        ways = [(flight.ticket, sheet.cut(layout.ways[flight.ticket])) for flight in self.flights]
         return PageSheet(sheet.top, sheet.bottom - sheet.top, rows, sheet.elements, ways)
 
 
@@ -120,7 +120,7 @@ def _parts(chart: Chart) -> Tuple[PageChart, List[Part]]:
         last = len(chart.rows) - 1 if ended is None else ended
         for at in range((chart.sent(flight) or 0) // ROWS, max(last, 0) // ROWS + 1):
             flights[at].append(flight)
-    edges = [0.0, *(layout.tops[it] for it in starts[1:]), layout.height]
+    edges = [0.0, *(layout.tops[start] for start in starts[1:]), layout.height]
     its_sheets = [Sheet(*ends) for ends in zip(edges, edges[1:])]
     places = [range(start, min(start + ROWS, len(chart.rows))) for start in starts]
     heads = {node: f"node {node}, {boot}" for node, boot in chart.heads(0).items()}
@@ -131,7 +131,7 @@ def _parts(chart: Chart) -> Tuple[PageChart, List[Part]]:
 def sheets(chart: Chart) -> PageChart:
     """The chart for a page, without a title and without the heads of its lanes."""
     page, parts = _parts(chart)
-    return page._replace(sheets=[it.drawn() for it in parts])
+    return page._replace(sheets=[part.drawn() for part in parts])
 
 
 class Drawing:

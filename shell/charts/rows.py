@@ -65,12 +65,12 @@ class Chart:
     @property
     def entering(self) -> List[Flight]:
         """The frames that were sent before the first event."""
-        return [it for it in self.flights.values() if self.sent(it) is None]
+        return [flight for flight in self.flights.values() if self.sent(flight) is None]
 
     @property
     def leaving(self) -> List[Flight]:
         """The frames that do not end in what is drawn."""
-        return [it for it in self.flights.values() if self.ended(it) is None]
+        return [flight for flight in self.flights.values() if self.ended(flight) is None]
 
     @property
     def sent_before(self) -> str:
@@ -94,7 +94,7 @@ class Chart:
         frame = f"#{flight.ticket}"
         if row.kind == FLUSH.word:
             records = record_words(flight.frame.records)
-            return f"{frame}:", tuple(f"{it}{',' * (it != records[-1])}" for it in records)
+            return f"{frame}:", tuple(f"{record}{',' * (record != records[-1])}" for record in records)
         if row.kind == REPEAT.word:
             return f"{frame}:", (f"copy of #{flight.origin}",)
         if row.kind == CUT.word:
@@ -120,7 +120,7 @@ def _span(first: int, last: int) -> str:
 
 def begins_here(names: Sequence[str]) -> Tuple[str, List[str], str]:
     """The words for branches that begin at a place, in three parts: the names are the second."""
-    named = [f"{it}{',' * (it != names[-1])}" for it in names]
+    named = [f"{name}{',' * (name != names[-1])}" for name in names]
     return ("branch", named, "begins here") if len(names) == 1 else ("branches", named, "begin here")
 
 
@@ -131,4 +131,4 @@ def broken(text: str, fits: Callable[[str], bool]) -> List[str]:
         if parts[-1] and not fits((parts[-1] + word).rstrip()):
             parts.append("")
         parts[-1] += word
-    return [it.strip() for it in parts]
+    return [part.strip() for part in parts]

@@ -116,7 +116,7 @@ class _Drawing:
         self.lines: List[_Line] = []
 
     def drawn(self) -> List[_Line]:
-        self._lines(0, [(it, "head") for it in self.chart.heading.split()])
+        self._lines(0, [(word, "head") for word in self.chart.heading.split()])
         self._said(self.chart.sent_before, self.chart.entering)
         self._heads(0)
         for place, row in enumerate(self.chart.rows):
@@ -130,7 +130,7 @@ class _Drawing:
     def _said(self, words: str, flights: Sequence[Flight]) -> None:
         """The words about frames that enter or leave."""
         if flights:
-            said = [*words.split(), *", ".join(f"#{it.ticket} to {it.to}" for it in flights).split()]
+            said = [*words.split(), *", ".join(f"#{flight.ticket} to {flight.to}" for flight in flights).split()]
             self._lines(0, [(it, "note") for it in said])
 
     def _lines(self, at: int, pieces: Sequence[Piece]) -> None:
@@ -155,7 +155,7 @@ class _Drawing:
         for paragraph in self.chart.notes.get(place, []):
             said = paragraph.encode("ascii", "replace").decode() if self.glyphs is ASCII else paragraph
             self._new_line(False)
-            self._lines(self.numbers, [(it, "dim") for it in said.split()])
+            self._lines(self.numbers, [(word, "dim") for word in said.split()])
         if place in self.chart.notes:
             self._new_line(False)
 
@@ -182,7 +182,7 @@ class _Drawing:
     # ---- at a lane
 
     def _mark_pieces(self, row: Row, mark: Mark) -> List[Piece]:
-        pieces = [(it.replace("->", self.glyphs.to), "") for it in mark.words]
+        pieces = [(word.replace("->", self.glyphs.to), "") for word in mark.words]
         if mark.kind == DELIVER.word and len(pieces) > 1:
             pieces[-1] = (pieces[-1][0], mark.tone)
         pieces += [(mark.fate, mark.tone)] if mark.fate else []
@@ -224,7 +224,7 @@ class _Drawing:
 
     def _label(self, row: Row, flight: Flight) -> List[Piece]:
         frame, words = self.chart.frame_words(row, flight)
-        return [(frame, "head"), *((it, FRAME_STYLES.get(row.kind, "")) for it in words)]
+        return [(frame, "head"), *((word, FRAME_STYLES.get(row.kind, "")) for word in words)]
 
     def _ends(self, place: int, flight: Flight) -> Tuple[str, Piece]:
         """How a frame's line begins and ends in a row: at a lane, with its loss, or farther on its way."""

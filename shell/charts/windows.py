@@ -57,7 +57,7 @@ def read_asked(words: Sequence[str]) -> Optional[Asked]:
     file = rest.pop() if rest and rest[-1].endswith(".svg") else ""
     branch = rest.pop(0) if len(rest) % 2 else ""
     parts = dict(zip(rest[::2], rest[1::2]))
-    if [*parts] != [it for it in WINDOW_WORDS if it in parts] or 2 * len(parts) != len(rest):
+    if [*parts] != [word for word in WINDOW_WORDS if word in parts] or 2 * len(parts) != len(rest):
         return None
     first = read_place(parts[FROM]) if FROM in parts else 1
     last = read_place(parts[TO]) if TO in parts else None
@@ -84,8 +84,8 @@ class Concern:
 
     def __init__(self, branch: str, flow: Name, events: Sequence[Explanation]):
         self.flow = flow
-        packets = [it for it in events if it.event.kind is PACKET]
-        self._ends: Set[Tuple[str, FrozenSet[str]]] = {_key(it) for it in packets if state_of(it) == flow}
+        packets = [event for event in events if event.event.kind is PACKET]
+        self._ends: Set[Tuple[str, FrozenSet[str]]] = {_key(packet) for packet in packets if state_of(packet) == flow}
         if not self._ends:
             raise Unknown(f"no packet of {branch} that stands made a state {flow}{_made(packets)}")
         # The frames about it, by ticket; and the nodes that hold a packet of it.

@@ -37,7 +37,7 @@ def of_branch(lab: Laboratory, branch: Branch, shows_all: bool, paint: Paint) ->
 
 def script_of(lab: Laboratory, branch: Branch) -> Script:
     """The events of a branch that stand, on the branch main of a script."""
-    return Script(lab.program, lab.setup.lines, [Command(f"{STEP.word} main {it}") for it in branch.events[: branch.cursor]])
+    return Script(lab.program, lab.setup.lines, [Command(f"{STEP.word} main {event}") for event in branch.events[: branch.cursor]])
 
 
 def _answer(script: Script, name: str, shows_all: bool, paint: Paint) -> Answer:

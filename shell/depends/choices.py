@@ -46,18 +46,18 @@ class Tried(NamedTuple):
 
 def tried(script: Script, places: Optional[Container[int]] = None) -> Tried:
     """Plays a script by all of these rules. What several words do together is looked for at all places, or at some."""
-    singles = tuple(compared(script, script.own.toggled((it,))) for it in SWITCHES.values())
+    singles = tuple(compared(script, script.own.toggled((switch,))) for switch in SWITCHES.values())
     ends = [it for it in (EVERY, PROFILE) if it != script.own]
-    known = {it.kernel: it for it in singles}
-    return Tried(script, singles, tuple(_far(script, known, it, places) for it in ends))
+    known = {single.kernel: single for single in singles}
+    return Tried(script, singles, tuple(_far(script, known, end, places) for end in ends))
 
 
 def by_rules(own: Kernel, kernel: Kernel) -> str:
     """By which rules: those of the profile, of the kernel, or of a script with other ones in some places."""
     if own.is_profile or kernel in (PROFILE, EVERY):
         return kernel.by
-    more = [it.word for it in kernel.switches if it not in own.switches]
-    less = [it.word for it in own.switches if it not in kernel.switches]
+    more = [switch.word for switch in kernel.switches if switch not in own.switches]
+    less = [switch.word for switch in own.switches if switch not in kernel.switches]
     parts = [f"also with {KERNEL.word} {', '.join(more)}"] * bool(more) + [f"without {KERNEL.word} {', '.join(less)}"] * bool(less)
     return " and ".join(parts)
 
@@ -72,7 +72,7 @@ def _far(script: Script, known: Dict[Kernel, Compared], end: Kernel, places: Opt
     """What comes of it where all rules are the kernel's, or none."""
     its = known[end] if end in known else compared(script, end)
     words = script.own.apart(end)
-    singles = [known[script.own.toggled((it,))] for it in words]
+    singles = [known[script.own.toggled((word,))] for word in words]
     alone = tuple(one for one in singles if any(its.by_place.get(at) == after for at, after in one.by_place.items()))
     told = {at for one in alone for at, after in one.by_place.items() if its.by_place.get(at) == after}
     # (of a shown pair each word may change another part)

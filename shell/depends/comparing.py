@@ -45,7 +45,7 @@ class Compared(NamedTuple):
 
     @property
     def by_place(self) -> Dict[int, Reply]:
-        return {it.place: it.after for it in self.differences}
+        return {difference.place: difference.after for difference in self.differences}
 
     @property
     def is_same(self) -> bool:
@@ -139,6 +139,6 @@ def _ends(script: Script, kernel: Kernel, partings: _Partings) -> List[AtEnd]:
     for name, before in script.ends(script.own).items():
         if name in there and name not in partings.since and before != there[name]:
             changes = End(before, setup).changes(End(there[name], setup))
-            texts = tuple(f"{it.text.replace('at the end ', '')}: {it.flow}" for it in changes) or _used(before, there[name])
+            texts = tuple(f"{change.text.replace('at the end ', '')}: {change.flow}" for change in changes) or _used(before, there[name])
             found += [AtEnd(name, texts)] * bool(texts)
     return found

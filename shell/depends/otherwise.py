@@ -44,7 +44,7 @@ def marks_of(program: str, setup: Setup, events: Sequence[str], only: Optional[i
     ones are not asked about, which changes nothing for these."""
     if not events or only and only > MOST_EVENTS:
         return NONE
-    script = Script(program, setup.lines, [Command(f"{STEP.word} main {it}") for it in events[:MOST_EVENTS]])
+    script = Script(program, setup.lines, [Command(f"{STEP.word} main {event}") for event in events[:MOST_EVENTS]])
     trial = tried(script, None if only is None else (only - 1,))
     every = (*trial.singles, *(far.its for far in trial.far))
     places = sorted({place for one in every for place in one.by_place if only in (None, place + 1)})

@@ -87,11 +87,11 @@ class Script:
 
     def _played(self, kernel: Kernel) -> List[Reply]:
         if kernel not in self._replies:
-            lines = [*(it.line for it in self.commands), *self._looks.values()]
+            lines = [*(command.line for command in self.commands), *self._looks.values()]
             ran = run_lines(self.program, (*self.setup(kernel).lines, OPEN.word, *lines))
             if len(ran.replies) != len(lines):
                 raise Ended("; ".join(ran.faults) or f"the program ended with status {ran.status}")
-            self._replies[kernel] = [tuple(it) for it in ran.replies]
+            self._replies[kernel] = [tuple(reply) for reply in ran.replies]
         return self._replies[kernel]
 
     # ---- by the script's own rules
@@ -116,7 +116,7 @@ class Script:
 
     @property
     def events(self) -> Iterator[Spot]:
-        return (it for it in self.spots if it.is_event)
+        return (spot for spot in self.spots if spot.is_event)
 
 
 def _spot(story: Story, command: Command) -> Spot:

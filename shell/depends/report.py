@@ -38,7 +38,7 @@ class Report:
         self.branches = len({one.branch for one in trial.script.events})
 
     def lines(self) -> List[str]:
-        groups = sorted(self._groups(), key=lambda one: all(is_look(self.spots[it.place]) for it in one.differences))
+        groups = sorted(self._groups(), key=lambda one: all(is_look(self.spots[difference.place]) for difference in one.differences))
         lines = [self.paint.head(self._headline())]
         for group in groups:
             lines += self._group(group)
@@ -76,14 +76,14 @@ class Report:
         ordered = sorted(group.differences, key=lambda it: (is_look(self.spots[it.place]), it.place))
         shown = ordered if self.shows_all else ordered[:1]
         lines = [line for it in shown for line in self._reply(group.its, it)]
-        lines += [self.paint.note(it) for it in self._partings(group)]
+        lines += [self.paint.note(parting) for parting in self._partings(group)]
         lines += _ends(group.its.ends)
-        return [f"{self.paint.head(group.by)}: {self._tally([it.place for it in group.differences])}", *(f"  {it}" for it in lines)]
+        return [f"{self.paint.head(group.by)}: {self._tally([it.place for it in group.differences])}", *(f"  {line}" for line in lines)]
 
     def _tally(self, places: Sequence[int]) -> str:
         """How many replies of each kind."""
-        kinds = [kind_of(self.spots[it]) for it in places]
-        return ", ".join(it.counted(kinds.count(it)) for it in KINDS if it in kinds)
+        kinds = [kind_of(self.spots[place]) for place in places]
+        return ", ".join(kind.counted(kinds.count(kind)) for kind in KINDS if kind in kinds)
 
     def _reply(self, its: Compared, difference: Difference) -> List[str]:
         """A reply before and after; of an event also why it is another one."""
@@ -109,8 +109,8 @@ class Report:
         return f"event {spot.number}{f' of {spot.branch}' * (self.branches > 1)}" if spot.is_event else f"`{spot.command.line}`"
 
     def _partings(self, group: _Group) -> List[str]:
-        spots = [self.spots[it.place] for it in group.differences]
-        those = [(it.number, f" of {it.branch}" * (self.branches > 1)) for it in group.its.partings if it in spots]
+        spots = [self.spots[difference.place] for difference in group.differences]
+        those = [(parting.number, f" of {parting.branch}" * (self.branches > 1)) for parting in group.its.partings if parting in spots]
         return [f"from event {number}{on} on it is a different run, and nothing after it is compared" for number, on in those]
 
     def _few(self, places: Sequence[int]) -> str:
@@ -122,7 +122,7 @@ class Report:
 
     def _far(self, far: Far) -> List[str]:
         """What all words do, by those that do it alone or together."""
-        if not self.trial.changes or far.its.kernel in [it.kernel for it in self.trial.singles]:
+        if not self.trial.changes or far.its.kernel in [single.kernel for single in self.trial.singles]:
             return []
         its_own = [it for it in far.together if it.its.kernel != far.its.kernel]
         as_by = [*(self._by(it) for it in far.alone), *(self._together(it) for it in its_own)]
@@ -140,23 +140,23 @@ class Report:
         for compared in self.trial.singles:
             if compared.is_same and compared.ends:
                 found.setdefault(tuple(compared.ends), []).append(self._by(compared))
-        return [line for ends, by in found.items() for line in (f"{_list(by)}: only the end", *(f"  {it}" for it in _ends(ends)))]
+        return [line for ends, by in found.items() for line in (f"{_list(by)}: only the end", *(f"  {end}" for end in _ends(ends)))]
 
     def _others(self, words: Container[Switch]) -> List[str]:
         """The words besides some on which nothing depends."""
-        same = [it.kernel for it in self.trial.singles if it.is_same and not it.ends]
-        others = [it.word for it in SWITCHES.values() if it not in words and self.own.toggled((it,)) in same]
+        same = [single.kernel for single in self.trial.singles if single.is_same and not single.ends]
+        others = [switch.word for switch in SWITCHES.values() if switch not in words and self.own.toggled((switch,)) in same]
         return [self.paint.dim(f"no other word changes anything: {', '.join(others)}")] if others and self.trial.changes else []
 
     def _sure(self, words: Container[Switch]) -> List[str]:
         """How sure we are of these rules."""
-        those = (it for it in SWITCHES.values() if it in words)
+        those = (switch for switch in SWITCHES.values() if switch in words)
         return [self.paint.dim(f"how sure we are that FreeBSD has {it.word}: {it.sure} ({PAGE})") for it in those]
 
 
 def _ends(ends: Sequence[AtEnd]) -> List[str]:
     """What branches end with."""
-    changes = [f"{it.branch} ends differently: {text}" for it in ends for text in it.changes]
+    changes = [f"{end.branch} ends differently: {text}" for end in ends for text in end.changes]
     more = len(changes) - MOST_ENDS
     return [*changes[:MOST_ENDS], *([f"and so on for {counted(more, 'more flow')}"] if more > 0 else [])]
 

@@ -41,7 +41,7 @@ def _tickets(lab: Laboratory, words: Sequence[str]) -> Sequence[str]:
 
 def _state_names(lab: Laboratory, words: Sequence[str]) -> Sequence[str]:
     node = _pair(lab, words).nodes.get(words[-1])
-    return [str(it) for it in node.states] if node else ()
+    return [str(name) for name in node.states] if node else ()
 
 
 def _ends(lab: Laboratory, words: Sequence[str]) -> List[str]:
@@ -49,7 +49,7 @@ def _ends(lab: Laboratory, words: Sequence[str]) -> List[str]:
     to where it is from."""
     # (a server keeps every command that it was asked, so none is asked for this)
     nodes = _pair(lab, words).nodes.values() if lab.is_own or lab.is_mirrored else ()
-    keys = [key for node in nodes for it in node.states.values() for key in (it.wire, it.stack)]
+    keys = [key for node in nodes for state in node.states.values() for key in (state.wire, state.stack)]
     seen = dict.fromkeys([*reversed([*lab.ends]), *(end for key in keys for end in (key.near, key.far))])
     return [it for it in seen if it != words[-1]][:MOST_ENDS]
 
@@ -87,7 +87,7 @@ def candidates(lab: Laboratory, before: Sequence[str], begun: str) -> List[str]:
     if words[0] == NOTES:
         return _matching(("on", "off") if len(words) == 1 else (), begun)
     if words[0] == KERNEL.word:
-        return _matching((it for it in KERNEL_WORD.words if it not in words), begun)
+        return _matching((word for word in KERNEL_WORD.words if word not in words), begun)
     # An event follows the branch, which `why` may be without.
     places = {STEP.word: (2,), WHY.word: (1, 2)}.get(words[0], ())
     part = next((words[at:] for at in places if words[at:] and words[at] in EVENTS), words)
@@ -117,7 +117,7 @@ def _values(part: Sequence[str]) -> List[Tuple[str, Sequence[str]]]:
         return [(it, ()) for it in re.findall("[A-Z]+", SHELL[word].form.split("\n")[-1])]
     row = EVENTS.get(word) or TYPED.get(word) or SETUP.get(word)
     values = (NODE, ACTION, RULE_DIRECTION) if row is RULE else row.values_of(part) if row else ()
-    return [(it.name, it.words) for it in values]
+    return [(value.name, value.words) for value in values]
 
 
 def _chart(lab: Laboratory, words: Sequence[str], begun: str) -> Iterable[str]:
@@ -126,7 +126,7 @@ def _chart(lab: Laboratory, words: Sequence[str], begun: str) -> Iterable[str]:
         return _states_of_both(lab, words)
     if words[-1] in WINDOW_WORDS:
         return ()
-    said = [WINDOW_WORDS.index(it) for it in words if it in WINDOW_WORDS]
+    said = [WINDOW_WORDS.index(word) for word in words if word in WINDOW_WORDS]
     branches = _branches(lab, words) if len(words) == 1 else ()
     return [*branches, *WINDOW_WORDS[max(said, default=-1) + 1 :], *_paths(begun)]
 
@@ -134,7 +134,7 @@ def _chart(lab: Laboratory, words: Sequence[str], begun: str) -> Iterable[str]:
 def _states_of_both(lab: Laboratory, words: Sequence[str]) -> List[str]:
     """The names of the states at both nodes, in the branch that may be the second word."""
     branch = words[1] if len(words) > 1 and words[1] in lab.names() else lab.in_use
-    return sorted({str(it) for node in lab.show(branch).nodes.values() for it in node.states})
+    return sorted({str(name) for node in lab.show(branch).nodes.values() for name in node.states})
 
 
 def _view(lab: Laboratory, words: Sequence[str]) -> Iterable[str]:
@@ -157,11 +157,11 @@ def _places(lab: Laboratory, words: Sequence[str], begun: str) -> Iterable[str]:
 def _whatif(lab: Laboratory, words: Sequence[str], begun: str) -> Iterable[str]:
     """What can follow the words of a `whatif`: a branch, options that are not there yet, and their values."""
     values: Dict[str, Iterable[str]] = {"--faults": KINDS, "--watch": WATCHED, "--out": _paths(begun)}
-    options = {it.split()[0]: it.split()[1:] for it in WHATIF_OPTIONS}
+    options = {option.split()[0]: option.split()[1:] for option in WHATIF_OPTIONS}
     if options.get(words[-1]):
         return values.get(words[-1], ())
     branches = _branches(lab, words) if len(words) == 1 else ()
-    return [*branches, *(it for it in options if it not in words)]
+    return [*branches, *(option for option in options if option not in words)]
 
 
 def _options(word: str) -> Iterable[str]:
@@ -177,7 +177,7 @@ def _search(lab: Laboratory, words: Sequence[str], begun: str) -> List[str]:
         return _matching((*found.words, *(_branches(lab, words) if len(words) == 1 else ())), begun)
     branch = lab.in_use if found.is_for_people else words[1]
     offered = _following(lab, (STEP.word, branch, *found.event), found.event, begun)
-    every = () if found.is_for_people else [it.every for it in EVENTS.values()]
+    every = () if found.is_for_people else [event.every for event in EVENTS.values()]
     return _matching((it for it in offered if it not in every), begun)
 
 
@@ -187,4 +187,4 @@ def _paths(begun: str) -> List[str]:
 
 
 def _matching(words: Iterable[str], begun: str) -> List[str]:
-    return [it for it in words if it.startswith(begun)]
+    return [word for word in words if word.startswith(begun)]

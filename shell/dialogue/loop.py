@@ -131,4 +131,4 @@ class Loop(cmd.Cmd):
 
 def spaced(words: List[str]) -> List[str]:
     """The words with the space that ends each, which readline leaves to the completer; the path of a folder gets none."""
-    return [it if it.endswith("/") else f"{it} " for it in words]
+    return [word if word.endswith("/") else f"{word} " for word in words]

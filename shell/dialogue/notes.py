@@ -75,7 +75,7 @@ class Notes:
             others = {*self._others, *(self._who(it.entry) for it in self._held)}
             lines = [f"{self._count} commands of {all_of(others)}; the newest: {lines[-1]}"]
         self._forget()
-        self.show_lines([self.paint.note(it) for it in lines])
+        self.show_lines([self.paint.note(line) for line in lines])
 
     def turn(self, is_on: bool) -> None:
         """Turns notes on or off; those that are held are no longer shown."""

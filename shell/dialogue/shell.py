@@ -202,7 +202,7 @@ class Shell(Loop):
         self.lines.append((line, ()))
         if opens(line) and self.is_typed:
             self.show([self.paint.dim("the pair is set up; its branch is main. `help` lists the words.")])
-            self.show([self.paint.note(it) for it in self.lab.setup.kernel.warnings])
+            self.show([self.paint.note(warning) for warning in self.lab.setup.kernel.warnings])
 
     def show_kernel(self) -> None:
         """Says which rules are the kernel's, and what to know about them."""
@@ -433,7 +433,7 @@ class Shell(Loop):
         for written in annotate(self.lab.program, paths[is_dry:], is_dry):
             # (lines of a script are as they are)
             (self.show_whole if is_dry else self.show)(written.lines)
-            self.show([self.paint.bad(shortened(f"{written.path}: {it}")) for it in written.slips])
+            self.show([self.paint.bad(shortened(f"{written.path}: {slip}")) for slip in written.slips])
             found += len(written.slips)
         if found:
             self.fault(about_slips(found))

@@ -16,7 +16,7 @@ PERIOD = 0.1
 
 def above(lines: Sequence[str], columns: int) -> str:
     """What makes a terminal show lines above the line with the cursor. That line has one row, and stays where it is."""
-    rows = sum(max(1, -(-length_of(it) // columns)) for it in lines)
+    rows = sum(max(1, -(-length_of(line) // columns)) for line in lines)
     # (rows are made below, where the terminal may have to scroll, and inserted here; then the cursor returns to its column, and down)
     text = "\r\n".join(lines)
     return "\033D" * rows + f"\033[{rows}A\0337\r\033[{rows}L{text}\0338\033[{rows}B"

@@ -170,7 +170,7 @@ def _keys(state: Dumped) -> Tuple[object, object]:
 def _pair_by_flows(left: List[Dumped], rest: List[Dumped], found: Compared, tolerance: Tolerance) -> None:
     """Pairs states that have no name at one of the nodes by their flows, and finds the flows with two names."""
     flows = Flows(left if rest else ())
-    met: Dict[str, Set[int]] = {it: set() for it in NODES}
+    met: Dict[str, Set[int]] = {node: set() for node in NODES}
     for state in rest:
         partner = flows.take(state)
         has_names = bool(partner and partner.name is not None and state.name is not None)
@@ -254,7 +254,7 @@ def fields(two: Two, tolerance: Tolerance) -> List[str]:
     passed = (*LEVELS, *(() if has_details(two) else RULE))
     parts += [f"{it} {one} | {other}" for it, (one, other) in unequal.items() if it not in passed]
     if has_windows(two):
-        added = [" and ".join(it.added or "0" for it in windows(state.windows)) for state in two]
+        added = [" and ".join(window.added or "0" for window in windows(state.windows)) for state in two]
         parts += [f"added to the numbers {added[0]} | {added[1]}"] if added[0] != added[1] else []
     parts += [
         f"{what} {clock(one)} | {clock(other)}"

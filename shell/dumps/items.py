@@ -63,12 +63,12 @@ class Item:
     @property
     def harm(self) -> Tuple[bool, bool, Tuple[bool, int]]:
         """What sorts it where there is not room for all: first what differs, and of that what hurts most."""
-        return self.sort is Sort.SHARED and self.is_alike, self.sort is Sort.UNSENT, min(it.dumped.harm for it in self.wants.values())
+        return self.sort is Sort.SHARED and self.is_alike, self.sort is Sort.UNSENT, min(known.dumped.harm for known in self.wants.values())
 
     @property
     def is_alike(self) -> bool:
         """Whether all that are to have it are to have the same ends."""
-        return len({(it.wanted.source, it.wanted.destination) for it in self.wants.values()}) == 1
+        return len({(known.wanted.source, known.wanted.destination) for known in self.wants.values()}) == 1
 
 
 class Left(NamedTuple):
@@ -152,7 +152,7 @@ def _makers(found: Compared) -> Dict[str, str]:
     for two in found.twice:
         counts.update(((two.a.creator, "a"), (two.b.creator, "b")))
     for node, states in found.only.items():
-        counts.update((it.creator, node) for it in states)
+        counts.update((state.creator, node) for state in states)
     creators = {creator for creator, _ in counts}
-    return {it: "b" if counts[it, "b"] > counts[it, "a"] else "a" for it in creators}
+    return {creator: "b" if counts[creator, "b"] > counts[creator, "a"] else "a" for creator in creators}
 

@@ -51,7 +51,7 @@ def opening(program: str, found: Compared, files: Dict[str, str], tolerance: Tol
     items = items_of(found, asked.about)
     _check_made(items, asked)
     lines = _setup(items, texts.rules_of(program, asked.rules) if asked.rules else None)
-    fault = check_setup(program, [it for it in lines if has_word(it)])
+    fault = check_setup(program, [line for line in lines if has_word(line)])
     if fault:
         raise fault
     judge(program, Setup.of(lines), items.made)

@@ -53,7 +53,7 @@ class Player:
         return self.play
 
     def _play(self, stages: Sequence[Stage]) -> None:
-        clock = max((it.ago for it in stages), default=0)
+        clock = max((stage.ago for stage in stages), default=0)
         ordered = sorted(stages, key=lambda it: -it.ago)
         for ago, group in groupby(ordered, key=lambda it: it.ago):
             self._tick(clock - ago)
@@ -103,8 +103,8 @@ class Player:
 
     def _lose(self, stages: Sequence[Stage]) -> None:
         """Lets packets come whose frames are lost; those of a flow under two names wait until both nodes have it."""
-        twins = [it for it in stages if it.item.sort is Sort.TWIN]
-        for those, waits in ((twins, True), ([it for it in stages if it.item.sort is not Sort.TWIN], False)):
+        twins = [stage for stage in stages if stage.item.sort is Sort.TWIN]
+        for those, waits in ((twins, True), ([stage for stage in stages if stage.item.sort is not Sort.TWIN], False)):
             self._make(those)
             for node in NODES if those else ():
                 self._send(node, "" if waits else "lose {}")
@@ -141,7 +141,7 @@ def _fate(outcome: Sequence[str]) -> str:
 
 def _comment(item: Item, name: Name) -> str:
     """What a state of the laboratory is in the dumps."""
-    names = dict.fromkeys(it.dumped.named() for it in item.wants.values())
+    names = dict.fromkeys(known.dumped.named() for known in item.wants.values())
     return f"# {name}: {' | '.join(names)} of {' and '.join(item.wants)}, {shown(item.first.dumped.flow)}"
 
 

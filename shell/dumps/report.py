@@ -79,7 +79,7 @@ def _verdict(found: Compared, paint: Paint) -> str:
 
 def _established(states: Sequence[Dumped], form: str) -> str:
     """How many of some states are established connections; empty if none is."""
-    number = sum(it.is_established for it in states)
+    number = sum(state.is_established for state in states)
     return form.format(f"{number} established TCP") if number else ""
 
 
@@ -166,8 +166,8 @@ def _group(state: Dumped, tolerance: Tolerance) -> Group:
 
 def _ranges(states: Sequence[Dumped]) -> str:
     """How old the states of a group are, and when they expire."""
-    ages = [it.age for it in states if it.age is not None]
-    left = [it.expires for it in states if it.expires is not None]
+    ages = [state.age for state in states if state.age is not None]
+    left = [state.expires for state in states if state.expires is not None]
     return (f", age {_range(ages)}" if ages else "") + (f", expires in {_range(left)}" if left else "")
 
 
@@ -218,7 +218,7 @@ def _without_rule(those: Sequence[Two], how: Shown) -> List[str]:
         return []
     groups = _grouped(those, lambda it: f"rule {_rule(it.a)} | {_rule(it.b)}")
     lines = _first_groups(_ordered(groups), lambda rules, _: rules, lambda it: f"{it.a.named()}  {it.a.flow}", how)
-    heads = lines if how.lists_all else [it for it in lines if not it.startswith("    ")]
+    heads = lines if how.lists_all else [line for line in lines if not line.startswith("    ")]
     return [f"with a rule at one node alone: {counted(len(those), 'state')}, which agree; {_WHY_WITHOUT_RULE}", *heads]
 
 
@@ -261,5 +261,5 @@ def _first_groups(
 def _first(items: Sequence[Item], text: Callable[[Item], str], how: Shown) -> List[str]:
     """The texts of the first items of a group, or of all."""
     most = len(items) if how.lists_all else MOST_STATES
-    lines = [f"    {text(it)}" for it in items[:most]]
+    lines = [f"    {text(item)}" for item in items[:most]]
     return lines + ([f"    and {len(items) - most} more; --all lists them"] if len(items) > most else [])

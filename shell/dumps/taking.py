@@ -75,9 +75,9 @@ def _levels(text: str, number: Optional[int]) -> Union[Tuple[int, int], str]:
         return PROXIED
     names = TCP_LEVELS if number == TCP else OTHER_LEVELS
     words = text.split(":")
-    if len(words) != 2 or not all(it in names or it.isdecimal() and int(it) < len(names) for it in words):
+    if len(words) != 2 or not all(word in names or word.isdecimal() and int(word) < len(names) for word in words):
         return UNKNOWN_LEVELS
-    near, far = (names.index(it) if it in names else int(it) for it in words)
+    near, far = (names.index(word) if word in names else int(word) for word in words)
     return near, far
 
 
@@ -114,4 +114,4 @@ def _ends(dumped: Dumped, protocol: int, source: int, destination: int) -> Tuple
 
 def added(dumped: Dumped) -> bool:
     """Whether pf adds something to the numbers of an end (`modulate state`)."""
-    return bool(dumped.windows) and any(it.added for it in windows(dumped.windows))
+    return bool(dumped.windows) and any(window.added for window in windows(dumped.windows))

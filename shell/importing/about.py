@@ -102,21 +102,21 @@ class About:
         if self.wanted.end != FAR and target == self.wanted.address and has_port:
             self.ways += [Way(direction, region), Way(_OTHER[direction], _turned(region))]
         if target is not None:
-            parts = (it.region.common(region) for it in self._ends if it.direction == direction)
-            self.ways += [way for it in parts if it is not None for way in _answers(direction, it, target, ports)]
+            parts = (end.region.common(region) for end in self._ends if end.direction == direction)
+            self.ways += [way for part in parts if part is not None for way in _answers(direction, part, target, ports)]
 
     def has(self, direction: str, region: Region) -> bool:
         """Whether packets that are asked about are among those of a direction and a region."""
-        return any(it.meets(direction, region) for it in self.ways)
+        return any(way.meets(direction, region) for way in self.ways)
 
     def pairs(self, direction: str, region: Region, sources: Nets, others: Nets) -> Iterator[Tuple[Optional[Network], Optional[Network]]]:
         """The nets of a rule's source and destination between which packets that are asked about may go."""
-        ways = [it.region for it in self.ways if it.meets(direction, region)]
+        ways = [way.region for way in self.ways if way.meets(direction, region)]
         by_ways: Dict[int, List[int]] = {}
         for at, net in enumerate(others):
-            by_ways.setdefault(_met(net, [it.destination for it in ways]), []).append(at)
+            by_ways.setdefault(_met(net, [way.destination for way in ways]), []).append(at)
         for source in sources:
-            met = _met(source, [it.source for it in ways])
+            met = _met(source, [way.source for way in ways])
             places = sorted(chain.from_iterable(its for other, its in by_ways.items() if met & other))
             yield from ((source, others[at]) for at in places)
 

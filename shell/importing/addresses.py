@@ -16,7 +16,7 @@ FAMILIES = (4, 6)
 def merged(spans: Iterable[Span]) -> List[Span]:
     """The spans in order, with those that touch joined."""
     found: List[Span] = []
-    for low, high in sorted(it for it in spans if it[0] <= it[1]):
+    for low, high in sorted(span for span in spans if span[0] <= span[1]):
         if found and low <= found[-1][1] + 1:
             found[-1] = (found[-1][0], max(found[-1][1], high))
         else:
@@ -68,13 +68,13 @@ class Addresses(NamedTuple):
 
     def complement(self, families: Sequence[int] = FAMILIES) -> "Addresses":
         """The addresses of these families that are not in the set."""
-        return Addresses(*(tuple(rest(self.spans(it), 2 ** _BITS[it] - 1)) if it in families else () for it in FAMILIES))
+        return Addresses(*(tuple(rest(self.spans(family), 2 ** _BITS[family] - 1)) if family in families else () for family in FAMILIES))
 
     def plus(self, other: "Addresses") -> "Addresses":
-        return Addresses(*(tuple(merged((*self.spans(it), *other.spans(it)))) for it in FAMILIES))
+        return Addresses(*(tuple(merged((*self.spans(family), *other.spans(family)))) for family in FAMILIES))
 
     def common(self, other: "Addresses") -> "Addresses":
-        return Addresses(*(tuple(common(self.spans(it), other.spans(it))) for it in FAMILIES))
+        return Addresses(*(tuple(common(self.spans(family), other.spans(family))) for family in FAMILIES))
 
     def minus(self, other: "Addresses") -> "Addresses":
         return self.common(other.complement())

@@ -65,7 +65,7 @@ class Firewall:
         if name == "self":
             return [it for its in self.addresses.values() for it in its]
         members = [name] if name in self.addresses else sorted(self.groups.get(name, ()))
-        known = [self.addresses[it] for it in members if it in self.addresses]
+        known = [self.addresses[member] for member in members if member in self.addresses]
         return [it for its in known for it in its] if known and len(known) == len(members) else None
 
 

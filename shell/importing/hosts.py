@@ -154,7 +154,7 @@ def _address(firewall: Firewall, text: str) -> Address:
 def _own(firewall: Firewall, text: str) -> Tuple[List[Own], List[str]]:
     """The addresses of a named interface, and what follows its name."""
     name, *words = text.split(":")
-    wrong = [it for it in words if it not in ("network", "broadcast", "0")]
+    wrong = [word for word in words if word not in ("network", "broadcast", "0")]
     if wrong and _INTERFACE.match(name):
         raise NotKnown(f"`{text}`: the laboratory knows no `:{wrong[0]}` of an interface")
     own = firewall.addresses_of(name)

@@ -66,7 +66,7 @@ class Import:
         # What becomes of each statement, by its place in memory; and of the statements of files, which of them pf comes to.
         self._judged = {id(it): _begun(it) for it in every}
         self._loads = loaded(lines)
-        self._reached = {id(it) for it in lines}
+        self._reached = {id(line) for line in lines}
         # The statements that limit states, or say between which numbers of them timeouts shrink.
         self._limiting: List[Judged] = []
         # How many rules a node has so far.
@@ -82,9 +82,9 @@ class Import:
         self.judged = [self._judged[id(it)] for it in every if id(it) in self._reached]
         self.sections: List[Section] = []
         if self.rule_lines <= MOST_RULES and not looks_ahead:
-            counts = accumulate(len(it.pieces) for it in self.translations)
+            counts = accumulate(len(translation.pieces) for translation in self.translations)
             self.sections = self._sections({at: TOO_MANY for at, count in enumerate(counts) if count > MOST_RULES})
-        self.rule_lines += sum(it.count for it in self.sections)
+        self.rule_lines += sum(section.count for section in self.sections)
         if about:
             self._leave_out(about)
         for it in self._limiting[-1:]:
@@ -93,16 +93,16 @@ class Import:
 
     def _see_ahead(self, contents: Sequence[Content]) -> None:
         """What holds for the whole file: interfaces that pf skips, tags that rules give, and whether there are anchors."""
-        skipped = [it for one in contents if isinstance(one, Setting) for it in one.interfaces]
-        rules = [it for one in contents if isinstance(one, (Filter, Translation)) for it in one.match.interfaces]
-        spoofed = [it.text for one in contents if isinstance(one, Antispoof) for it in one.interfaces]
+        skipped = [interface for one in contents if isinstance(one, Setting) for interface in one.interfaces]
+        rules = [interface for one in contents if isinstance(one, (Filter, Translation)) for interface in one.match.interfaces]
+        spoofed = [interface.text for one in contents if isinstance(one, Antispoof) for interface in one.interfaces]
         # The interfaces that rules name.
-        self.named = sorted({*spoofed, *(it.name for it in rules)})
+        self.named = sorted({*spoofed, *(rule.name for rule in rules)})
         self.unknown_groups = sorted({it.name for it in (*skipped, *rules) if self.firewall.is_unknown_group(it.name)})
         self.is_skipped = any(self.firewall.is_for(it) for it in skipped)
         context = self.settings.context
-        options = [it for one in contents if isinstance(one, (Filter, Translation)) for it in one.options]
-        context.tags = {it.values[0] for it in options if it.word == "tag"}
+        options = [option for one in contents if isinstance(one, (Filter, Translation)) for option in one.options]
+        context.tags = {option.values[0] for option in options if option.word == "tag"}
         context.has_anchors = any(isinstance(it, Filter) and it.is_anchor and it.inner is None for it in contents)
 
     def _take_all(self, lines: Sequence[Line]) -> None:
@@ -148,7 +148,7 @@ class Import:
         for line in lines:
             if isinstance(line.content, Load) and line.content.lines is not None:
                 name = line.content.name.strip("/")
-                named = [it for it in anchors if isinstance(it.content, Filter) and it.content.name.strip("/") == name]
+                named = [anchor for anchor in anchors if isinstance(anchor.content, Filter) and anchor.content.name.strip("/") == name]
                 if not named:
                     self._judged[id(line)].lost([_NEVER_ASKED])
                 elif all(self._judged[id(it)].verdict is Verdict.ELSEWHERE for it in named):
@@ -244,8 +244,8 @@ class Import:
         if lines is None:
             judged.out(loads[0].why or f"several statements give the anchor `{name}` its rules" if loads else _ANCHORED)
             return None, MAIN
-        self._reached |= {id(it) for it in all_lines(lines) if not self._is_translation(it)}
-        return [self._judged[id(it)] for it in lines], name if loads else ruleset.file
+        self._reached |= {id(line) for line in all_lines(lines) if not self._is_translation(line)}
+        return [self._judged[id(line)] for line in lines], name if loads else ruleset.file
 
     def _match(self, judged: Judged, content: Filter, ruleset: Ruleset) -> None:
         """A `match` of later versions: a translation, or what affects no verdict."""
@@ -293,32 +293,32 @@ class Import:
 
     def _leave_out(self, about: About) -> None:
         """Leaves out what is for none of the packets that are asked about, neither as these come nor once they are translated."""
-        pieces = [it for one in self.translations for it in one.pieces if about.has(it.direction, it.region)]
+        pieces = [piece for one in self.translations for piece in one.pieces if about.has(piece.direction, piece.region)]
         for judged in self.judged:
             known = self._known.get(id(judged), [])
             is_met = any(about.has(it.base.direction, it.region) or any(is_asked(one, it) for one in pieces) for it in known)
             if known and not is_met:
                 judged.left()
         for at, one in enumerate(self.translations):
-            is_met = any(about.has(it.direction, it.region) for it in one.pieces)
-            if not (is_met or one.judged.verdict is Verdict.OUT or any(it.count for it in self.sections if it.owner == at)):
+            is_met = any(about.has(piece.direction, piece.region) for piece in one.pieces)
+            if not (is_met or one.judged.verdict is Verdict.OUT or any(section.count for section in self.sections if section.owner == at)):
                 one.judged.left()
 
     def _say_lost(self) -> None:
         """Reports what is lost by translations, and for which pf rules several rules here each count their own states."""
-        entries = [it for section in self.sections for it in section.entries]
-        own = [it.number for judged in self.judged for it in judged.rules for _ in it.lines]
-        counts = Counter([*own, *(it.asked.number for it in entries if it.asked for _ in it.lines)])
+        entries = [entry for section in self.sections for entry in section.entries]
+        own = [rule.number for judged in self.judged for rule in judged.rules for _ in rule.lines]
+        counts = Counter([*own, *(entry.asked.number for entry in entries if entry.asked for _ in entry.lines)])
         several = {it.number: counts[it.number] for it in self._asked if it.base.most is not None and counts[it.number] > 1}
-        sections = [it for it in self.sections if it.count]
-        lost = [(self.translations[it.owner].judged, [*it.reasons, *self._twice(it)]) for it in sections]
+        sections = [section for section in self.sections if section.count]
+        lost = [(self.translations[section.owner].judged, [*section.reasons, *self._twice(section)]) for section in sections]
         lost += [(self._by_number[it], [f"each of its {count} rules here has a `max` of its own"]) for it, count in several.items()]
         for judged, reasons in lost:
             judged.lost(reasons)
 
     def _twice(self, section: Section) -> List[str]:
         """What is lost where a rule of the filter translates the packets of a translation again."""
-        asked = [it.asked for it in section.entries if it.asked and section.piece.target]
+        asked = [entry.asked for entry in section.entries if entry.asked and section.piece.target]
         contents = ((it.place, self._by_number[it.number].line.content) for it in asked)
         again = (where for where, content in contents if isinstance(content, Filter) and content.to)
         return [f"{it} translates its packets again, and here it does not" for it in again]
@@ -336,11 +336,11 @@ class Import:
         if its.out:
             judged.out(_untranslated(its.out))
             return
-        self.translated += [(it.direction, it.region, it.target, it.ports) for it in pieces]
+        self.translated += [(piece.direction, piece.region, piece.target, piece.ports) for piece in pieces]
         # (each piece makes at least one rule for each of its nets)
-        parts = ((it.direction, region) for it in pieces for few, rest in [it.region.but_few()] for region in (*few, rest))
+        parts = ((piece.direction, region) for piece in pieces for few, rest in [piece.region.but_few()] for region in (*few, rest))
         counts = accumulate(len(lines_of(region, RuleLine("block", direction), self.about)) for direction, region in parts)
-        if any(it > MOST_RULES for it in counts):
+        if any(count > MOST_RULES for count in counts):
             judged.out(_untranslated(TOO_MANY))
             return
         judged.lost(its.lost)
@@ -352,8 +352,8 @@ class Import:
         and a later one the packets of an earlier one translated."""
         above = dict.fromkeys(it.place for it in self._asked for piece in pieces if is_seen_otherwise(piece, it))
         lost = [f"in pf {', '.join(above)} above it sees packets as they came, and here translated"] if above else []
-        earlier = [it for one in self.translations for it in one.pieces]
-        if any(one.is_again(it) for one in earlier for it in pieces):
+        earlier = [piece for one in self.translations for piece in one.pieces]
+        if any(one.is_again(piece) for one in earlier for piece in pieces):
             lost.append("in pf it gets packets that an earlier translation has translated, and here it does not")
         return lost
 
@@ -371,7 +371,7 @@ class Import:
             try:
                 rules = [it for it in expanded(self.firewall, content) if self.firewall.is_for(it.interface)]
                 lost: List[str] = []
-                regions = [matched(it, self.settings.context, lost) for it in rules]
+                regions = [matched(rule, self.settings.context, lost) for rule in rules]
             except (Out, Never, NotRead) as why:
                 judged.out(_untranslated(str(why)))
                 return
@@ -387,7 +387,7 @@ class Import:
 
     def _sections(self, is_out: Dict[int, str]) -> List[Section]:
         """The rules for packets that are translated, without these translations, and without those that then have no room."""
-        owned = [(at, it) for at, one in enumerate(self.translations) if at not in is_out for it in one.pieces]
+        owned = [(at, piece) for at, one in enumerate(self.translations) if at not in is_out for piece in one.pieces]
         found = sections(owned, self._asked, MOST_RULES - self.rule_lines, self.about)
         without = {it.owner: it.out for it in found if it.out} or self._too_many(found)
         if without:

@@ -30,7 +30,7 @@ def match_lost(rule: Filter) -> Iterator[str]:
     """What is lost by a `match` without a translation, which decides nothing."""
     if rule.route:
         yield ROUTES[rule.route]
-    yield from (_LOST[it.word] for it in rule.options if it.word in _LOST)
+    yield from (_LOST[option.word] for option in rule.options if option.word in _LOST)
     if rule.state or rule.state_options:
         yield "options of states are left out: rules below it do not get them"
 
@@ -39,10 +39,10 @@ def match_translation(rule: Filter) -> Translation:
     """The translation that a `match` stands for."""
     assert rule.to
     _check_direction(rule, rule.to.kind)
-    strange = [it.word for it in rule.options if it.word not in _BESIDES]
+    strange = [option.word for option in rule.options if option.word not in _BESIDES]
     if strange or rule.users or rule.groups or rule.flags or rule.icmp_types or rule.state or rule.route:
         raise Out("a `match` with a translation is taken in by interfaces, protocols, addresses and ports alone")
-    options = [*rule.to.options, *(it for it in rule.options if it.word.endswith("tagged"))]
+    options = [*rule.to.options, *(option for option in rule.options if option.word.endswith("tagged"))]
     return replace(rule.to, match=rule.match, options=options, is_match=True)
 
 
@@ -67,7 +67,7 @@ def pass_translated(firewall: Firewall, rule: PfRule, its: Taken, place: str, ab
         lost: List[str] = []
         pieces = pieces_of(firewall, replace(words, match=rule.words.match), rule, its.region, lost)
         lines = [line for piece in pieces for line in as_passed(piece, its.base, place, lost, about)]
-        its.translated += [(it.direction, it.region, it.target, it.ports) for it in pieces]
+        its.translated += [(piece.direction, piece.region, piece.target, piece.ports) for piece in pieces]
         return replace(its, lines=lines, lost=[*its.lost, *lost, *drawn(pieces)])
     except (Out, NotRead, NotKnown) as why:
         return replace(its, lines=[], out=str(why))

@@ -221,7 +221,7 @@ def _a_number(reader: Reader) -> List[str]:
 
 
 def _queues(reader: Reader) -> List[str]:
-    return [it.word for it in _in_parentheses(reader)] if reader.is_next("(") else _a_word(reader)
+    return [option.word for option in _in_parentheses(reader)] if reader.is_next("(") else _a_word(reader)
 
 
 def _divert(reader: Reader) -> List[str]:
@@ -238,7 +238,7 @@ def _set_priority(reader: Reader) -> List[str]:
 def _listed(reader: Reader) -> List[str]:
     """The words in parentheses, with or without commas between them."""
     reader.expect("(")
-    return [it for words in reader.until(")", lambda: _queues(reader)) for it in words]
+    return [word for words in reader.until(")", lambda: _queues(reader)) for word in words]
 
 
 _OPTIONS: Dict[str, Callable[[Reader], List[str]]] = {
@@ -367,7 +367,7 @@ def _table(reader: Reader, _: str) -> Table:
             table.words.append(reader.take().text)
         else:
             raise NotRead(f"{reader.next} is not understood here")
-    if any(it.kind is HostKind.RANGE for it in table.hosts):
+    if any(host.kind is HostKind.RANGE for host in table.hosts):
         raise NotRead("pfctl takes no ranges in tables")
     return table
 

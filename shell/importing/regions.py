@@ -50,7 +50,7 @@ class Region(NamedTuple):
         """The families that have packets."""
         ends = [it.addresses for it in (self.source, self.destination) if it.addresses is not None]
         has_ports = () not in (self.source.ports, self.destination.ports)
-        return [it for it in FAMILIES if has_ports and self.family in (0, it) and all(end.spans(it) for end in ends)]
+        return [family for family in FAMILIES if has_ports and self.family in (0, family) and all(end.spans(family) for end in ends)]
 
     def common(self, other: "Region") -> Optional["Region"]:
         """The packets in both; None if there are none."""
@@ -67,7 +67,7 @@ class Region(NamedTuple):
         """Whether every packet of the other is in this one, as far as one rule can say so."""
         return (
             self.protocol in (None, other.protocol)
-            and all(self.family in (0, it) for it in other.families)
+            and all(self.family in (0, family) for family in other.families)
             and all(self.source.holds(other.source, it) and self.destination.holds(other.destination, it) for it in other.families)
         )
 

@@ -79,7 +79,7 @@ class RuleLine(NamedTuple):
         words += [f"{word} {value}" for word, value in (*named, ("tport", self.destination_port)) if value]
         words += [*["flags any"] * self.any_flags, *["no-sync"] * self.no_sync]
         words += [f"max {self.most}"] * (self.most is not None)
-        return " ".join([*words, *[self.translation] * bool(self.translation), *(f"timeout {it}" for it in self.timeouts)])
+        return " ".join([*words, *[self.translation] * bool(self.translation), *(f"timeout {timeout}" for timeout in self.timeouts)])
 
 
 @dataclass
@@ -271,7 +271,7 @@ def _of_state(state: str) -> Iterator[str]:
 def _with_options(line: RuleLine, options: Sequence[Option], number: Optional[int], lost: List[str]) -> RuleLine:
     """A line with the options of its states."""
     seconds: Dict[str, int] = {}
-    tracked = [f"`{it.word}`" for it in options if it.word in _TRACKED]
+    tracked = [f"`{option.word}`" for option in options if option.word in _TRACKED]
     lost += [f"without {', '.join(tracked)}: sources are not counted"] if tracked else []
     for word, values in options:
         value = number_of(values[0], GREATEST) if values else None

@@ -46,7 +46,7 @@ class Step(NamedTuple):
 
 def as_quick(steps: Sequence[Step]) -> List[Step]:
     """The rules of an anchor that is `quick`: what matches in it decides, so the last rule that is not quick comes first."""
-    quick, others = [it for it in steps if it.is_quick], [it for it in steps if not it.is_quick]
+    quick, others = [step for step in steps if step.is_quick], [step for step in steps if not step.is_quick]
     return [it._replace(is_quick=True) for it in (*quick, *reversed(others))]
 
 

@@ -57,7 +57,7 @@ class Section:
 
     @property
     def count(self) -> int:
-        return sum(len(it.lines) for it in self.entries)
+        return sum(len(entry.lines) for entry in self.entries)
 
     @property
     def reasons(self) -> List[str]:
@@ -76,7 +76,7 @@ def sections(owned: Sequence[Owned], filters: Sequence[Asked], room: int, about:
     no more room for rules."""
     ways = _ordered(owned, OUT, (BINAT, NAT)), _ordered(owned, IN, (RDR, BINAT))
     ordered = [it for way in ways for it in _needed(_in_few_nets(way))]
-    asked = [*(it for it in filters if it.base.is_quick), *reversed([it for it in filters if not it.base.is_quick])]
+    asked = [*(rule for rule in filters if rule.base.is_quick), *reversed([rule for rule in filters if not rule.base.is_quick])]
     found = [Section(owner, piece, about) for owner, piece in ordered]
     for section in sorted(found, key=lambda it: it.owner):
         if room < 0:
@@ -113,7 +113,7 @@ def _in_few_nets(owned: Sequence[Owned]) -> List[Owned]:
     found: List[Owned] = []
     for owner, piece in reversed(owned):
         exceptions, region = piece.region.but_few() if len(found) < MOST_RULES else ([], piece.region)
-        excepted = [(owner, Piece(piece.kind, piece.direction, it, is_no=True)) for it in exceptions]
+        excepted = [(owner, Piece(piece.kind, piece.direction, exception, is_no=True)) for exception in exceptions]
         left = [it for one in excepted for it in (*_within(found, one[1].region), one)]
         found = [*left, (owner, piece._replace(region=region)), *found]
     return found
@@ -158,7 +158,7 @@ def _entries(section: Section, asked: Sequence[Asked]) -> Iterator[Entry]:
 
 def _is_decided(region: Region, seen: Sequence[Region]) -> bool:
     """Whether the packets of each family are among those of a rule that matches them whatever flags they have."""
-    parts = [region._replace(family=it) for it in region.families]
+    parts = [region._replace(family=family) for family in region.families]
     return all(any(it.holds(part) for it in seen) for part in parts)
 
 
@@ -171,7 +171,7 @@ class Ruled(NamedTuple):
 
     @property
     def size(self) -> int:
-        return sum(len(it.lines) for it in self.entries)
+        return sum(len(entry.lines) for entry in self.entries)
 
 
 def _of_rule(section: Section, region: Region, asked: Sequence[Asked]) -> Ruled:

@@ -80,7 +80,7 @@ def translated(firewall: Firewall, words: Translation, context: Context) -> Piec
     its = Pieces()
     try:
         target = Target(words.match.family) if words.is_no else _target(firewall, words, its.lost)
-        of_filter = [it for it in words.options if it.word in _OF_FILTER]
+        of_filter = [option for option in words.options if option.word in _OF_FILTER]
         rules = expanded(firewall, Filter(words.kind, replace(words.match, family=target.family), options=of_filter))
         if not rules:
             raise Out("pfctl refuses it: its addresses are of two families, so it gives no rule")
@@ -106,20 +106,20 @@ def _of_rule(words: Translation, rule: PfRule, target: Target, context: Context,
         return []
     if words.is_no:
         ways = {NAT: (OUT,), RDR: (IN,), BINAT: (OUT, IN)}[words.kind]
-        return [Piece(words.kind, it, region, is_no=True) for it in ways if region.families]
+        return [Piece(words.kind, way, region, is_no=True) for way in ways if region.families]
     return [it for family in region.families for it in _of_family(words, rule, region._replace(family=family), target)]
 
 
 def pieces_of(firewall: Firewall, words: Translation, rule: PfRule, region: Region, lost: List[str]) -> List[Piece]:
     """What a translation does with the packets of a rule that has it as an option."""
     target = _target(firewall, words, lost)
-    families = [it for it in region.families if target.family in (0, it)]
+    families = [family for family in region.families if target.family in (0, family)]
     return [it for family in families for it in _of_family(words, rule, region._replace(family=family), target)]
 
 
 def within_anchor(pieces: Iterable[Piece], regions: Sequence[Region]) -> List[Piece]:
     """The pieces for the packets that come to an anchor."""
-    parts = ((it, it.region.common(region)) for it in pieces for region in regions)
+    parts = ((piece, piece.region.common(region)) for piece in pieces for region in regions)
     return [it._replace(region=part) for it, part in parts if part is not None]
 
 
@@ -149,7 +149,7 @@ def _target(firewall: Firewall, words: Translation, lost: List[str]) -> Target:
     if not own:
         raise Out("no address of its family follows `->`")
     firsts: Dict[int, Network] = {net.version: net for net in reversed(own)}
-    several = [it for it in firsts.values() if sum(net.num_addresses for net in own if net.version == it.version) > 1]
+    several = [first for first in firsts.values() if sum(net.num_addresses for net in own if net.version == first.version) > 1]
     if several and words.kind == BINAT:
         raise Out("a net would keep the rest of each address, and addresses are translated one by one here")
     lost += [f"of several addresses to translate to, the first is taken, {it.network_address}" for it in several]
@@ -194,16 +194,16 @@ def _of_ports(region: Region, lost: List[str]) -> Region:
 
 def drawn(pieces: Iterable[Piece]) -> List[str]:
     """What is lost of translations whose ports pf draws at random."""
-    nats = [it for it in pieces if it.kind == NAT and it.target is not None]
-    ranges = [it for it in nats if it.ports is not None and it.ports[0] < it.ports[1] and it.region.protocol in (None, *WITH_PORTS)]
-    echoes = [it for it in nats if it.region.protocol in (None, ICMP) and it.region.family == 4 and not it.region.has_ports]
+    nats = [piece for piece in pieces if piece.kind == NAT and piece.target is not None]
+    ranges = [nat for nat in nats if nat.ports is not None and nat.ports[0] < nat.ports[1] and nat.region.protocol in (None, *WITH_PORTS)]
+    echoes = [nat for nat in nats if nat.region.protocol in (None, ICMP) and nat.region.family == 4 and not nat.region.has_ports]
     what = "the port" if ranges else "the identifier of an echo" if echoes else ""
     return [f"pf draws {what} at random, and here the first free one is taken"] if what else []
 
 
 def _pool(words: Translation) -> Optional[Span]:
     """The ports of a `nat`; None if each packet keeps its own."""
-    if any(it.word == STATIC for it in words.options):
+    if any(option.word == STATIC for option in words.options):
         if words.port:
             raise Out(f"pfctl takes no `{STATIC}` with a port")
         return None
@@ -216,7 +216,7 @@ def _pool(words: Translation) -> Optional[Span]:
 
 def _redirected(words: Translation, of: Optional[Operation], piece: Piece) -> Iterator[Piece]:
     """An `rdr`: to one port, or each port to one of its own, counted from the first that it is for."""
-    if any(it.word == STATIC for it in words.options):
+    if any(option.word == STATIC for option in words.options):
         raise Out(f"pfctl takes `{STATIC}` only with `nat`")
     if words.port and piece.region.protocol not in WITH_PORTS:
         raise Out("pfctl takes a port only with `proto tcp` or `proto udp`")
@@ -250,7 +250,7 @@ def _mapped(of: Optional[Operation], alternatives: int, first: int, last: str) -
         raise Out(f"each of {len(ports)} ports is redirected to one of its own, and a rule here has no form for that")
     if count < 1 or first + min(count, len(ports)) - 1 > 65535:
         raise Out("its ports go beyond the last one, or from the last to the first")
-    return ((it, (it - low) % count + first) for it in ports)
+    return ((port, (port - low) % count + first) for port in ports)
 
 
 def few_of(ports: Optional[Ports]) -> List[int]:

@@ -23,8 +23,8 @@ def setup_lines(its: Import, nodes: Sequence[str], extra: Sequence[str], opens: 
     lines += [*its.settings.lines(), ""]
     if its.is_skipped:
         lines.append(f"# `set skip` makes pf filter nothing on {on}: without rules every packet passes, and makes no state")
-    lines += [line for it in its.translations for line in _lost(it.judged)]
-    for owner, sections in groupby((it for it in its.sections if it.count), lambda it: it.owner):
+    lines += [line for translation in its.translations for line in _lost(translation.judged)]
+    for owner, sections in groupby((section for section in its.sections if section.count), lambda it: it.owner):
         lines += _translated(its.translations[owner].judged, sections, nodes)
     seen: Set[int] = set()
     for judged, rules in its.written:
@@ -65,14 +65,14 @@ def _translated(judged: Judged, sections: Iterable[Section], nodes: Sequence[str
 
 
 def _lost(judged: Judged) -> Iterator[str]:
-    return (of_reason(judged.place, judged.verdict.value, it) for it in judged.reasons if judged.verdict is Verdict.APPROXIMATED)
+    return (of_reason(judged.place, judged.verdict.value, reason) for reason in judged.reasons if judged.verdict is Verdict.APPROXIMATED)
 
 
 def _rules(judged: Judged, rules: Sequence[Numbered], nodes: Sequence[str], is_again: bool) -> Iterator[str]:
     """The rules of a statement where pf comes to it; if it is out, a comment says so instead. What is lost is said once."""
     is_out = judged.verdict is Verdict.OUT
     if not is_again and (is_out or judged.rules):
-        yield from (of_reason(judged.place, judged.verdict.value, it) for it in judged.reasons)
+        yield from (of_reason(judged.place, judged.verdict.value, reason) for reason in judged.reasons)
     if not is_again and is_out:
         yield of_reason(judged.place, judged.verdict.value, short(judged.line.text))
     for it in rules:
@@ -91,7 +91,7 @@ def _written(lines: Sequence[RuleLine], nodes: Sequence[str]) -> Iterator[str]:
 
 def first_too_many(its: Import) -> str:
     """The statement that gives a node more rules than it may have, with what to do; empty if there is none."""
-    counts = accumulate(sum(len(it.lines) for it in rules) for _, rules in its.written)
+    counts = accumulate(sum(len(rule.lines) for rule in rules) for _, rules in its.written)
     over = next((one.judged for one, count in zip(its.written, counts) if count > MOST_RULES), None)
     if over is None:
         return ""
@@ -105,7 +105,7 @@ def report(its: Import, path: str) -> Iterator[str]:
     for judged in its.judged:
         if judged.verdict in (Verdict.APPROXIMATED, Verdict.OUT):
             yield f"{legible(judged.line.path)}:{judged.line.number}: {judged.verdict.value}: {'; '.join(judged.reasons)}"
-    yield from (f"{legible(path)}: {legible(it)}" for it in _notes(its))
+    yield from (f"{legible(path)}: {legible(note)}" for note in _notes(its))
     rules = [it for it in its.judged if it.is_rule]
     tail = f"; {counted(its.rule_lines, 'rule line')} a node"
     yield f"{legible(path)}: {_sum(its, rules, counted(_here(rules), 'rule') + f' of {its.firewall.on}')}{tail}"

@@ -93,13 +93,13 @@ class Carrying:
         """The way of a packet of told flows. Of several with the same ends on the wire it is the first that is told of later, else the
         last. If a forwarded packet has a state for its way in and one for its way out, the interface is that whose rules pass it."""
         ways = self._told[wire]
-        directions = {it.way.direction for it in ways}
+        directions = {way.way.direction for way in ways}
         if len(directions) > 1:
             if (node, wire) not in self._directions:
-                passed = {it.way.direction for it in ways if passing_rule(self.setting.setup, node, it.flow)}
+                passed = {way.way.direction for way in ways if passing_rule(self.setting.setup, node, way.flow)}
                 self._directions[node, wire] = passed.pop() if len(passed) == 1 else ""
-            ways = [it for it in ways if it.way.direction == self._directions[node, wire]]
-        return next((it.way for it in ways if it.last >= time), ways[-1].way if ways else None)
+            ways = [way for way in ways if way.way.direction == self._directions[node, wire]]
+        return next((way.way for way in ways if way.last >= time), ways[-1].way if ways else None)
 
     def has(self, node: str, flow: Ends) -> bool:
         """Whether a node's interface carried packets of a flow: these make its state what it is."""

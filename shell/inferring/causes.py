@@ -210,11 +210,11 @@ class Causes:
         comes after."""
         one, sent = self.night.sent[place], self.night.sent
         later = self._next_of(node, place, _arrival(one))
-        if later is None or later in self._begun or not any(it.asks_for_all for it in sent[later].message.records):
+        if later is None or later in self._begun or not any(record.asks_for_all for record in sent[later].message.records):
             return False
-        asked = {it.name for it in sent[later].message.records if it.kind is UPDATE_REQUEST}
+        asked = {record.name for record in sent[later].message.records if record.kind is UPDATE_REQUEST}
         has_asked = any(it in asked and self.state_of(node, it) for it in _changed(one))
-        if not has_asked and not any(self._is_kept(node, it, later) for it in one.message.records if it.kind is INSERT):
+        if not has_asked and not any(self._is_kept(node, record, later) for record in one.message.records if record.kind is INSERT):
             return False
         others = (it for it in sent[:later] if it.node != node and it.arrived is not False)
         came = [it for it in others if _arrival(one) <= _arrival(it) < sent[later].time]
@@ -440,7 +440,7 @@ def wanted(flow: Ends, record: Record) -> Optional[Wanted]:
     """What a record tells of a state; nothing if the laboratory does not have its levels."""
     assert record.source and record.destination
     ends = end_of(flow.protocol, record.source), end_of(flow.protocol, record.destination)
-    if max(it.level for it in ends) > TIME_WAIT:
+    if max(end.level for end in ends) > TIME_WAIT:
         return None
     keys = keyed(flow.protocol, flow.wire), keyed(flow.protocol, flow.stack)
     return Wanted(flow.protocol, flow.direction, *keys, *_levelled(flow, record, ends))
@@ -469,7 +469,7 @@ def changes_of(record: Record) -> Changes:
 
 def _changed(sent: Sent) -> List[str]:
     """The states that a message changes by short updates."""
-    return [it.name for it in sent.message.records if it.kind is SHORT_UPDATE]
+    return [record.name for record in sent.message.records if record.kind is SHORT_UPDATE]
 
 
 def _arrival(sent: Sent) -> int:

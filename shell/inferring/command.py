@@ -56,7 +56,7 @@ def infer(words: ScriptOptions, program: str, captures: Sequence[str], captured:
 def _refuse_own(script: str, sources: Sources) -> None:
     """Refuses to write over a file that the script is inferred from."""
     files = [*sources.captures, *(path for _, path in (*sources.logs, *sources.data)), *[sources.rules] * bool(sources.rules)]
-    if os.path.realpath(script) in {os.path.realpath(it) for it in files}:
+    if os.path.realpath(script) in {os.path.realpath(file) for file in files}:
         raise Unknown(f"{script} is one of the files that the script is inferred from: {SCRIPT} writes another one")
 
 

@@ -170,8 +170,8 @@ def _key(key: Key) -> str:
 
 
 def _windows(ends: Sequence[End]) -> List[Tuple[int, Optional[int]]]:
-    return [(it.window, it.scale) for it in ends]
+    return [(end.window, end.scale) for end in ends]
 
 
 def _spans(ends: Sequence[End]) -> str:
-    return " ".join(f"[{it.lo} + {(it.hi - it.lo) % 2**32}]" for it in ends)
+    return " ".join(f"[{end.lo} + {(end.hi - end.lo) % 2**32}]" for end in ends)

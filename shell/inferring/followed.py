@@ -121,7 +121,7 @@ class Followed:
         number = self.rule_of(packet)
         if number is None:
             return None
-        keys = next((it for it in rules[number].keys(packet) if table.is_free(packet.protocol, it)), None)
+        keys = next((key for key in rules[number].keys(packet) if table.is_free(packet.protocol, key)), None)
         if keys is None:
             return None
         source, destination, timeout_class = started(self.setup.kernel, packet)

@@ -139,7 +139,7 @@ class Night:
     def tells_of(self, packet: IpPacket) -> bool:
         """Whether a message tells of the flow of a packet on the wire."""
         if not self._wires:
-            keys = ((it.protocol, keyed(it.protocol, it.wire)) for it in self.flows.values())
+            keys = ((flow.protocol, keyed(flow.protocol, flow.wire)) for flow in self.flows.values())
             self._wires = {(protocol, *ends) for protocol, key in keys for ends in ((key.far, key.near), (key.near, key.far))}
         return (packet.protocol, *packet.ends) in self._wires
 

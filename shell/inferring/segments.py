@@ -244,7 +244,7 @@ class Walk:
         lengths = {min(lacks, room), lacks} if lacks > 0 else set()
         windows = {min(goals[end].window, MOST_OFFERED), max(1, self._narrow(end, goals[1 - end], other))}
         for flags in ("A", "P", "S"):
-            for amount in (*(it for it in sorted(lengths, reverse=True) if it > 0), 0):
+            for amount in (*(length for length in sorted(lengths, reverse=True) if length > 0), 0):
                 for window in sorted(windows, reverse=True):
                     yield self._of_moving(end, flags, amount, window, goals[1 - end])
 
@@ -269,12 +269,12 @@ class Walk:
 
 def _taken_by(end: int, steps: Sequence[Step]) -> int:
     """How many sequence numbers the flags of an end's steps take."""
-    return sum(taken(it.flags) for it in steps if it.end == end)
+    return sum(taken(step.flags) for step in steps if step.end == end)
 
 
 def _first_flags(end: int, steps: Sequence[Step]) -> str:
     """The flags of an end's first step."""
-    return next((it.flags for it in steps if it.end == end), "")
+    return next((step.flags for step in steps if step.end == end), "")
 
 
 def _nexts(now: State, goals: Tuple[End, End]) -> List[int]:

@@ -43,7 +43,7 @@ def setting_of(night: Night, rules: Optional[Sequence[str]]) -> Setting:
     if rules is None:
         lines = [_FITTING, *_limits(night, None), *_rules(night)]
         return Setting(lines, Setup.of(lines), False, dict.fromkeys(NODES, 0))
-    own = [it for it in rules if not opens(it)]
+    own = [rule for rule in rules if not opens(rule)]
     setup = Setup.of(own)
     added = {node: _translations(night, setup, node) for node in NODES}
     if [it.text for it in setup.rules["a"]] == [it.text for it in setup.rules["b"]]:
@@ -65,20 +65,20 @@ def _limits(night: Night, setup: Optional[Setup]) -> Iterator[str]:
     room, has = _room(night, records), setup.limits if setup else Setup().limits
     limits = {it: number for it, number in room.items() if it is not STATES and has[it] < number}
     limits.update({MTU: _mtu(night), BATCH: _TURN})
-    if not setup or not any(it.split()[:2] == [SET.word, STATES.word] for it in setup.lines):
+    if not setup or not any(line.split()[:2] == [SET.word, STATES.word] for line in setup.lines):
         limits = {STATES: room[STATES], **limits, ASTART: 0, AEND: 0}
-    if setup and any(it.split()[:2] == [SET.word, MTU.word] for it in setup.lines) and setup.limits[MTU] >= limits[MTU]:
+    if setup and any(line.split()[:2] == [SET.word, MTU.word] for line in setup.lines) and setup.limits[MTU] >= limits[MTU]:
         del limits[MTU]
-    if sum(it.asks_for_all for it in records) > 1:
+    if sum(record.asks_for_all for record in records) > 1:
         limits[BULK_MS] = _SOONEST
-    if any(it.kind is INSERT and it.asks_for_acknowledgement for it in records):
+    if any(record.kind is INSERT and record.asks_for_acknowledgement for record in records):
         limits[DEFER] = 1
     return (f"{SET.word} {limit.word} {number}" for limit, number in limits.items())
 
 
 def _room(night: Night, records: Sequence[Record]) -> Dict[Limit, int]:
     """Room for the states that messages name and that packets can make, for their entries in queues, and for all frames at once."""
-    states = len({(it.id, it.creator) for it in records}) + len(night.carried) + len(night.logged)
+    states = len({(record.id, record.creator) for record in records}) + len(night.carried) + len(night.logged)
     wanted = {STATES: 2 * states, QUEUE: 8 * states, FRAMES: 2 * len(night.sent)}
     return {it: max(it.default, min(it.most, number)) for it, number in wanted.items()}
 
@@ -94,7 +94,7 @@ def _mtu(night: Night) -> int:
 
 def _size(records: Sequence[Record]) -> int:
     """The bytes of a frame of the laboratory with these records."""
-    kinds = Counter(SHORT_DELETE if it.kind is DELETE else it.kind for it in records)
+    kinds = Counter(SHORT_DELETE if record.kind is DELETE else record.kind for record in records)
     return HEADER + sum(SUBHEADER.size + number * kind.size for kind, number in kinds.items())
 
 
@@ -159,7 +159,7 @@ def _inserted(lines: Sequence[str], added: Dict[str, List[str]]) -> List[str]:
 def _rules(night: Night) -> Iterator[str]:
     """Rules that block what was logged for want of a state, translate what the captures show translated, and pass everything else."""
     texts = (_translating(flow) for name, flow in night.flows.items() if night.makers(name))
-    translated = [*dict.fromkeys(it for it in texts if it)]
+    translated = [*dict.fromkeys(text for text in texts if text)]
     room = MOST_RULES - 1 - len(translated)
     if room < 0:
         why = f"{len(translated)} flows are translated, and a node has at most {MOST_RULES} rules"

@@ -48,7 +48,7 @@ def way_to(kernel: Kernel, node: str, now: Optional[State], wanted: Wanted, pick
     there. A connection may be picked up in its middle, which only a rule with `flags any` passes, unless that is ruled out."""
     goals = _goals(wanted)
     keys = (now.wire, now.stack) if now else (wanted.wire, wanted.stack)
-    flow = Flow(node, wanted.protocol, now.direction if now else wanted.direction, *(keyed(wanted.protocol, it) for it in keys))
+    flow = Flow(node, wanted.protocol, now.direction if now else wanted.direction, *(keyed(wanted.protocol, key) for key in keys))
     walks = _segments(kernel, flow, goals, now, picks_up) if wanted.protocol == "tcp" else [_datagrams(kernel, flow, goals, now)]
     best: Optional[Walk] = None
     least = (0, False, 0)
@@ -165,10 +165,10 @@ def _walks(kernel: Kernel, flow: Flow, goals: Tuple[End, End], now: Optional[Sta
     has_more = any(it.end == SOURCE for it in path)
     stays = not has_more or kernel.has(WINDOW)
     begins = [Plan(SYN, stays), Plan(SYN, not stays), Plan(PICK_UP, True), Plan(PICK_UP, False)] if now is None else [Plan("", False)]
-    begins = [it for it in begins if picks_up or it.flags != PICK_UP]
+    begins = [begin for begin in begins if picks_up or begin.flags != PICK_UP]
     is_alone = now is None or now.destination.window == 0
     plans = [it._replace(moves_first=first, is_exact=exact) for first, exact, it in product((False, True), (False, True), begins)]
-    plans += [it._replace(is_wide=True) for it in begins if now is None]
+    plans += [begin._replace(is_wide=True) for begin in begins if now is None]
     # (by the kernel's rule an end that was not heard may send what it was offered, after 0)
     repeats = (SYN, PICK_UP) if kernel.has(WINDOW) and is_alone and goals[DESTINATION].hi <= MOST_OFFERED else ()
     plans += [it._replace(again=again) for again, it in product(repeats, begins)]

@@ -53,7 +53,7 @@ class Line:
     @property
     def form(self) -> str:
         """Its form, or both forms, one per line."""
-        return "\n".join(" ".join([self.word, *(it.name for it in values)]) for values in self.alternatives)
+        return "\n".join(" ".join([self.word, *(value.name for value in values)]) for values in self.alternatives)
 
     def values_of(self, words: Sequence[str]) -> Tuple[Form, ...]:
         """The forms of the words after its own, which is the first of these."""
@@ -85,7 +85,7 @@ KERNEL_WORD = choice("WORD..", (*SWITCHES, EVERY_SWITCH))
 KERNEL = Line(
     "kernel", (KERNEL_WORD,), "replaces rules of the profile by those of FreeBSD's kernel, as far as we know them, at both nodes",
     "Several lines add up, in any order, and a word may come twice. Here `kernel` alone says which rules are the kernel's.\n"
-    + "\n".join(f"{it.word}: {it.what} ({it.sure})" for it in SWITCHES.values())
+    + "\n".join(f"{switch.word}: {switch.what} ({switch.sure})" for switch in SWITCHES.values())
     + f"\n{EVERY_SWITCH}: all of these\nThe numbers say how sure we are. These rules are FreeBSD 13's as far as we know its sources, which could "
     "not be looked up here. A kernel before 13.2-RELEASE-p7 has `window` without `reset`: there a reset passes with any number. No kernel that "
     "we know has `reset` without `window`; it is for comparing. docs/KERNEL.md says more.",

@@ -31,7 +31,7 @@ class Outcome:
     @property
     def pattern(self) -> str:
         """The regular expression for this form."""
-        return " ".join(_PATTERNS.get(it, "[0-9]+" if it.isupper() else f"(?:{it})") for it in self.form.split())
+        return " ".join(_PATTERNS.get(word, "[0-9]+" if word.isupper() else f"(?:{word})") for word in self.form.split())
 
 
 @dataclass(frozen=True)
@@ -60,11 +60,11 @@ class Event:
     @property
     def refused(self) -> Tuple[str, ...]:
         """Its refusals with their numbers."""
-        return tuple(numbered(it, EVENT_REFUSALS) for it in self.refusals)
+        return tuple(numbered(refusal, EVENT_REFUSALS) for refusal in self.refusals)
 
     def outcome_of(self, words: Sequence[str]) -> Outcome:
         """The row of an outcome, from its words."""
-        return next(it for it in self.outcomes if it.word == words[0])
+        return next(outcome for outcome in self.outcomes if outcome.word == words[0])
 
     def form_with(self, values: Sequence[Form]) -> str:
         return " ".join([self.word, *map(str, values)])

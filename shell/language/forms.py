@@ -62,7 +62,7 @@ def one_of(words: Iterable[str]) -> str:
 
 def quoted(words: Iterable[str]) -> str:
     """Words, one of which is expected, as they are typed: `a` or `b`, each with its marks."""
-    return one_of(f"`{it}`" for it in words)
+    return one_of(f"`{word}`" for word in words)
 
 
 def plain_number(word: str) -> str:
@@ -91,9 +91,9 @@ def choice(name: str, words: Tuple[str, ...]) -> Form:
 
 def _v4_wrong(word: str) -> Optional[str]:
     parts = word.split(".")
-    if len(parts) != 4 or not all(re.fullmatch("[0-9]+", it) for it in parts):
+    if len(parts) != 4 or not all(re.fullmatch("[0-9]+", part) for part in parts):
         return "has no address of four numbers joined by dots"
-    above = [it for it in parts if int(it) > 255]
+    above = [part for part in parts if int(part) > 255]
     return f"has {above[0]} in its address, above 255" if above else None
 
 
@@ -170,7 +170,7 @@ def _flags_wrong(word: str) -> Optional[str]:
     unknown = [it for it in word if it not in FLAG_LETTERS]
     if unknown:
         return f"has `{unknown[0]}`, which is not a flag: flags are letters of {FLAG_LETTERS} in this order, or `-` for none"
-    ordered = "".join(it for it in FLAG_LETTERS if it in word)
+    ordered = "".join(letter for letter in FLAG_LETTERS if letter in word)
     return None if word == ordered else f"has flags in another order or twice: write `{ordered}`"
 
 

@@ -38,7 +38,7 @@ BULK_MS = Limit("bulk_ms", 1, 60000, 10000)
 ASTART = Limit("astart", 0, 131072, fifths=3)
 AEND = Limit("aend", 0, 131072, fifths=6)
 _LIMITS = (STATES, QUEUE, FRAMES, MTU, HELD, DEFER, DEFER_MS, MAXUPD, BATCH, BULK_MS, ASTART, AEND)
-LIMITS = {it.word: it for it in _LIMITS}
+LIMITS = {limit.word: limit for limit in _LIMITS}
 
 
 @dataclass(frozen=True)
@@ -95,7 +95,7 @@ NAT, RDR = Option("nat", (form.POOL,)), Option("rdr", (form.POOL,))
 TIMEOUT = Option("timeout", (CLASS, number("SECONDS", form.GREATEST)))
 # In the order in which they come in a rule.
 _OPTIONS = (QUICK, PROTO, FROM, FROM_PORT, TO, TO_PORT, FLAGS_ANY, NO_SYNC, MAX, NAT, RDR, TIMEOUT)
-OPTIONS = {it.word: it for it in _OPTIONS}
+OPTIONS = {option.word: option for option in _OPTIONS}
 RULE_FORM = f"pass|block in|out|any {' '.join(it.form for it in OPTIONS.values())}..."
 MOST_RULES = 256
 

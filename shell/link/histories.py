@@ -32,7 +32,7 @@ class History:
 
     def _tried(self, event: str) -> Explanation:
         """The answer of a run of its own, since the branch may stand elsewhere."""
-        stepped = [f"{STEP.word} main {it}" for it in self.lines]
+        stepped = [f"{STEP.word} main {line}" for line in self.lines]
         return read_explanation(self.lab.run([*stepped, f"{WHY.word} main {event}"])[-1])
 
     def newest_flights(self) -> Iterator[Flight]:

@@ -258,8 +258,8 @@ class Laboratory:
 
     def outcomes(self, events: Sequence[str]) -> List[str]:
         """What became of each event, from the opening on."""
-        replies = self.run([f"step main {it}" for it in events])
-        return [outcome_of(it[0]) for it in replies]
+        replies = self.run([f"step main {event}" for event in events])
+        return [outcome_of(reply[0]) for reply in replies]
 
     def with_contents(self, pair: Pair, branch: Optional[Branch] = None) -> Pair:
         """A shown pair with the records of its frames, and with the packets that its nodes hold, from its branch: without the setup

@@ -18,7 +18,7 @@ from ..language.lines import lines_of, opens
 from ..language.searches import FOUND
 
 # The first words of replies that end with a line `end`.
-MANY_LINES = frozenset((*(it.replies[0].split()[0] for it in COMMANDS.values() if it.is_long), FOUND))
+MANY_LINES = frozenset((*(command.replies[0].split()[0] for command in COMMANDS.values() if command.is_long), FOUND))
 # What a session asks a server besides commands: for the lines of its setup, for the entries of its journal until the session's next
 # line comes, and for a few numbers.
 SETUP_WORD, FOLLOW, VIEW = "setup", "follow", "view"
@@ -216,7 +216,7 @@ class Incoming:
         """Takes a part of what comes; returns whether there was any. A line whose end never comes is no line."""
         part = self._connection.recv(1 << 16, flags)
         *lines, self._rest = (self._rest + part).split(b"\n")
-        self._lines.extend(it.decode(errors="surrogateescape") for it in lines)
+        self._lines.extend(line.decode(errors="surrogateescape") for line in lines)
         self.has_ended = not part
         return bool(part)
 

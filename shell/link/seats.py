@@ -75,9 +75,9 @@ def _list(value: object) -> List[object]:
 def _setup(message: Data) -> Sequence[str]:
     """The lines of the setup in the first message of a page."""
     lines = _list(message.get("setup"))
-    if not all(isinstance(it, str) and "\n" not in it for it in lines):
+    if not all(isinstance(line, str) and "\n" not in line for line in lines):
         raise Ended(NOT_A_PAGE)
-    return [str(it) for it in lines]
+    return [str(line) for line in lines]
 
 
 class Guest(Session):

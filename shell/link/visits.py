@@ -129,7 +129,7 @@ class Messages(Incoming):
     def _put_aside(self) -> None:
         """Sets messages aside; between them are empty lines, and signs of life."""
         if self._is_open:
-            self.aside.extend(it for it in self._lines if it.startswith(DATA))
+            self.aside.extend(line for line in self._lines if line.startswith(DATA))
             self._lines.clear()
 
 

@@ -17,11 +17,11 @@ def canonical_text(rule: Rule) -> str:
     for word in words:
         canonical.append(word)
         if word in OPTIONS:
-            canonical += [it.plain(next(words)) for it in OPTIONS[word].values]
+            canonical += [value.plain(next(words)) for value in OPTIONS[word].values]
     return " ".join(canonical)
 
 
 def rules_checksum(rules: Sequence[Rule]) -> str:
     """The MD5 of the canonical text of a rule set, in hexadecimal."""
-    text = "".join(f"{canonical_text(it)}\n" for it in rules)
+    text = "".join(f"{canonical_text(rule)}\n" for rule in rules)
     return hashlib.md5(text.encode("ascii")).hexdigest()

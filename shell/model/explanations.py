@@ -134,7 +134,7 @@ class Purge(NamedTuple):
     @property
     def due(self) -> List[Expiry]:
         """The states that are deleted, by name."""
-        return [it for it in self.expiries if it.expires <= self.clock]
+        return [expiry for expiry in self.expiries if expiry.expires <= self.clock]
 
 
 class Against(NamedTuple):
@@ -203,7 +203,7 @@ def _loose(values: Sequence[str]) -> Loose:
 
 
 def _against(lines: Sequence[List[str]]) -> Against:
-    return Against(tuple(int(it) for _, *numbers in lines for it in numbers))
+    return Against(tuple(int(number) for _, *numbers in lines for number in numbers))
 
 
 def _judged(lines: Sequence[List[str]]) -> Judged:

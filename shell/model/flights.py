@@ -42,7 +42,7 @@ class Flight:
     @property
     def now(self) -> Frame:
         """The frame as its cuts have left it."""
-        return replace(self.frame, data=self.frame.data[: min(int(it.outcome[1]) for it in self.cuts)]) if self.cuts else self.frame
+        return replace(self.frame, data=self.frame.data[: min(int(cut.outcome[1]) for cut in self.cuts)]) if self.cuts else self.frame
 
     @property
     def ended(self) -> Optional[Happened]:
@@ -65,7 +65,7 @@ class Flight:
 def read_flight(reply: Sequence[str]) -> Flight:
     """The frame that a reply shows."""
     _, event, came, frame, *lines, _ = reply
-    records = tuple(Record.read(it.split()[1:]) for it in lines if it.startswith("record "))
-    steps = [it for it in lines if it.startswith(("event ", "outcome "))]
+    records = tuple(Record.read(line.split()[1:]) for line in lines if line.startswith("record "))
+    steps = [line for line in lines if line.startswith(("event ", "outcome "))]
     later = [Happened.read(*two) for two in zip(steps[::2], steps[1::2])]
     return Flight(replace(Frame.read(frame.split()[1:]), records=records), Happened.read(event, came), later)

@@ -89,12 +89,12 @@ class Frame:
         """What it carries, in a few words: `2 inserts, 1 bulk status`."""
         if self.broken:
             return f"broken: {self.broken}"
-        return kinds_counted(it.kind for it in self.records)
+        return kinds_counted(record.kind for record in self.records)
 
 
 def kinds_counted(kinds: Iterable[RecordKind]) -> str:
     """How many records there are of each kind, in the order of the first ones."""
-    counts = Counter(it.name for it in kinds)
+    counts = Counter(kind.name for kind in kinds)
     return ", ".join(f"{n} {_plural(name) if n > 1 else name}" for name, n in counts.items()) or "no records"
 
 

@@ -17,7 +17,7 @@ class Kernel:
     def with_words(self, words: Collection[str]) -> "Kernel":
         """With the rules of a line `kernel` besides."""
         said = SWITCHES if EVERY_SWITCH in words else words
-        return Kernel(tuple(it for it in SWITCHES.values() if it in self.switches or it.word in said))
+        return Kernel(tuple(switch for switch in SWITCHES.values() if switch in self.switches or switch.word in said))
 
     def without(self, switch: Switch) -> "Kernel":
         """With the profile's rule in the place of one of the kernel's."""
@@ -25,7 +25,7 @@ class Kernel:
 
     def toggled(self, switches: Collection[Switch]) -> "Kernel":
         """With the other rule in each of these places: the kernel's for the profile's, and the profile's for the kernel's."""
-        return Kernel(tuple(it for it in SWITCHES.values() if (it in self.switches) != (it in switches)))
+        return Kernel(tuple(switch for switch in SWITCHES.values() if (switch in self.switches) != (switch in switches)))
 
     def apart(self, other: "Kernel") -> Tuple[Switch, ...]:
         """The places where another set of rules has another one."""
@@ -41,12 +41,12 @@ class Kernel:
     @property
     def line(self) -> str:
         """The line of a setup that says it; no line is needed for the profile."""
-        return " ".join([KERNEL.word, *(it.word for it in self.switches)])
+        return " ".join([KERNEL.word, *(switch.word for switch in self.switches)])
 
     @property
     def words(self) -> List[str]:
         """The words for it, one for all."""
-        return [EVERY_SWITCH] if len(self.switches) == len(SWITCHES) else [it.word for it in self.switches]
+        return [EVERY_SWITCH] if len(self.switches) == len(SWITCHES) else [switch.word for switch in self.switches]
 
     @property
     def short(self) -> str:

@@ -74,7 +74,7 @@ class Node:
     def found(self, packet: PacketEvent) -> Optional[State]:
         """The state with the packet's key: its wire key on the way in, its stack key on the way out."""
         is_in = packet.direction == "in"
-        by_key = {(it.protocol, it.wire if is_in else it.stack): it for it in self.states.values()}
+        by_key = {(state.protocol, state.wire if is_in else state.stack): state for state in self.states.values()}
         return by_key.get((packet.protocol, packet.key))
 
     @property
@@ -118,7 +118,7 @@ class Pair:
 
 
 def _take_counts(node: Node, words: List[str]) -> None:
-    node.counters = dict(zip((it.name for it in COUNTERS), map(int, words)))
+    node.counters = dict(zip((counter.name for counter in COUNTERS), map(int, words)))
 
 
 def _take_state(node: Node, words: List[str]) -> None:

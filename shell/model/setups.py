@@ -160,7 +160,7 @@ class Setup:
     timeouts are those of the lines `set timeout`, by class."""
 
     lines: List[str] = field(default_factory=list)
-    limits: Dict[Limit, int] = field(default_factory=lambda: {it: it.default for it in LIMITS.values() if not it.fifths})
+    limits: Dict[Limit, int] = field(default_factory=lambda: {limit: limit.default for limit in LIMITS.values() if not limit.fifths})
     timeouts: Dict[str, int] = field(default_factory=dict)
     rules: Dict[str, List[Rule]] = field(default_factory=lambda: {node: [] for node in NODES})
     kernel: Kernel = PROFILE
@@ -185,7 +185,7 @@ class Setup:
 
     def by(self, kernel: Kernel) -> "Setup":
         """The same setup by the rules of a kernel, without its comments."""
-        return Setup.of([*([] if kernel.is_profile else [kernel.line]), *(it for it in self.lines if it.split()[0] != KERNEL.word)])
+        return Setup.of([*([] if kernel.is_profile else [kernel.line]), *(line for line in self.lines if line.split()[0] != KERNEL.word)])
 
     def pass_over(self, line: str) -> None:
         """Takes a line that is not read: a comment may say where the rules below it are from."""

@@ -75,8 +75,8 @@ class Bridge:
         self._program, self._run, self._branches = program, run, branches
         # The token for watching, which a page has for links.
         self._watching = watching
-        self._records = {it.name: it for it in run.records if not it.former}
-        self._former = FormerRuns(program, run.setup, [it for it in run.records if it.former])
+        self._records = {record.name: record for record in run.records if not record.former}
+        self._former = FormerRuns(program, run.setup, [record for record in run.records if record.former])
         self._lost: List[Lost] = []
         # The place in the journal of the newest command of the page's own session, if it is known.
         self._own: Optional[int] = None
@@ -252,7 +252,7 @@ class Bridge:
         found: List[Offer] = []
         if wanted.branch in self._shown:
             known = self._offered.setdefault(wanted.branch, {})
-            lacking = [it for it in wanted.places if it not in known]
+            lacking = [place for place in wanted.places if place not in known]
             branch = replace(self._shown[wanted.branch].branch, name=MAIN)
             new = offers(self._records[wanted.branch].laboratory, branch, lacking) if lacking else []
             known.update({place: [it for it in new if it.place == place] for place in lacking})

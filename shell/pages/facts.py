@@ -59,7 +59,7 @@ class Looker:
 
     def _facts(self, seen: Seen) -> Iterator[Fact]:
         """All facts that may have changed."""
-        for name in (it for it in NODES if seen.before.nodes[it] != seen.after.nodes[it]):
+        for name in (node for node in NODES if seen.before.nodes[node] != seen.after.nodes[node]):
             yield from self._of_node(name, seen)
         yield from self._apart(seen)
         counts = self._standings.counts
@@ -89,7 +89,7 @@ class Looker:
             "clock": node.clock,
             "scale": self.setup.adaptive.scale(len(node.states)),
             "numbers": [[name, text] for name, text in node_numbers(node).items()],
-            "counters": [[it.counts, node.counters[it.name]] for it in COUNTERS],
+            "counters": [[counter.counts, node.counters[counter.name]] for counter in COUNTERS],
             "scaling": scaling(self.setup, node),
         }
 
@@ -120,13 +120,13 @@ class Looker:
             yield f"apart/{name}", standing
 
     def _frame(self, frame: Frame) -> Dict[str, object]:
-        records = [record_line(it) for it in frame.records]
+        records = [record_line(record) for record in frame.records]
         head = f"{frame_head(frame, self.setup)}: {frame.summary}"
         return {"to": frame.to, "head": head, "broken": bool(frame.broken), "records": [] if frame.broken else records}
 
 
 def _messages(node: Node) -> Iterator[str]:
     """What waits to be sent to the peer but is not about a queued state."""
-    yield from (f"{UPDATE_REQUEST.name} {request(it)}" for it in node.asks)
-    yield from (f"{BULK_STATUS.name} {bulk_status(it)}" for it in node.statuses)
-    yield from (f"{CLEAR.name} {cleared(it)}" for it in node.clears)
+    yield from (f"{UPDATE_REQUEST.name} {request(ask)}" for ask in node.asks)
+    yield from (f"{BULK_STATUS.name} {bulk_status(status)}" for status in node.statuses)
+    yield from (f"{CLEAR.name} {cleared(clear)}" for clear in node.clears)

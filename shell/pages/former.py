@@ -34,7 +34,7 @@ class FormerRuns:
 
     def __init__(self, program: str, setup: Setup, records: Sequence[Record]) -> None:
         self._program, self._setup = program, setup
-        self._kept = [FormerRun([one.event for one in it.moments], it.as_data()) for it in records]
+        self._kept = [FormerRun([one.event for one in record.moments], record.as_data()) for record in records]
         self._numbers = count(len(records) + 1)
 
     @property

@@ -40,9 +40,9 @@ class Eye:
     @classmethod
     def new(cls) -> "Eye":
         """An eye that has seen nothing: nodes without states."""
-        counters = {it.name: 0 for it in COUNTERS}
-        nodes = {it: Node(it, 0, 0, 0, 0, False, "-", "-", counters) for it in NODES}
-        return cls(Pair("main", 0, 0, nodes), set(), {it: {} for it in NODES})
+        counters = {counter.name: 0 for counter in COUNTERS}
+        nodes = {node: Node(node, 0, 0, 0, 0, False, "-", "-", counters) for node in NODES}
+        return cls(Pair("main", 0, 0, nodes), set(), {node: {} for node in NODES})
 
     def see(self, shown: Sequence[str]) -> Seen:
         """Takes the lines of a shown pair."""
@@ -106,5 +106,5 @@ def _reduced(pair: Pair, changed: Dict[str, Changed]) -> Pair:
 
 
 def _of_node(node: Node, changed: Changed) -> Node:
-    states = {it: node.states[it] for it in sorted(changed.states) if it in node.states}
+    states = {state: node.states[state] for state in sorted(changed.states) if state in node.states}
     return replace(node, states=states, queue=[it for it in node.queue if it.name in changed.queued])

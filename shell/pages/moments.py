@@ -40,7 +40,7 @@ class Moment:
             its["after"] = list(after)
         if rules:
             its["rules"] = list(rules)
-        return {**its, "notes": list(notes), "why": list(self.why), "changes": [[*it] for it in self.changes], "edits": self.edits}
+        return {**its, "notes": list(notes), "why": list(self.why), "changes": [[*change] for change in self.changes], "edits": self.edits}
 
 
 @dataclass

@@ -73,7 +73,7 @@ class Record:
     def keep_texts(self, number: int) -> None:
         """Keeps only the paragraphs of the first events, and the branches that begin after them."""
         all_texts = (self.notes, self.after, self.forks)
-        self.notes, self.after, self.forks = ({at: those for at, those in it.items() if at <= number} for it in all_texts)
+        self.notes, self.after, self.forks = ({at: those for at, those in text.items() if at <= number} for text in all_texts)
 
     def close(self) -> None:
         self.laboratory.close()

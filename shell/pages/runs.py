@@ -26,7 +26,7 @@ class Run:
     records: List[Record]
 
     def as_data(self) -> Dict[str, object]:
-        branches = [it.as_data() for it in self.records]
+        branches = [record.as_data() for record in self.records]
         return {**self.head, "branches": branches, "live": None}
 
     @property
@@ -47,7 +47,7 @@ def run_of(program: str, script: Sequence[str], name: str) -> Run:
         if not lab.is_open:
             lab.open()
         branches = [lab.branch(it) for it in lab.names()]
-        records = [_recorded(lab, it, story.branches[it.name].notes, it.name) for it in branches]
+        records = [_recorded(lab, branch, story.branches[branch.name].notes, branch.name) for branch in branches]
         for record in records:
             record.forks, record.after = story.forks(record.name), {len(record.moments): story.waiting}
         former = enumerate(_others([*story.former, *_undone(story, branches)], branches), 1)
@@ -68,7 +68,7 @@ def _undone(story: Story, branches: Sequence[Branch]) -> Iterator[Former]:
 def _others(former: Sequence[Former], branches: Sequence[Branch]) -> List[Former]:
     """The newest of the former runs, without those that are the beginning of another one."""
     kept: List[Former] = []
-    there = [it.events[: it.cursor] for it in branches]
+    there = [branch.events[: branch.cursor] for branch in branches]
     for run in reversed(former):
         events = run.branch.events
         if not any(one[: len(events)] == events for one in (*there, *(other.branch.events for other in kept))):

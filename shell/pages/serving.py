@@ -152,7 +152,7 @@ class Visit(BaseHTTPRequestHandler):
 
     def _target(self) -> Tuple[str, str, str]:
         """What the sender may do, the path after the token, and the query; the method must be that of the path."""
-        if self.headers.get_all("Host", []) not in [[it] for it in self.server.hosts]:
+        if self.headers.get_all("Host", []) not in [[host] for host in self.server.hosts]:
             raise Refused(HTTPStatus.FORBIDDEN, "this host is not known here")
         found = _TARGET.fullmatch(self.path)
         may = self.server.tokens.may(found[1]) if found else None
@@ -180,7 +180,7 @@ class Visit(BaseHTTPRequestHandler):
     def _check_sender(self) -> None:
         """Checks that the page sent this, and not a form or a script from another place."""
         origins: List[str] = self.headers.get_all("Origin", [])
-        is_own = origins in [[f"http://{it}"] for it in self.server.hosts]
+        is_own = origins in [[f"http://{host}"] for host in self.server.hosts]
         if not is_own and (origins or self.headers.get("Sec-Fetch-Site", "same-origin") != "same-origin"):
             raise Refused(HTTPStatus.FORBIDDEN, "this was not sent by the page")
         if self.headers.get_content_type() != JSON:

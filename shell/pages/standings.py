@@ -30,7 +30,7 @@ class Standings:
     def __init__(self, one_rule_set: bool) -> None:
         self.one_rule_set = one_rule_set
         # The states of each node by their keys, how each state stands, and how many stand that way.
-        self._names: Dict[str, Dict[FlowKey, Set[Name]]] = {it: {} for it in NODES}
+        self._names: Dict[str, Dict[FlowKey, Set[Name]]] = {node: {} for node in NODES}
         self._kinds: Dict[Name, str] = {}
         self._numbers: Numbers[str] = Counter()
 

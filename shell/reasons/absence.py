@@ -61,14 +61,14 @@ def _names_of(question: Question) -> List[Name]:
     """The states that a node can have had for the packet's flow: those of the packets of both nodes with the same ends, or the
     same far end if rules are known to translate the near one. A state that a frame brought was made by a packet, too."""
     packet = question.packet
-    translate = any(it.pool for rules in question.lab.setup.rules.values() for it in rules)
+    translate = any(rule.pool for rules in question.lab.setup.rules.values() for rule in rules)
     # (first a look at the text, at the rarer end before all: there can be many packets)
     far, rarer = packet.key.far, packet.key.far if translate else packet.key.near
     lines = ((number, line) for number, line in enumerate(question.history.lines, 1) if rarer in line and far in line)
     packets = ((number, read_packet(line)) for number, line in lines if line.startswith(f"{PACKET.word} "))
     made = (number for number, one in packets if _meets(one, packet) and (translate or one.key == packet.key))
     outcomes = (question.history.explained(it).event.outcome for it in made)
-    return list({Name.read(it[1]): None for it in outcomes if it[0] in (PASS.word, HELD_BACK.word) and it[1] != "-"})
+    return list({Name.read(outcome[1]): None for outcome in outcomes if outcome[0] in (PASS.word, HELD_BACK.word) and outcome[1] != "-"})
 
 
 def _newest_loss(question: Question, names: Sequence[Name], is_loss: IsLoss) -> Optional[Happened]:
@@ -125,7 +125,7 @@ def _why_absent(question: Question, name: Name, node: str) -> List[str]:
 
     gone = _newest_loss(question, [name], is_loss)
     since = gone.number if gone else 0
-    carriers = (it for it in _carriers(question, name, node, WHOLE) if it.ended is None or it.ended.number > since)
+    carriers = (carrier for carrier in _carriers(question, name, node, WHOLE) if carrier.ended is None or carrier.ended.number > since)
     fates = _fates(question, islice(carriers, MOST_FATES), name)
     if gone is None:
         return fates or [_unsent(question, peer_of(question, node), name)]
@@ -148,17 +148,17 @@ def explain_lag(question: Question, name: Name, node: str) -> List[str]:
     if queued:
         return [queued]
     newest = islice(_carriers(question, name, node, ABOUT_STATES), 1)
-    return [f"the newest that {peer.id} sent about it: {it}" for it in _fates(question, newest, name)]
+    return [f"the newest that {peer.id} sent about it: {fate}" for fate in _fates(question, newest, name)]
 
 
 def _carriers(question: Question, name: Name, node: str, kinds: Sequence[RecordKind]) -> Iterator[Flight]:
     """The frames to the node with such records of the state, newest first."""
-    return (it for it in question.history.newest_flights() if it.to == node and _carried(it, name, kinds))
+    return (flight for flight in question.history.newest_flights() if flight.to == node and _carried(flight, name, kinds))
 
 
 def _carried(flight: Flight, name: Name, kinds: Sequence[RecordKind]) -> Optional[RecordKind]:
     """The kind of a frame's first such record of the state, if there is one."""
-    return next((it.kind for it in flight.frame.records if it.kind in kinds and it.name == name), None)
+    return next((record.kind for record in flight.frame.records if record.kind in kinds and record.name == name), None)
 
 
 def _fate(question: Question, flight: Flight, name: Name) -> str:

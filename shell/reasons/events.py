@@ -27,7 +27,7 @@ def _purged(question: Question) -> List[str]:
     purge, node = question.reason, _node(question)
     assert isinstance(purge, Purge)
     due = sorted(purge.due, key=lambda it: (it.expires, it.name))
-    left = [it for it in purge.expiries if it.expires > purge.clock]
+    left = [expiry for expiry in purge.expiries if expiry.expires > purge.clock]
     lines = [f"the clock of {node.id} is at {purge.clock} ms", *filter(None, [scaled_by(purge.adaptive, node.id, purge.states)])]
     lines += [_expired(question, it, node.states[it.name]) for it in due] + _held_lost(node, [it.name for it in due])
     if not left:

@@ -94,4 +94,4 @@ def _head(explanation: Explanation, paint: Paint) -> str:
 
 
 def _indented(lines: Sequence[str]) -> List[str]:
-    return [f"{INDENT}{it}" for it in lines]
+    return [f"{INDENT}{line}" for line in lines]

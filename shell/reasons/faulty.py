@@ -52,7 +52,7 @@ def _wanted(forms: Sequence[str], word: str, shown: Set[str]) -> List[str]:
     """The forms of the line that was probably meant, or where these were shown, how to see them again."""
     if not shown.issuperset(forms):
         shown.update(forms)
-        return [f"expected: {it}" for it in forms]
+        return [f"expected: {form}" for form in forms]
     return [f"`help {word}` shows the form"] if forms and helps.shows(word, forms) else []
 
 

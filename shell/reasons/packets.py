@@ -86,7 +86,7 @@ def _judged(question: Question, reason: Judged) -> List[str]:
         lines = [f"no state matched; {rule} passed it, and made state {reason.name}"]
         lines += explain_new_scale(question.lab.setup.kernel, question.packet)
     elif reason.how == "max":
-        names = name_list([it.name for it in states.values() if it.rule == reason.rule and it.name != reason.closed])
+        names = name_list([state.name for state in states.values() if state.rule == reason.rule and state.name != reason.closed])
         lines = [f"{rule} decided: it may have {counted(int(reason.values[0]), 'state')}, and has {reason.values[1]} now: {names}"]
     else:
         lines = [_room(question, reason), f"{rule} decided, and would make a state"]

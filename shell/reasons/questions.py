@@ -103,5 +103,5 @@ def peer_of(question: Question, node: str) -> Node:
 
 def name_list(names: Sequence[Name], most: int = 6) -> str:
     """Names; if there are many, only the first."""
-    shown = ", ".join(str(it) for it in names[:most])
+    shown = ", ".join(str(name) for name in names[:most])
     return f"{shown} and {len(names) - most} more" if len(names) > most else shown

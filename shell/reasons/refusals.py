@@ -22,7 +22,7 @@ def _node(question: Question) -> Node:
 
 def _no_such_frame(question: Question, next_ticket: int) -> List[str]:
     ticket = int(question.words[1])
-    flying = ", ".join(f"{it.ticket} (to {it.to})" for it in question.pair.frames.values()) or "none"
+    flying = ", ".join(f"{frame.ticket} (to {frame.to})" for frame in question.pair.frames.values()) or "none"
     line = f"no frame in flight has the ticket {ticket}; in flight: {flying}"
     if ticket >= next_ticket:
         return [line, f"frame {ticket} has not been sent yet: the next frame gets the ticket {next_ticket}"]
@@ -45,7 +45,7 @@ def _no_such_state(question: Question) -> List[str]:
     if not node.states:
         lines.append("its table is empty")
     else:
-        near = get_close_matches(str(name), [str(it) for it in node.states], n=3, cutoff=0.5)
+        near = get_close_matches(str(name), [str(known) for known in node.states], n=3, cutoff=0.5)
         lines.append(f"it has {name_list(sorted(node.states))}" + (f"; nearest: {', '.join(near)}" if near else ""))
     peer = question.table(other(node.id))
     return lines + [f"node {peer.id} has a state {name}"] * (name in peer.states)

@@ -111,7 +111,7 @@ def _offered(question: Question, state: State) -> Optional[Offered]:
 
 
 def _packets(question: Question) -> Iterator[str]:
-    return (it for it in question.history.lines if it.split(None, 1)[0] == PACKET.word)
+    return (line for line in question.history.lines if line.split(None, 1)[0] == PACKET.word)
 
 
 def _is_of(state: State, packet: PacketEvent) -> bool:

@@ -259,10 +259,10 @@ def _without_start(history: History, came: List[Came], node: Node) -> List[str]:
     asks = (f"{RESTART.word} {node.id}", f"{RETRY.word} {node.id}")
     asking = [number for number, line in enumerate(history.lines, 1) if line in asks]
     requests = (history.explained(number).event for number in reversed(asking))
-    asked = next(it for it in requests if it.outcome != [SERVED.word])
+    asked = next(request for request in requests if request.outcome != [SERVED.word])
     flights = takewhile(lambda it: it.sent.number > asked.number, history.newest_flights())
-    starts = [it for it in flights if it.to == node.id and BULK_START in _statuses(it.frame.records)]
-    if not starts or any(it.is_taken for it in starts):
+    starts = [flight for flight in flights if flight.to == node.id and BULK_START in _statuses(flight.frame.records)]
+    if not starts or any(start.is_taken for start in starts):
         return []
     since = f"since it asked for all states (event {asked.number}, `{asked.line}`)"
     return [f"{node.id} has not heard the start {since}: {_start_fate(starts[0])}"]
@@ -270,7 +270,7 @@ def _without_start(history: History, came: List[Came], node: Node) -> List[str]:
 
 def _statuses(records: Sequence[Record]) -> List[int]:
     """What records say about a bulk update."""
-    return [int(it.about[0]) for it in records if it.kind is BULK_STATUS]
+    return [int(record.about[0]) for record in records if record.kind is BULK_STATUS]
 
 
 def _start_fate(start: Flight) -> str:

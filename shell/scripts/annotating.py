@@ -38,7 +38,7 @@ def annotated(program: str, text: str) -> Annotated:
     ran = run_lines(program, script.lines)
     fault = setup_fault(ran.faults)
     if len(ran.replies) < len(script.commands) and not (ran.faults and (script.marked[FAULT] or script.marked[STATUS])):
-        had = "the replies that the script has are kept" if any(it.expected for it in script.commands) else "nothing is written"
+        had = "the replies that the script has are kept" if any(command.expected for command in script.commands) else "nothing is written"
         why = [str(setup_slip(fault, script.lines))] if fault else ran.faults
         raise NotWritten(f"{'; '.join(why) or 'not every line was answered'}: {had}")
     below = {command.number: reply for command, reply in zip(script.commands, ran.replies)}

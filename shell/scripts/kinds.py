@@ -102,7 +102,7 @@ def kind_of(begin: bytes) -> Optional[Kind]:
     text = begin.decode("utf-16" if is_wide else "utf-8-sig", "replace").replace("\\\n", " ")
     # (the last line may be cut)
     lines = [it.strip() for it in text.split("\n")[: -1 if len(begin) >= ENOUGH else None]]
-    read = [it for it in lines if it and not _OF_SEVERAL.match(it)]
+    read = [line for line in lines if line and not _OF_SEVERAL.match(line)]
     known = [it for it in map(_kind_of_line, read) if it]
     return known[0] if len({*known}) == 1 and 2 * len(known) >= len(read) else None
 

@@ -47,7 +47,7 @@ def _of_line(words: Sequence[str]) -> Offers:
     """Parts that end with semicolons; the first has a branch, a depth and a number of runs, the others how often."""
     ends = [at for at, word in enumerate(words) if word == ";"]
     if not ends:
-        return _of_goal([it for it in words[4:] if it not in SCOPES], len(words))
+        return _of_goal([word for word in words[4:] if word not in SCOPES], len(words))
     part = list(words[ends[-1] + 2 :])
     if words[-1] == ";":
         return Offers((THEN,))

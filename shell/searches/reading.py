@@ -40,7 +40,7 @@ def _words(line: str) -> List[str]:
 
 
 def _is_of_program(words: Sequence[str]) -> bool:
-    return len(words) > 3 and all(re.fullmatch("[0-9]+", it) for it in words[2:4])
+    return len(words) > 3 and all(re.fullmatch("[0-9]+", word) for word in words[2:4])
 
 
 def read(line: str, branch: str) -> Sought:
@@ -132,7 +132,7 @@ class _Parts:
     def sought(self, kind: str, packet: str) -> Sought:
         within = EVENTS_AT_MOST if self.within is None else self.within
         phases = self._phases(within)
-        said = [it.what for phase in phases for it in phase.choices]
+        said = [choice.what for phase in phases for choice in phase.choices]
         if len(said) > MOST_CHOICES:
             raise Unknown(f"a search has at most {MOST_CHOICES} choices, but these are {len(said)}: {', '.join(said)}")
         dead = self.drafts[-1].dead
@@ -179,7 +179,7 @@ def _choices(words: Sequence[str]) -> List[Tuple[str, Optional[int]]]:
         return [(ANY_DELIVERY, None)]
     what, uses = _times(words)
     if what[:2] == [TICK.word, TICK.every] and len(what) == 3:
-        return [(event_of(it.split()), uses) for it in macros.ticks(what[2])]
+        return [(event_of(tick.split()), uses) for tick in macros.ticks(what[2])]
     return [(_any(what) or event_of(what), uses)]
 
 

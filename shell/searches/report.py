@@ -30,7 +30,7 @@ def report(sought: Sought, outcome: Outcome, paint: Paint) -> List[str]:
         lines = [paint.head(_none(outcome.answer)), *map(paint.note, _left_open(sought, outcome.answer))]
     else:
         lines = [paint.note(_stopped(outcome))]
-    lines += [paint.dim(it) for it in sought.terms]
+    lines += [paint.dim(term) for term in sought.terms]
     return [*lines, paint.dim("`take` steps them on a new branch")] if outcome.steps else lines
 
 
@@ -46,9 +46,9 @@ def _found(sought: Sought, outcome: Outcome, answer: Found, paint: Paint) -> Lis
 
 def _steps(steps: Sequence[Step]) -> List[str]:
     """The events with the places that they get, as they are typed, and what comes of each."""
-    rows = [(str(it.event.number), it.event.line, it.event.came, _frame(it)) for it in steps]
+    rows = [(str(step.event.number), step.event.line, step.event.came, _frame(step)) for step in steps]
     number, event, outcome = (max((len(row[at]) for row in rows), default=0) for at in range(3))
-    return [f"  {it[0]:>{number}}  {it[1]:<{event}}  {it[2]:<{outcome}}  {it[3]}".rstrip() for it in rows]
+    return [f"  {row[0]:>{number}}  {row[1]:<{event}}  {row[2]:<{outcome}}  {row[3]}".rstrip() for row in rows]
 
 
 def _frame(step: Step) -> str:
@@ -73,7 +73,7 @@ def _apart(pair: Pair) -> str:
     """The states that only one node has, by their names."""
     parts = []
     for node, peer in ((pair.a, pair.b), (pair.b, pair.a)):
-        names = [str(it) for it in sorted(node.states) if it not in peer.states]
+        names = [str(state) for state in sorted(node.states) if state not in peer.states]
         if names:
             parts.append(f"{', '.join(names)} only on {node.id}")
     return f"a and b are apart by names: {'; '.join(parts)}"
@@ -82,7 +82,7 @@ def _apart(pair: Pair) -> str:
 def _differing(pair: Pair) -> str:
     """The states at both nodes that differ in what `differ` compares, and in what."""
     parts = []
-    for name in sorted(it for it in pair.a.states if it in pair.b.states):
+    for name in sorted({*pair.a.states} & {*pair.b.states}):
         one, two = pair.a.states[name], pair.b.states[name]
         fields = {it: both for it, both in unequal_fields(one, two).items() if it.startswith(COMPARED)}
         if fields and UNSYNCHRONISED not in (one.flags, two.flags):

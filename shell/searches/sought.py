@@ -97,7 +97,7 @@ class Sought:
         """The line that asks the program for runs of at most `depth` events."""
         scope = "" if self.scope == ANYWHERE else self.scope
         goal = " ".join(filter(None, (scope, GOALS[self.kind], self.packet)))
-        phases = ["; ".join(f"{it.uses} {it.what}" for it in phase.choices) for phase in self.phases]
+        phases = ["; ".join(f"{choice.uses} {choice.what}" for choice in phase.choices) for phase in self.phases]
         return f"{SEARCH} {branch} {depth} {self.runs} {goal}; " + f"; {THEN}; ".join(phases)
 
     @property

@@ -30,7 +30,7 @@ def pieces(chart: Chart) -> List[Piece]:
     for place, bottom in enumerate(layout.bottoms):
         if place > starts[-1] and bottom - layout.tops[starts[-1]] > TALLEST:
             starts.append(place)
-    edges = [0.0, *(layout.tops[it] for it in starts[1:]), layout.height]
+    edges = [0.0, *(layout.tops[start] for start in starts[1:]), layout.height]
     ends = [*starts[1:], len(chart.rows)]
     return [_piece(layout, range(*places), Sheet(*heights)) for places, heights in zip(zip(starts, ends), zip(edges, edges[1:]))]
 

@@ -116,7 +116,7 @@ class Playing:
 
     def mark_gone(self) -> None:
         """Marks the events that stand in no branch. Each event that was stepped is a string of its own, which its branches share."""
-        standing = {id(it) for chapter in self.story.branches.values() for it in chapter.events[: chapter.cursor]}
+        standing = {id(event) for chapter in self.story.branches.values() for event in chapter.events[: chapter.cursor]}
         for line in self.lines:
             line.is_gone = line.event is not None and id(line.event) not in standing
 

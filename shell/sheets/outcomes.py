@@ -72,7 +72,7 @@ def _moved(words: Sequence[str], cursor: int, before: int) -> str:
 
 def _short(lines: Sequence[str], more: str) -> List[str]:
     """The first lines of a reason, and the question that gives the others."""
-    its = [it[len(INDENT) :] if it.startswith(INDENT) else it for it in lines]
+    its = [line[len(INDENT) :] if line.startswith(INDENT) else line for line in lines]
     if len(its) <= MOST_REASONS:
         return its
     return [*its[:MOST_REASONS], f"and more: see {more or '`why`'} in the shell"]

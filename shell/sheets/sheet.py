@@ -60,7 +60,7 @@ def _setup(setup: Setup) -> Iterator[Markup]:
     if rows:
         yield element("table", caption, element("thead", head), element("tbody", *rows))
     yield element("p", "A packet that no rule matches passes without a state.")
-    others = [it for it in setup.lines if it.split()[0] != RULE.word]
+    others = [line for line in setup.lines if line.split()[0] != RULE.word]
     if others:
         yield element("p", "Other lines of the setup:", its="said")
         yield element("pre", "\n".join(" ".join(it.split()) for it in others))

@@ -63,7 +63,7 @@ Item = Tuple[str, str]
 def _changed(where: str, what: str, before: Dict[str, str], after: Dict[str, str]) -> List[Difference]:
     """What differs between two sets of subjects, each with its text."""
     subjects = [*before, *(it for it in after if it not in before)]
-    both = ((it, before.get(it, ""), after.get(it, "")) for it in subjects)
+    both = ((subject, before.get(subject, ""), after.get(subject, "")) for subject in subjects)
     return [Difference(where, what, it, old, new) for it, old, new in both if old != new]
 
 
@@ -123,7 +123,7 @@ def node_numbers(node: Node) -> Dict[str, str]:
 
 
 def _counters(node: Node) -> Dict[str, str]:
-    return {it.counts: str(node.counters[it.name]) for it in COUNTERS}
+    return {counter.counts: str(node.counters[counter.name]) for counter in COUNTERS}
 
 
 def _queue(node: Node) -> Dict[str, str]:
@@ -147,10 +147,10 @@ def _of_node(where: str, before: Node, after: Node) -> List[Difference]:
     found += _changed(where, "counter", _counters(before), _counters(after))
     found += _of_states(where, before, after)
     found += _changed(where, "queue", _queue(before), _queue(after))
-    found += _moved(where, "request", [_request(it) for it in before.asks], [_request(it) for it in after.asks])
-    statuses, later_statuses = ([("", bulk_status(it)) for it in node.statuses] for node in (before, after))
+    found += _moved(where, "request", [_request(ask) for ask in before.asks], [_request(ask) for ask in after.asks])
+    statuses, later_statuses = ([("", bulk_status(status)) for status in node.statuses] for node in (before, after))
     found += _moved(where, BULK_STATUS.name, statuses, later_statuses)
-    clears, later_clears = ([("", cleared(it)) for it in node.clears] for node in (before, after))
+    clears, later_clears = ([("", cleared(clear)) for clear in node.clears] for node in (before, after))
     found += _moved(where, CLEAR.name, clears, later_clears)
     return found + _moved(where, "held packet", _held(before), _held(after))
 
@@ -168,7 +168,7 @@ def _of_records(before: Frame, after: Frame) -> List[Difference]:
     if before.broken or after.broken:
         old, new = before.summary, after.summary
         return [Difference("link", "frame", subject, old, new, "content")] if old != new else []
-    old_records, new_records = ([(subject, record_line(it)) for it in frame.records] for frame in (before, after))
+    old_records, new_records = ([(subject, record_line(record)) for record in frame.records] for frame in (before, after))
     moved = _moved("link", "frame", old_records, new_records)
     return [replace(it, part="record") for it in moved]
 

@@ -61,12 +61,12 @@ def between_nodes(pair: Pair, setup: Optional[Setup], paint: Paint) -> List[str]
     if setup is None:
         lines.append(paint.note(UNKNOWN_SETUP))
     for node, states in compared.only.items():
-        lines += [paint.bad(f"only on {node}: ") + _alone(pair, node, it, setup, paint) for it in states]
+        lines += [paint.bad(f"only on {node}: ") + _alone(pair, node, state, setup, paint) for state in states]
     for name, parts in compared.differing.items():
         apart = compared.apart.get(name, [])
         lines.append(paint.bad("differ: ") + f"{name}  {flow(pair.a.states[name])}  {', '.join((*parts, *apart))}")
     for node, states in compared.unsynchronised.items():
-        lines += [f"no-sync, only on {node}: " + _alone(pair, node, it, setup, paint) for it in states]
+        lines += [f"no-sync, only on {node}: " + _alone(pair, node, state, setup, paint) for state in states]
     return lines + _only_apart(compared)
 
 
@@ -163,7 +163,7 @@ def circumstances(pair: Pair, setup: Optional[Setup], paint: Paint) -> List[str]
             lines.append(f"{node.id} {bulk_client(node.sync)}")
     if setup and not is_one_rule_set(setup):
         lines.append("rules: those of a and b differ, so neither keeps the other's rule numbers")
-    return [paint.note(it) for it in lines]
+    return [paint.note(line) for line in lines]
 
 
 def _alone(pair: Pair, node: str, state: State, setup: Optional[Setup], paint: Paint) -> str:

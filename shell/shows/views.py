@@ -114,7 +114,7 @@ def _verbose(state: State, node: Node, setup: Optional[Setup], paint: Paint) -> 
 
 def _counters(node: Node) -> str:
     """The counters that are not 0, each with what it counts."""
-    said = [f"{it.counts} {node.counters[it.name]}" for it in COUNTERS if node.counters[it.name]]
+    said = [f"{counter.counts} {node.counters[counter.name]}" for counter in COUNTERS if node.counters[counter.name]]
     if not said:
         return "  counters: all 0"
     rest = len(COUNTERS) - len(said)
@@ -147,7 +147,7 @@ def _bulk_update(node: Node, setup: Optional[Setup], paint: Paint) -> List[str]:
         again = seconds(int(asked) + (setup or Setup()).limits[BULK_MS])
         then = f"asks again at {again} at the earliest" if int(tries) < MOST_TRIES else f"gives up at {again} at the earliest"
         lines.append(f"  {bulk_client(node.sync)}; {then}")
-    return [paint.note(it) for it in lines]
+    return [paint.note(line) for line in lines]
 
 
 # ---- the link
@@ -174,7 +174,7 @@ def _frame(frame: Frame, setup: Optional[Setup], paint: Paint) -> List[str]:
     head = f"  {frame_head(frame, setup)}"
     if frame.broken:
         return [f"{head}: {paint.bad(frame.summary)}"]
-    return [f"{head}: {frame.summary}", *(f"    {record_line(it)}" for it in frame.records)]
+    return [f"{head}: {frame.summary}", *(f"    {record_line(record)}" for record in frame.records)]
 
 
 def frame_head(frame: Frame, setup: Optional[Setup]) -> str:

@@ -177,11 +177,11 @@ def pending_words(node: Node) -> str:
     for it in node.queue:
         kinds.setdefault(QUEUES[it.kind], []).append(str(it.name))
     if node.asks:
-        kinds[UPDATE_REQUEST.name] = [request(it) for it in node.asks]
+        kinds[UPDATE_REQUEST.name] = [request(ask) for ask in node.asks]
     if node.statuses:
-        kinds[BULK_STATUS.name] = [bulk_status(it) for it in node.statuses]
+        kinds[BULK_STATUS.name] = [bulk_status(status) for status in node.statuses]
     if node.clears:
-        kinds[CLEAR.name] = [cleared(it) for it in node.clears]
+        kinds[CLEAR.name] = [cleared(clear) for clear in node.clears]
     return "; ".join(f"{kind} {', '.join(those)}" for kind, those in kinds.items())
 
 

@@ -62,4 +62,4 @@ def reasons(script: str) -> List[str]:
 
 
 def _lines(script: str) -> List[str]:
-    return [it.strip() for it in script.splitlines() if it.strip()]
+    return [line.strip() for line in script.splitlines() if line.strip()]

@@ -47,7 +47,7 @@ def meant(reported: str, names: Sequence[str]) -> Set[str]:
     """The tests that a report is about: one, or all of a module or a class that was not set up."""
     whole = _NOT_SET_UP.fullmatch(reported)
     if whole:
-        return {it for it in names if it.startswith(f"{whole['its']}.")}
+        return {name for name in names if name.startswith(f"{whole['its']}.")}
     # (a part of a test has more after the test's name)
     return {reported.partition(" ")[0]}
 
@@ -66,7 +66,7 @@ def short(word: str) -> str:
 def run(words: Sequence[str]) -> int:
     """Runs tests, and reports what came of them; returns the status."""
     loader = unittest.defaultTestLoader
-    tests = loader.loadTestsFromNames([f"{PACKAGE}{short(it)}" for it in words]) if words else loader.discover(HERE, top_level_dir=TOP)
+    tests = loader.loadTestsFromNames([f"{PACKAGE}{short(word)}" for word in words]) if words else loader.discover(HERE, top_level_dir=TOP)
     names = [*names_of(tests)]
     faulthandler.dump_traceback_later(LONGEST, exit=True)
     if not sys.warnoptions:

@@ -26,7 +26,7 @@ class Part(NamedTuple):
 
     def within(self, roles: Sequence[str]) -> Optional["Part"]:
         """The nearest node around it with one of some roles."""
-        return next((it for it in reversed(self.parents) if it.role in roles), None)
+        return next((parent for parent in reversed(self.parents) if parent.role in roles), None)
 
 
 def tree(browser: Browser) -> List[Part]:
@@ -76,9 +76,9 @@ def words_are_in_names(browser: Browser) -> List[str]:
 def headings_are_in_order(browser: Browser) -> List[str]:
     """[1.3.1, 2.4.6] There is one first heading, and it comes first; each has words, and none skips a level on the way down."""
     headings = [it for it in tree(browser) if it.role == "heading"]
-    levels = [int(it.properties["level"]) for it in headings]
+    levels = [int(heading.properties["level"]) for heading in headings]
     wrong = [f"{it.name} has level {below}" for it, above, below in zip(headings, [0, *levels], levels) if below > above + 1]
-    empty = ["a heading without words" for it in headings if not it.name.strip()]
+    empty = ["a heading without words" for heading in headings if not heading.name.strip()]
     return wrong + empty + ["not one first heading"] * (levels.count(1) != 1)
 
 
@@ -86,8 +86,8 @@ def landmarks_are_few(browser: Browser) -> List[str]:
     """[1.3.1, 2.4.1] The page is a banner with the branches, and a main part. There are no others to go through, and nothing is outside of
     them."""
     parts = tree(browser)
-    found = [it.role for it in parts if it.role in LANDMARKS and not it.within(["dialog"])]
-    outside = [it for it in parts if it.role in CONTROLS | {"StaticText"} and not it.within([*LANDMARKS, "dialog"])]
+    found = [part.role for part in parts if part.role in LANDMARKS and not part.within(["dialog"])]
+    outside = [part for part in parts if part.role in CONTROLS | {"StaticText"} and not part.within([*LANDMARKS, "dialog"])]
     wanted = ["banner", "navigation", "main"]
     return ([] if found == wanted else [" ".join(found)]) + [f"{it.name} is in none" for it in outside]
 

@@ -62,7 +62,7 @@ class Refused(Exception):
 
 def missing() -> str:
     """Why no browser can be driven here; empty where one can."""
-    absent = [it for it in PROGRAMS if not shutil.which(it)]
+    absent = [program for program in PROGRAMS if not shutil.which(program)]
     return f"there is no {' and no '.join(absent)} on the path: {PACKAGES}" if absent else ""
 
 
@@ -290,7 +290,7 @@ class Browser:
     def requests(self) -> List[str]:
         """The addresses that were asked for since the last question."""
         messages = (json.loads(it["message"])["message"] for it in self._post("/se/log", type="performance"))
-        return [it["params"]["request"]["url"] for it in messages if it["method"] == "Network.requestWillBeSent"]
+        return [message["params"]["request"]["url"] for message in messages if message["method"] == "Network.requestWillBeSent"]
 
     def cdp(self, command: str, **parameters: object) -> Any:
         """A command of Chromium's own protocol."""

@@ -37,7 +37,7 @@ def captures(given: Iterable[Given], ahead: int = 0) -> Tuple[List[Timed], List[
 
 def both(given: Iterable[Given], ahead: int = 0) -> Tuple[bytes, bytes]:
     """The captures of both nodes, the clock of b so many nanoseconds ahead."""
-    a, b = (pcap(sorted(it, key=lambda one: one[0]), ETHERNET, nanoseconds=True) for it in captures(given, ahead))
+    a, b = (pcap(sorted(capture, key=lambda one: one[0]), ETHERNET, nanoseconds=True) for capture in captures(given, ahead))
     return a, b
 
 

@@ -98,13 +98,13 @@ def events() -> Iterator[str]:
 def files() -> Dict[str, bytes]:
     """The files of the night by name: the captures of both sync interfaces, and what b logged."""
     rules = imported(str(EXAMPLES / f"{NAME}.conf"), "--on", INTERFACE, "--unopened").setup
-    lab = laboratory("\n".join([*rules, "open", *(f"step main {it}" for it in events())]))
+    lab = laboratory("\n".join([*rules, "open", *(f"step main {event}" for event in events())]))
     branch = lab.branch("main")
     times = {node: [*_times(branch, node)] for node in NODES}
     seen: Dict[str, List[Written]] = {node: [] for node in NODES}
     for ticket in range(1, lab.show("main").next_ticket):
         flight = lab.flight("main", ticket)
-        records = [_named(it) for it in flight.frame.records]
+        records = [_named(record) for record in flight.frame.records]
         creator = CREATORS.get(creator_of_bulk_status(flight.frame.data), 0)
         data = on_ethernet(message(bytes.fromhex(flight.frame.checksum), records, creator), ADDRESSES[flight.source])
         seen[flight.source].append(Written(times[flight.source][flight.sent.number], data))

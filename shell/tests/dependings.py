@@ -33,7 +33,7 @@ def said_by(*words: str) -> Tuple[int, List[str], str]:
 
 def _renewed(found: Match[str]) -> str:
     lines = said_by(*found[1].split())[1]
-    return f"<!-- depends {found[1]} -->\n```text\n" + "".join(f"{it}\n" for it in lines) + "```"
+    return f"<!-- depends {found[1]} -->\n```text\n" + "".join(f"{line}\n" for line in lines) + "```"
 
 
 if __name__ == "__main__":

@@ -62,7 +62,7 @@ def drawn(script: str, window: Window = WHOLE, notes: Texts = NO_TEXTS, forks: T
 
 def steps(*events: str) -> str:
     """A script of the rules and these events."""
-    return RULES + "".join(f"step main {it}\n" for it in events)
+    return RULES + "".join(f"step main {event}\n" for event in events)
 
 
 _ENDS = (
@@ -106,10 +106,10 @@ def boxes(elements: Sequence[Element], top: float = 0) -> List[Box]:
     for name, values, spans in elements:
         if name == "text":
             size, x, y = (float(values[it]) for it in ("font-size", "x", "y"))
-            widths = [text_width(it.words, size) * (BOLDER if it.is_bold else 1) for it in spans]
+            widths = [text_width(span.words, size) * (BOLDER if span.is_bold else 1) for span in spans]
             wide = sum(widths) + text_width(" ", size) * (len(spans) - 1)
             left = x - {"start": 0.0, "middle": wide / 2, "end": wide}[str(values["text-anchor"])]
-            words = " ".join(it.words for it in spans)
+            words = " ".join(span.words for span in spans)
             found.append(Box(left, left + wide, top + y - size * 0.8, top + y + size * 0.25, words))
     return found
 

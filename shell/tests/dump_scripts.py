@@ -21,7 +21,7 @@ def printed_in(dump: str) -> List[Printed]:
     for text in re.split(r"^(?=all )", dump, flags=re.MULTILINE)[1:]:
         head, numbers = HEAD.search(text), NUMBERS.search(text)
         assert head
-        states.append((head[1], head[2], tuple(it or "" for it in numbers.groups()) if numbers else ()))
+        states.append((head[1], head[2], tuple(group or "" for group in numbers.groups()) if numbers else ()))
     return sorted(states)
 
 

@@ -55,8 +55,8 @@ class Followers(unittest.TestCase):
     def shells(self, port: int, number: int, is_typed: bool = True) -> List[Shell]:
         """Shells that follow a server, which all its sessions have to be for."""
         labs = [self.laboratory(port) for _ in range(number)]
-        self.assertEqual([it.join() for it in labs], [""] * number)
-        return [Shell(it, io.StringIO(), PLAIN, is_typed=is_typed) for it in labs]
+        self.assertEqual([lab.join() for lab in labs], [""] * number)
+        return [Shell(lab, io.StringIO(), PLAIN, is_typed=is_typed) for lab in labs]
 
     def said(self, shell: Shell, *lines: str) -> List[str]:
         """What a shell says to typed lines, and before the next prompt."""

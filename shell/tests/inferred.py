@@ -101,7 +101,7 @@ class Nights(unittest.TestCase):
 
     def rules(self, lab: Laboratory) -> List[str]:
         """The words for the setup of a run."""
-        return ["--rules", self.save("rules.pfl", "".join(f"{it}\n" for it in lab.setup.lines).encode())]
+        return ["--rules", self.save("rules.pfl", "".join(f"{line}\n" for line in lab.setup.lines).encode())]
 
     def infer(self, captures: Sequence[str], *words: str, a: Optional[str] = str(ADDRESSES["a"])) -> Inferred:
         """Infers a script."""
@@ -137,7 +137,7 @@ def _flow(flow: Flow) -> _Flow:
 def frames_of(lab: Laboratory, branch: str = "main") -> List[Tuple[str, Tuple[Record, ...]]]:
     """The frames of a run that its nodes sent, in order: the receiver and the records of each."""
     flights = [lab.flight(branch, ticket) for ticket in range(1, lab.show(branch).next_ticket)]
-    return [(it.to, it.frame.records) for it in flights if it.origin is None]
+    return [(flight.to, flight.frame.records) for flight in flights if flight.origin is None]
 
 
 class Names:
@@ -171,8 +171,8 @@ def differing_frames(one: Laboratory, other: Laboratory, branch: str = "main") -
     lines = [f"{len(ours)} frames, not {len(theirs)}"] * (len(ours) != len(theirs))
     for number, ((to, records), (their_to, their_records)) in enumerate(zip(ours, theirs), 1):
         names.learn(records, their_records)
-        one_side = sorted(names.in_words(it, True) for it in records)
-        other_side = sorted(names.in_words(it, False) for it in their_records)
+        one_side = sorted(names.in_words(record, True) for record in records)
+        other_side = sorted(names.in_words(record, False) for record in their_records)
         if (to, one_side) != (their_to, other_side):
             lines.append(f"frame {number}: {one_side}, not {other_side}")
     return lines
@@ -189,18 +189,18 @@ def differing_tables(one: Laboratory, other: Laboratory, branch: str = "main") -
     for node in "ab":
         one_side, other_side = _table(ours, node), _table(theirs, node)
         flows = [it for it in sorted({*one_side, *other_side}) if one_side.get(it) != other_side.get(it)]
-        lines += [f"{node}: {it}: {one_side.get(it)}, not {other_side.get(it)}" for it in flows]
+        lines += [f"{node}: {flow}: {one_side.get(flow)}, not {other_side.get(flow)}" for flow in flows]
     return lines + _differing_names(ours, theirs)
 
 
 def _table(pair: Pair, node: str) -> Dict[str, object]:
     states = pair.nodes[node].states.values()
-    return {str(_flow(it)): (it.direction, it.stack, it.source, it.destination, it.timeout_class) for it in states}
+    return {str(_flow(state)): (state.direction, state.stack, state.source, state.destination, state.timeout_class) for state in states}
 
 
 def _differing_names(ours: Pair, theirs: Pair) -> List[str]:
     """The flows that have one name at both nodes of one pair alone."""
-    shared = [{str(_flow(it)) for it in pair.a.states.values() if _is_shared(it, pair)} for pair in (ours, theirs)]
+    shared = [{str(_flow(state)) for state in pair.a.states.values() if _is_shared(state, pair)} for pair in (ours, theirs)]
     return [f"one name at both nodes in one run alone: {it}" for it in sorted(shared[0] ^ shared[1])]
 
 

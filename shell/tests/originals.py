@@ -58,7 +58,7 @@ class Original(NamedTuple):
         if not (shutil.which("apt-get") and os.access(HELPER, os.X_OK)):
             raise NotHad("there is no apt here")
         words = _output("apt-get", *_IMPATIENT, "--print-uris", "download", self.package).split()
-        uris = [unquote(it.strip("'")) for it in words if it.startswith("'") and it.endswith(".deb'")]
+        uris = [unquote(word.strip("'")) for word in words if word.startswith("'") and word.endswith(".deb'")]
         if not uris:
             raise NotHad(f"apt knows no mirror that has {self.package}")
         folder, slash, name = uris[0].rpartition("/")
@@ -74,6 +74,6 @@ def _output(*words: str) -> str:
     except subprocess.TimeoutExpired as why:
         raise NotHad(f"{os.path.basename(words[0])} took more than {SECONDS} seconds") from why
     if ran.returncode:
-        said = [it for it in ran.stderr.splitlines() if it.startswith("E: ")] or [f"status {ran.returncode}"]
+        said = [line for line in ran.stderr.splitlines() if line.startswith("E: ")] or [f"status {ran.returncode}"]
         raise NotHad(f"{os.path.basename(words[0])}: {said[0]}")
     return ran.stdout

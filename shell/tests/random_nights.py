@@ -78,7 +78,7 @@ def play(lab: Laboratory, seed: int, events: int) -> None:
             lab.ask(f"step main {it}")
         for it in _ticks(chance, lab.show("main")):
             lab.ask(f"step main {it}")
-        talks[:] = [it for it in talks if it]
+        talks[:] = [talk for talk in talks if talk]
 
 
 def _events(chance: random.Random, talks: List[List[str]], pair: Pair) -> Sequence[str]:

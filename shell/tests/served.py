@@ -82,5 +82,5 @@ class Served(Followers):
 
     def assert_heard(self, caller: Caller, lines: Iterable[str]) -> None:
         """That these lines come next."""
-        text = "".join(f"{it}\n" for it in lines)
+        text = "".join(f"{line}\n" for line in lines)
         self.assertEqual(caller.hear(len(text)), text)

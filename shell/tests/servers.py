@@ -60,7 +60,7 @@ class Server:
     def serve(self) -> None:
         """Serves the sessions once all are there, until each has ended."""
         self.visits = [Visit(self, it, self.listener.accept()[0]) for it in self.asked]
-        threads = [threading.Thread(target=it.serve, daemon=True) for it in self.visits]
+        threads = [threading.Thread(target=visit.serve, daemon=True) for visit in self.visits]
         for it in threads:
             it.start()
         for it in threads:
@@ -84,11 +84,11 @@ class Server:
 
     def _numbers(self) -> List[int]:
         """What the branches show together."""
-        pairs = [read_shown(self.run.ask(f"show {it}")) for it in self.run.ask("names")[0].split()[1:]]
-        nodes = [(it.nodes["a"], it.nodes["b"]) for it in pairs]
-        counts = [len(pairs), sum(it.events for it in pairs), sum(it.cursor for it in pairs)]
+        pairs = [read_shown(self.run.ask(f"show {word}")) for word in self.run.ask("names")[0].split()[1:]]
+        nodes = [(pair.nodes["a"], pair.nodes["b"]) for pair in pairs]
+        counts = [len(pairs), sum(pair.events for pair in pairs), sum(pair.cursor for pair in pairs)]
         counts += [sum(len(two[at].states) for two in nodes) for at in range(2)]
-        return [*counts, sum(len(it.frames) for it in pairs), sum(it.pending for two in nodes for it in two)]
+        return [*counts, sum(len(pair.frames) for pair in pairs), sum(it.pending for two in nodes for it in two)]
 
 
 class Visit:
@@ -140,7 +140,7 @@ class Visit:
             self._send(self.server.take(self.number, line))
 
     def _send(self, lines: Sequence[str]) -> None:
-        self.connection.sendall("".join(f"{it}\n" for it in lines).encode())
+        self.connection.sendall("".join(f"{line}\n" for line in lines).encode())
 
     def _follow(self) -> None:
         """Shows entries as they are made, until the session's next line comes."""

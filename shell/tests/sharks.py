@@ -95,7 +95,7 @@ def _packet(packet: ElementTree.Element, source: str, info: str) -> Dissected:
             levels += [fields[f"pfsync.{end}.level"][0] for end in ("src", "dst") if f"pfsync.{end}.level" in fields]
     faults = [it.get("show", "") for it in packet.iter("field") if it.get("name") == "_ws.expert.message"]
     checksum = next((it.get("value", "") for it in packet.iter("field") if it.get("name") == "pfsync.pfcksum"), "")
-    return Dissected(source, info, checksum, records, levels, [it for it in faults if "Time To Live" not in it])
+    return Dissected(source, info, checksum, records, levels, [fault for fault in faults if "Time To Live" not in fault])
 
 
 def _words(kind: str, fields: Fields) -> str:
@@ -146,7 +146,7 @@ class Told(NamedTuple):
     @property
     def info(self) -> str:
         """The groups of its records, each with its number of records, as the column Info has them."""
-        kinds = ((kind, len([*its])) for kind, its in groupby(it.split()[0] for it in self.records))
+        kinds = ((kind, len([*its])) for kind, its in groupby(record.split()[0] for record in self.records))
         return ", ".join(f"{GROUPS[kind]} {number}" for kind, number in kinds)
 
 
@@ -157,15 +157,15 @@ def told(script: Sequence[str], branch: str = "main") -> Dict[str, List[Told]]:
     log = run_lines(program(), [*script, f"log {branch}"]).replies[-1]
     cursor = int(log[0].split()[5])
     words = [line.split()[4] for line in log[1:-1]][:cursor]
-    tickets = range(1, 1 + sum(it in ("flush", "repeat") for it in words))
-    replies = run_lines(program(), [*script, *(f"frame {branch} {it}" for it in tickets)]).replies
+    tickets = range(1, 1 + sum(word in ("flush", "repeat") for word in words))
+    replies = run_lines(program(), [*script, *(f"frame {branch} {ticket}" for ticket in tickets)]).replies
     seen: Dict[str, List[Told]] = {"a": [], "b": []}
     for reply in replies[len(replies) - len(tickets) :]:
         _, _, to, data = reply[3].split()
         checksum = data[8:40]
         sender = "a" if to == "b" else "b"
         steps = [line.split() for line in reply if line.startswith("event ")]
-        events = [(int(it[1]), it[4]) for it in steps if int(it[1]) <= cursor]
+        events = [(int(step[1]), step[4]) for step in steps if int(step[1]) <= cursor]
         records = [_without_bound(it[len("record ") :]) for it in reply if it.startswith("record ")]
         if events[0][1] == "flush":
             seen[sender].append(Told(events[0][0], sender, checksum, records))

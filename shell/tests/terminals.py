@@ -35,7 +35,7 @@ class Screen:
     @property
     def text(self) -> List[str]:
         """All rows up to the cursor's, those too that were scrolled out."""
-        return [*self.before, *("".join(it).rstrip() for it in self.rows[: self.row + 1])]
+        return [*self.before, *("".join(row).rstrip() for row in self.rows[: self.row + 1])]
 
     def take(self, text: str) -> str:
         """Takes what is sent: the rest, which is a sequence that has not ended."""

@@ -25,7 +25,7 @@ class Followed(unittest.TestCase):
         self.assertEqual((known.events, known.cursor), (events, cursor))
         shown = lab.show(branch)
         self.assertEqual((shown.events, shown.cursor), (len(events), cursor))
-        replayed = lab.run([*(f"step main {it}" for it in events[:cursor]), "show main"])[-1]
+        replayed = lab.run([*(f"step main {event}" for event in events[:cursor]), "show main"])[-1]
         self.assertEqual(read_shown(replayed).nodes, shown.nodes)
 
     def test_undone_events_stay_until_another_is_accepted(self) -> None:

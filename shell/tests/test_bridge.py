@@ -44,11 +44,11 @@ class Steps(Bridged):
         for it in threads:
             it.join()
         updates = [watcher.update() for _ in range(20)]
-        self.assertEqual([it["version"] for it in updates], [*range(1, 21)])
-        self.assertEqual([it["branches"][0]["keep"] for it in updates], [*range(20)])
-        self.assertEqual([it["branches"][0]["moments"][0]["outcome"] for it in updates], [f"clock {it}" for it in range(1, 21)])
-        self.assertEqual({it["version"]: it["reply"] for it in replies}, {it["version"]: it["reply"] for it in updates})
-        self.assertEqual({it["who"] for it in updates}, {"Ann", "Bob"})
+        self.assertEqual([update["version"] for update in updates], [*range(1, 21)])
+        self.assertEqual([update["branches"][0]["keep"] for update in updates], [*range(20)])
+        self.assertEqual([update["branches"][0]["moments"][0]["outcome"] for update in updates], [f"clock {it}" for it in range(1, 21)])
+        self.assertEqual({reply["version"]: reply["reply"] for reply in replies}, {it["version"]: it["reply"] for it in updates})
+        self.assertEqual({update["who"] for update in updates}, {"Ann", "Bob"})
 
     def test_a_refused_or_faulty_line_comes_with_its_reason_and_makes_no_update(self) -> None:
         door = self.live(PACKET)
@@ -78,13 +78,13 @@ class Steps(Bridged):
             self.step(door, line)
         updates = [watcher.update() for _ in range(7)]
         orders = [["main"]] * 2 + [["main", "other"]] * 2 + [["main", "other", "main~1"], ["main", "other"], ["other"]]
-        self.assertEqual([it["order"] for it in updates], orders)
+        self.assertEqual([update["order"] for update in updates], orders)
         former = updates.pop(4)["branches"][0]
         self.assertEqual((former["name"], former["former"], [it["outcome"] for it in former["moments"]]), ("main~1", True, ["pass 1.1", "sent 1 148"]))
-        changes = [it["branches"][0] for it in updates[:5]]
-        numbers = [(it["keep"], len(it["moments"]), it["undone"]) for it in changes]
+        changes = [update["branches"][0] for update in updates[:5]]
+        numbers = [(change["keep"], len(change["moments"]), change["undone"]) for change in changes]
         self.assertEqual(numbers, [(1, 0, 1), (1, 1, 0), (0, 1, 0), (1, 0, 0), (1, 1, 0)])
-        self.assertEqual(["opening" in it for it in changes], [False, False, True, False, False])
+        self.assertEqual(["opening" in change for change in changes], [False, False, True, False, False])
         self.assertEqual((updates[5]["branches"], updates[5]["reply"]), ([], ["removed"]))
 
     def test_an_event_keeps_the_name_of_who_stepped_it(self) -> None:
@@ -106,8 +106,8 @@ class Steps(Bridged):
         for line in ("back main 1", "step main tick a 1"):
             self.step(door, line, "Ann")
         updates = [watcher.update() for _ in range(3)]
-        self.assertEqual([it["order"] for it in updates], [["main"]] * 2 + [["main", "main~1"]])
-        self.assertEqual([(it["who"], it["line"]) for it in updates[2:]], [("Ann", "")])
+        self.assertEqual([update["order"] for update in updates], [["main"]] * 2 + [["main", "main~1"]])
+        self.assertEqual([(update["who"], update["line"]) for update in updates[2:]], [("Ann", "")])
         self.assertEqual([it["event"] for it in self.page(door)["branches"][1]["moments"]], [PACKET[len("step main ") :], "flush a"])
 
     def test_of_two_who_undo_at_once_one_does(self) -> None:
@@ -215,7 +215,7 @@ class Watching(Bridged):
         watchers = [self.watcher(door) for _ in range(5)]
         time.sleep(0.3)
         self.assertLess(tracemalloc.get_traced_memory()[1], 20_000_000)
-        self.assertEqual([it.update()["version"] for it in watchers], [1] * 5)
+        self.assertEqual([watcher.update()["version"] for watcher in watchers], [1] * 5)
 
     def test_fifty_get_each_of_twenty_updates_in_order(self) -> None:
         door = self.live()

@@ -165,9 +165,9 @@ class Doors(Bridged):
 
     def test_the_page_of_one_who_watches_has_no_address_for_stepping(self) -> None:
         with mock.patch("shell.pages.bridge.page", packing.page):
-            pages = [self.asked(self.door, "GET", f"/{it}/").body for it in self.door.tokens]
-        self.assertEqual([self.door.tokens.watch in it for it in pages], [True, True])
-        self.assertEqual([self.door.tokens.step in it for it in pages], [False, False])
+            pages = [self.asked(self.door, "GET", f"/{token}/").body for token in self.door.tokens]
+        self.assertEqual([self.door.tokens.watch in page for page in pages], [True, True])
+        self.assertEqual([self.door.tokens.step in page for page in pages], [False, False])
 
     def test_the_page_itself_may_ask_its_server_alone(self) -> None:
         with mock.patch("shell.pages.bridge.page", packing.page):
@@ -215,7 +215,7 @@ class Crowds(Bridged):
         with mock.patch("shell.pages.news.MOST_STREAMS", 3):
             door = self.live()
             watchers = [self.watcher(door) for _ in range(4)]
-            self.assertEqual([it.status for it in watchers], [200, 200, 200, 503])
+            self.assertEqual([watcher.status for watcher in watchers], [200, 200, 200, 503])
 
     def test_no_more_than_a_limit_are_let_in(self) -> None:
         with mock.patch("shell.pages.door.MOST_CONNECTIONS", 3):

@@ -68,7 +68,7 @@ class Followed(Pages):
             shell.ask("step main tick a 1")
             self.step(door, "step main tick a 2")
             moments = self.page(door)["branches"][0]["moments"]
-            self.assertEqual([it["who"] for it in moments], ["another session", "Ann"] * number)
+            self.assertEqual([moment["who"] for moment in moments], ["another session", "Ann"] * number)
             self.assertEqual(moments[-1]["outcome"], f"clock {3 * number}")
 
     def test_who_undoes_after_another_session_stepped_is_refused(self) -> None:

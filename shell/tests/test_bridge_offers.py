@@ -24,7 +24,7 @@ QUERY = "step main packet a out udp 10.0.0.1:1000 192.0.2.9:53 40"
 
 def offered(script: str, *places: str) -> Dict[str, Offer]:
     lab = laboratory(SETUP + script)
-    found = {it.event: it for it in offers(lab, lab.branch("main"), places)}
+    found = {offer.event: offer for offer in offers(lab, lab.branch("main"), places)}
     lab.close()
     return found
 

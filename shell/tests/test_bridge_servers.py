@@ -137,8 +137,8 @@ class Ends(Bridged):
             self.step(door, PACKET)
             watchers = [self.watcher(door, 1) for _ in range(5)]
         ended = {"ended": "the server has ended, or has ended this session"}
-        self.assertEqual([it.update() for it in watchers], [ended] * 5)
-        self.assertEqual([it.next() for it in watchers], [{}] * 5)
+        self.assertEqual([watcher.update() for watcher in watchers], [ended] * 5)
+        self.assertEqual([watcher.next() for watcher in watchers], [{}] * 5)
         answer = self.asked(door, "POST", f"/{door.tokens.step}/do", '{"line": "back main 0"}')
         self.assertEqual((answer.status, answer.body), (503, "the server has ended, or has ended this session\n"))
         self.assertEqual(len(self.page(door)["branches"][0]["moments"]), 1)

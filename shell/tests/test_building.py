@@ -130,7 +130,7 @@ class Building(SmallTree):
         self.assertEqual(lab.returncode, 130)
         numbers = [int(it.name.rpartition("-")[2]) for it in notes.iterdir()]
         self.assertGreaterEqual(len(numbers), 2)
-        self.assertEqual([it for it in numbers if is_running(it)], [])
+        self.assertEqual([number for number in numbers if is_running(number)], [])
 
 
 def is_running(number: int) -> bool:

@@ -82,7 +82,7 @@ class Decoding(unittest.TestCase):
         its = read(
             group(made.INS, state(1), state(2)), group(made.TDB, bytes(48), bytes(48)), group(made.UPD_C), group(made.DEL_C, made.name(1))
         )
-        self.assertEqual([(it.kind.name, it.id) for it in its.records], [("insert", 1), ("insert", 2), ("short delete", 1)])
+        self.assertEqual([(record.kind.name, record.id) for record in its.records], [("insert", 1), ("insert", 2), ("short delete", 1)])
         self.assertEqual((its.fault, its.passed_over), ("", 2))
 
     def test_what_follows_the_end_is_not_read(self) -> None:
@@ -101,7 +101,7 @@ class Faults(unittest.TestCase):
 
     def test_later_systems(self) -> None:
         its = read(group(made.DEL_C, made.name(1)), group(13, bytes(277)))
-        self.assertEqual([it.id for it in its.records], [1])
+        self.assertEqual([record.id for record in its.records], [1])
         ifconfig = "`ifconfig pfsync0 version 1301`"
         why = f"messages of action 13 are not of FreeBSD 13 (an insertion of FreeBSD 14, which sends those of 13 after {ifconfig})"
         self.assertEqual(its.fault, f"{why}: the rest was not read")
@@ -110,7 +110,7 @@ class Faults(unittest.TestCase):
     def test_states_of_another_size(self) -> None:
         # (the second of these begins within the first, so that its values are none)
         its = read(group(made.INS, state(1) + bytes(30), state(2) + bytes(30)))
-        self.assertEqual([it.id for it in its.records], [1])
+        self.assertEqual([record.id for record in its.records], [1])
         self.assertEqual(its.fault, "insert 2 of 2 is none of 242 bytes, as FreeBSD 13 has them: the rest was not read")
 
     def test_values_that_no_state_has(self) -> None:
@@ -140,7 +140,7 @@ class Faults(unittest.TestCase):
         self.assertEqual(decoded(its[:12], 12).fault, "it has 12 bytes, but a header alone has 20")
         claimed = struct.pack(">BBH", 5, 0, 266) + its[4:266]
         found = decoded(claimed, 266)
-        self.assertEqual(([it.id for it in found.records], found.fault), ([1], "insert 2 of 2: the message ends within it"))
+        self.assertEqual(([record.id for record in found.records], found.fault), ([1], "insert 2 of 2: the message ends within it"))
         # (an IP packet that is padded)
         self.assertEqual(decoded(its + bytes(9), len(its) + 9).fault, "")
 

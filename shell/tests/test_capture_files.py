@@ -93,7 +93,7 @@ class Pcap(FileCase):
             if content != path:
                 content.write_bytes(gzip.compress(path.read_bytes()))
             tracemalloc.start()
-            self.assertEqual(sum(len(it.data) for it in packets(str(content))), 30_000_000)
+            self.assertEqual(sum(len(packet.data) for packet in packets(str(content))), 30_000_000)
             most = tracemalloc.get_traced_memory()[1]
             tracemalloc.stop()
             self.assertLess(most, 4_000_000)

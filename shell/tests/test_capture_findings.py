@@ -187,7 +187,7 @@ class Findings(CaptureCase):
 
     def request(self, *given: Given) -> str:
         """What is said of the request of a few frames."""
-        said = [it for it in self.findings(beside(*given)) if f" asks for {ONE}" in it]
+        said = [finding for finding in self.findings(beside(*given)) if f" asks for {ONE}" in finding]
         self.assertEqual(len(said), 1, said)
         return said[0].strip().partition("  ")[2]
 
@@ -302,7 +302,7 @@ class Findings(CaptureCase):
             (100, "b", asked(0, 0), True),
             (200, "a", message(group(made.UPD, state(1)), begin, end), True),
         )
-        self.assertEqual([it for it in self.findings(given) if "just as" in it], [])
+        self.assertEqual([finding for finding in self.findings(given) if "just as" in finding], [])
 
     def test_two_names(self) -> None:
         mine, theirs = inserted(state(1)), inserted(state(1, 0xB))
@@ -398,7 +398,7 @@ class Findings(CaptureCase):
         # What was cleared is no second name.
         flush = message(group(made.CLR, clear(0xA)))
         given = beside((0, "a", inserted(state(1)), True), (5, "a", flush, True), (10, "b", inserted(state(1, 0xB)), True))
-        self.assertEqual([it for it in self.findings(given) if "two names" in it], [])
+        self.assertEqual([finding for finding in self.findings(given) if "two names" in finding], [])
 
     def test_acknowledgements(self) -> None:
         held, ack = inserted(state(1, flags=0x10)), message(group(made.INS_ACK, name(1)))

@@ -160,7 +160,7 @@ class Laid(CaptureCase):
     def test_a_tcpdump_that_misses_what_its_own_node_sends(self) -> None:
         """Two frames of a are in the capture of b alone: nothing was lost, and who saw a frame first says whose captures they are."""
         given = [(10.0 * nth, "ab"[nth % 2], deletion(nth), True) for nth in range(40)]
-        a, b = (sorted(it, key=lambda one: one[0]) for it in captures(given, 0))
+        a, b = (sorted(capture, key=lambda one: one[0]) for capture in captures(given, 0))
         files = (pcap(its, ETHERNET, nanoseconds=True) for its in ([it for nth, it in enumerate(a) if nth not in (4, 8)], b))
         sides = self.overlay(*files).sides
         self.assertEqual((sides.nodes, sides.is_guess, sides.why), ({A: "a", B: "b"}, False, FIRST.format("0.200")))

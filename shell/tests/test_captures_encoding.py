@@ -36,7 +36,7 @@ ENDS_OF_TCP = "4 3 1000 100 2100 2 - 2000 4294967295 1"
 
 def sent(*records: str, creator: int = 0) -> bytes:
     """The message with records in the words of a reply to `frame`."""
-    return message(bytes.fromhex(NO_RULES), [Record.read(it.split()) for it in records], creator)
+    return message(bytes.fromhex(NO_RULES), [Record.read(record.split()) for record in records], creator)
 
 
 def by_hand(length: str, *groups: str) -> bytes:
@@ -49,7 +49,7 @@ class Messages(unittest.TestCase):
 
     def test_sizes(self) -> None:
         states, others = (layout.STATE, layout.SHORT_UPDATE, layout.PEER), (layout.NAME, layout.BULK_STATUS, layout.CLEAR, layout.TDB)
-        self.assertEqual([it.size for it in states], [242, 84, 32])
+        self.assertEqual([state.size for state in states], [242, 84, 32])
         self.assertEqual([it.size for it in others], [12, 12, 20, 48])
         self.assertEqual((layout.HEADER.size, layout.SUBHEADER.size), (20, 4))
 

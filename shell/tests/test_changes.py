@@ -32,9 +32,9 @@ class Changes(unittest.TestCase):
         lines = self.lines(1)
         self.assertEqual(lines[0], "event 1: packet a out udp 10.0.0.1:1000 192.0.2.9:53 40: pass 1.1")
         self.assertIn("  a: counter packets passed: 0 -> 1", lines)
-        self.assertTrue(any(it.startswith("  a: state 1.1 new: udp 10.0.0.1:1000 -> 192.0.2.9:53") for it in lines))
-        self.assertTrue(any(it.startswith("  a: queue 1.1 new: insert") for it in lines))
-        self.assertFalse(any(it.startswith(("  b:", "  link:")) for it in lines))
+        self.assertTrue(any(line.startswith("  a: state 1.1 new: udp 10.0.0.1:1000 -> 192.0.2.9:53") for line in lines))
+        self.assertTrue(any(line.startswith("  a: queue 1.1 new: insert") for line in lines))
+        self.assertFalse(any(line.startswith(("  b:", "  link:")) for line in lines))
 
     def test_a_loss_takes_the_frame_alone(self) -> None:
         self.assertEqual(self.lines(3), ["event 3: lose 1: lost", "  link: frame 1 gone: to b, 148 bytes: 1 insert"])

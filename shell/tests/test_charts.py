@@ -124,7 +124,7 @@ class Segments(unittest.TestCase):
 
 class Runs(unittest.TestCase):
     def rows(self, *events: str) -> List[Tuple[int, int, int]]:
-        return [(it.first, it.last, it.times) for it in drawn(steps(*events)).rows]
+        return [(row.first, row.last, row.times) for row in drawn(steps(*events)).rows]
 
     def test_the_same_again_is_one_row(self) -> None:
         query, answer = QUERY.strip()[len("step main ") :], f"packet b in {ANSWER.strip()}"

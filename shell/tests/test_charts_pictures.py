@@ -19,7 +19,7 @@ SVG = "{http://www.w3.org/2000/svg}"
 
 def words_of(chart: Chart) -> List[str]:
     """All texts of a picture."""
-    return [it.words for it in boxes(picture(chart, "A chart").elements)]
+    return [box.words for box in boxes(picture(chart, "A chart").elements)]
 
 
 class Pictures(unittest.TestCase):
@@ -82,9 +82,9 @@ class Pictures(unittest.TestCase):
         ticks = [f"tick a {it}" for it in range(1, 45)]
         words = words_of(drawn(steps(*ticks[:20], "restart b", *ticks[20:])))
         heads = ["node a boot 1", "node b boot 2", "node a boot 1", "node b boot 3"]
-        self.assertEqual([it for it in words if it.startswith("node ")], heads)
+        self.assertEqual([word for word in words if word.startswith("node ")], heads)
         words = words_of(drawn(steps(*ticks[:40])))
-        self.assertEqual(len([it for it in words if it.startswith("node ")]), 2)
+        self.assertEqual(len([word for word in words if word.startswith("node ")]), 2)
 
     def test_a_window_says_what_comes_in_and_what_leaves(self) -> None:
         words = words_of(drawn(CROSSING, Window(4, 6)))

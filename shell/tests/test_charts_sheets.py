@@ -23,7 +23,7 @@ LONG_WAY = steps(QUERY.strip()[len("step main ") :], "flush a", *TICKS, "deliver
 
 def ends(page: PageChart, ticket: int) -> List[List[Point]]:
     """Where the way of a frame begins and ends on each sheet that it crosses, by the heights of the whole drawing."""
-    found = [(it.top, points) for it in page.sheets for at, points in it.ways if at == ticket]
+    found = [(sheet.top, points) for sheet in page.sheets for at, points in sheet.ways if at == ticket]
     return [[(x, round(top + y, 6)) for x, y in (points[0], points[-1])] for top, points in found]
 
 
@@ -47,9 +47,9 @@ class Sheets(unittest.TestCase):
         self.assertEqual([it[1][1] for it in (first, second)], [page.sheets[1].top, page.sheets[2].top])
         self.assertEqual((first[0][0], third[1][0]), (PAGE.lanes["a"], PAGE.lanes["b"]))
         # The line is drawn as far as the way on that sheet, and the head of the arrow on the last one alone.
-        lines = [[it for it in sheet.elements if it.attributes.get("stroke") == "frame"] for sheet in page.sheets]
-        self.assertEqual([len(it) for it in lines], [1, 1, 1])
-        heads = [sum(it.name == "polygon" for it in sheet.elements) for sheet in page.sheets]
+        lines = [[element for element in sheet.elements if element.attributes.get("stroke") == "frame"] for sheet in page.sheets]
+        self.assertEqual([len(line) for line in lines], [1, 1, 1])
+        heads = [sum(element.name == "polygon" for element in sheet.elements) for sheet in page.sheets]
         self.assertEqual(heads, [1, 0, 1])
 
     def test_each_sheet_is_of_its_own_heights(self) -> None:
@@ -69,12 +69,12 @@ class Sheets(unittest.TestCase):
             forks = {at: ["later", "a-long-name-a-b"] for at in range(0, events + 1, 17)}
             for window in (WHOLE, Window(events // 3, events // 2)):
                 page = sheets(drawn(script, window, {}, forks))
-                found = [box for it in page.sheets for box in boxes(it.elements, it.top)]
+                found = [box for sheet in page.sheets for box in boxes(sheet.elements, sheet.top)]
                 self.assertEqual(overlaps(found, PAGE.width), [])
 
     def test_names_of_branches_are_drawn_and_notes_and_heads_are_not(self) -> None:
         page = sheets(drawn(LONG_WAY, WHOLE, {3: ["A note."]}, {100: ["later"], 253: ["last"]}))
-        words = [[it.words for it in boxes(sheet.elements)] for sheet in page.sheets]
+        words = [[box.words for box in boxes(sheet.elements)] for sheet in page.sheets]
         self.assertNotIn("A note.", sum(words, []))
         self.assertIn("branch later begins here", words[0])
         self.assertIn("branch last begins here", words[2])
@@ -118,11 +118,11 @@ class Sheets(unittest.TestCase):
     def test_a_sheet_can_be_written_as_an_svg(self) -> None:
         sheet = sheets(drawn(LOST_INSERTION)).sheets[0]
         root = ElementTree.fromstring(svg(sheet.elements, PAGE.width, sheet.height, "A sheet"))
-        self.assertEqual([it.tag.partition("}")[2] for it in root][1:], [it.name for it in sheet.elements])
+        self.assertEqual([it.tag.partition("}")[2] for it in root][1:], [element.name for element in sheet.elements])
 
     def test_no_events(self) -> None:
         page = sheets(drawn(RULES))
-        self.assertEqual([(it.top, it.rows, it.ways) for it in page.sheets], [(0, [], [])])
+        self.assertEqual([(sheet.top, sheet.rows, sheet.ways) for sheet in page.sheets], [(0, [], [])])
 
     def test_10000_events_with_3000_frames_are_quick(self) -> None:
         events: List[str] = []

@@ -20,17 +20,17 @@ FLOW = QUERY.strip()[len("step main ") :]
 
 def events(chart: Chart) -> List[Tuple[int, int]]:
     """The events of the rows."""
-    return [(it.first, it.last) for it in chart.rows]
+    return [(row.first, row.last) for row in chart.rows]
 
 
 def frames(chart: Chart) -> Dict[int, Tuple[Optional[int], Optional[int]]]:
     """Of each frame the rows where it is sent and ends."""
-    return {it.ticket: (chart.sent(it), chart.ended(it)) for it in chart.flights.values()}
+    return {flight.ticket: (chart.sent(flight), chart.ended(flight)) for flight in chart.flights.values()}
 
 
 def left(chart: Chart) -> List[Tuple[str, List[int]]]:
     """What is said of frames that leave."""
-    return [(words, [it.ticket for it in flights]) for words, flights in chart.left]
+    return [(words, [flight.ticket for flight in flights]) for words, flights in chart.left]
 
 
 class Windows(unittest.TestCase):

@@ -41,7 +41,7 @@ def program_options() -> Options:
 
 def shell_options() -> Options:
     """What the shell's parser takes."""
-    kinds = next(it for it in parser("pfl_shell")._actions if isinstance(it, argparse._SubParsersAction))
+    kinds = next(action for action in parser("pfl_shell")._actions if isinstance(action, argparse._SubParsersAction))
     return {
         word: {option for action in its._actions for option in action.option_strings if option.startswith("--")}
         for word, its in kinds.choices.items()
@@ -93,7 +93,7 @@ class Completed(unittest.TestCase):
         command = ("bash", "--norc", "-c", ASKING, f"{COMPLETIONS}/bash/{words[0]}", *words)
         ran = subprocess.run(command, cwd=f"{TOP}/examples", capture_output=True, text=True, timeout=20)
         self.assertEqual(ran.stderr, "")
-        return [it for it in ran.stdout.splitlines() if it]
+        return [line for line in ran.stdout.splitlines() if line]
 
     @needs("bash")
     def test_bash_completes_words_and_options(self) -> None:

@@ -69,7 +69,7 @@ class Scripts(unittest.TestCase):
         self.assertEqual(script.own, by("loose", "merge"))
         self.assertEqual(script.setup(by("window")).lines, ["kernel window", *RULES])
         self.assertEqual(script.setup(PROFILE).lines, RULES)
-        self.assertEqual([tuple(it) for it in script.commands], [(SYN, 11)])
+        self.assertEqual([tuple(command) for command in script.commands], [(SYN, 11)])
 
     def test_comments_of_an_import_stay_with_their_rules(self) -> None:
         script = Script.of(program(), ["# pf.conf:21 @7 pass in", "rule a pass in", "open"])
@@ -79,8 +79,8 @@ class Scripts(unittest.TestCase):
         lines = [*RULES, "open", SYN, "step main flush a", "fork main 1 other", "step other flush a", "back main 1", "step main flush a", "show main"]
         spots = Script.of(program(), lines).spots
         wanted = [("main", 1), ("main", 2), ("main", 1), ("other", 2), ("main", 0), ("main", 2), ("main", 0)]
-        self.assertEqual([(it.branch, it.number) for it in spots], wanted)
-        self.assertEqual([it.number for it in Script.of(program(), lines).commands], [6, 7, 8, 9, 10, 11, 12])
+        self.assertEqual([(spot.branch, spot.number) for spot in spots], wanted)
+        self.assertEqual([command.number for command in Script.of(program(), lines).commands], [6, 7, 8, 9, 10, 11, 12])
 
     def test_it_is_played_once_by_each_set_of_rules(self) -> None:
         script = Script.of(program(), NIGHT)
@@ -106,7 +106,7 @@ class Comparing(unittest.TestCase):
         merge = read(f"{TOP}/crates/test_cases/data/cases/merge-comes-to-rest.kernel.pfl")
         script = Script.of(program(), [it for it in lines_of(merge) if not it.startswith("kernel")])
         its = compared(script, by("merge"))
-        parted = [(it.branch, it.number) for it in its.partings]
+        parted = [(parting.branch, parting.number) for parting in its.partings]
         self.assertEqual(len(parted), 1)
         (branch, number), last = parted[0], its.differences[-1]
         self.assertEqual((branch, script.spots[last.place].number), ("main", number))
@@ -118,14 +118,14 @@ class Comparing(unittest.TestCase):
         tail = ["fork main 3 early", f"step early {BLIND[10:]}", "fork main 7 late", "step late flush a"]
         script = Script.of(program(), [*lines, *tail])
         its = compared(script, by("window"))
-        self.assertEqual([(it.branch, it.number) for it in its.partings], [("main", 7)])
-        places = [(script.spots[it.place].branch, script.spots[it.place].number) for it in its.differences]
+        self.assertEqual([(parting.branch, parting.number) for parting in its.partings], [("main", 7)])
+        places = [(script.spots[difference.place].branch, script.spots[difference.place].number) for difference in its.differences]
         self.assertEqual(places, [("main", 4), ("main", 6), ("main", 7), ("early", 4)])
 
     def test_of_a_search_the_answer_counts(self) -> None:
         lines = [*NIGHT[:-1], f"search main 2 1000 dropped {NIGHT[-1][10:]}"]
         answers = [Script.of(program(), lines).replies(it)[-1] for it in (PROFILE, by("loose"), by("window"))]
-        self.assertEqual([it[0].split()[0] for it in answers], ["found", "none", "found"])
+        self.assertEqual([answer[0].split()[0] for answer in answers], ["found", "none", "found"])
         self.assertEqual([len(self.changes(lines, it)) for it in (by("loose"), by("window"))], [1, 0])
 
     def test_of_why_the_outcome_counts(self) -> None:
@@ -212,7 +212,7 @@ class Answers(unittest.TestCase):
     def test_what_only_a_shown_pair_has_comes_last(self) -> None:
         """By `window` the state has another `lo` after the last acknowledgement, which `show` prints, and the keepalive passes besides."""
         lines = of_lines([*NIGHT[:-1], "show main", NIGHT[-1]]).lines
-        heads = [it.split(":")[0] for it in lines if it.startswith("by kernel")]
+        heads = [line.split(":")[0] for line in lines if line.startswith("by kernel")]
         self.assertEqual(heads, ["by kernel loose", "by kernel all"])
         lines = of_lines([*SESSION, "show main", BLIND]).lines
         self.assertIn("by kernel window: 1 packet gets a different verdict, 1 reply that shows the pair", lines)

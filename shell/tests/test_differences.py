@@ -34,7 +34,7 @@ def found(change: Callable[[Pair], None]) -> List[str]:
     before.frames[1] = framed(frame("01000001", UDP))
     after = copy.deepcopy(before)
     change(after)
-    return [str(it) for it in differences(before, after)]
+    return [str(difference) for difference in differences(before, after)]
 
 
 def of_state(**fields: object) -> List[str]:

@@ -21,7 +21,7 @@ def diff(*lines: str, setup: Optional[Setup] = None, clock: int = 0) -> List[str
 
 
 def pair(*lines: str, clock: int = 0) -> Pair:
-    of = {node: [it for it in lines if it.split()[1] == node] for node in ("a", "b")}
+    of = {node: [line for line in lines if line.split()[1] == node] for node in ("a", "b")}
     return read_shown(
         [
             "branch main events 0 cursor 0",

@@ -302,7 +302,7 @@ pfsync:
 
     def told(self, said: Said) -> List[str]:
         lines = said.out[said.out.index("pfsync counters of a and b") + 1 :]
-        return [it.strip() for it in lines]
+        return [line.strip() for line in lines]
 
     def test_each_that_is_not_0_with_its_meaning(self) -> None:
         said = self.compared(self.A, self.B)
@@ -312,7 +312,7 @@ pfsync:
         self.assertTrue(lines[0].startswith("2000 frames sent by a over IPv4, 1990 received by b; 10 fewer: lost, if both count"))
         self.assertEqual(lines[1], "1000 frames sent by b over IPv4, 1000 received by a")
         self.assertEqual(
-            [it.partition(": ")[0] for it in lines[2:]],
+            [line.partition(": ")[0] for line in lines[2:]],
             ["1 | 0 packet discarded for bad version", "1 | 1 stale state", "5 | 0 failed state lookup/insert", "3 | 3 send error"],
         )
         self.assertTrue(lines[2].endswith('in the laboratory "frames that could not be read" (`broken`)'))

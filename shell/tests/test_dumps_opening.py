@@ -50,7 +50,7 @@ class OpeningCase(DumpCase):
         with redirect_stdout(out), redirect_stderr(err):
             status = main(["--program", program(), "compare", *words])
         said, faults = (it.getvalue().replace(f"{self.room}/", "").splitlines() for it in (out, err))
-        return Said(status, said, [it.replace(f"lab: {SCRIPT}: ", "") for it in faults])
+        return Said(status, said, [fault.replace(f"lab: {SCRIPT}: ", "") for fault in faults])
 
     def there(self, said: Said, a: int, b: int) -> None:
         """All states of both dumps are there, as far as they are compared."""
@@ -64,9 +64,9 @@ class OpeningCase(DumpCase):
     def pair(self) -> Pair:
         """The pair after the script, each line of which is good and accepted."""
         checked = run_lines(program(), self.script, "check")
-        self.assertEqual((checked.faults, [it[0].split()[0] for it in checked.replies]), ([], ["good"]))
+        self.assertEqual((checked.faults, [reply[0].split()[0] for reply in checked.replies]), ([], ["good"]))
         ran = run_lines(program(), [*self.script, "show main"])
-        self.assertEqual([it[0] for it in ran.replies if not it[0].startswith(("step ", "branch "))], [])
+        self.assertEqual([reply[0] for reply in ran.replies if not reply[0].startswith(("step ", "branch "))], [])
         pair = read_shown(ran.replies[-1])
         self.assertEqual((pair.a.pending, pair.b.pending, pair.frames), (0, 0, {}))
         return pair
@@ -127,7 +127,7 @@ class OfThePage(OpeningCase):
     def test_the_pages_show_what_comes(self) -> None:
         pages = read(f"{TOP}/docs/FIELD.md") + read(f"{TOP}/docs/FIELD-DETAILS.md")
         blocks = (pages.partition(f"<!-- {it} -->\n```text\n")[2].partition("```")[0] for it in ("pair said", "pair diff"))
-        said, diff = (it.splitlines() for it in blocks)
+        said, diff = (block.splitlines() for block in blocks)
         self.assertEqual([it.replace("fw1.txt", "a").replace("fw2.txt", "b") for it in said], self.said.err)
         self.assertEqual(diff, self.asked("diff"))
 
@@ -181,7 +181,7 @@ class States(OpeningCase):
         for a, b in ((later, earlier), (earlier, later)):
             self.there(self.opened(a, b), 1, 1)
             pair = self.pair()
-            left = [86400 - (node.clock - it.last) // 1000 for node in (pair.a, pair.b) for it in node.states.values()]
+            left = [86400 - (node.clock - state.last) // 1000 for node in (pair.a, pair.b) for state in node.states.values()]
             self.assertEqual(sorted(left), [86400 - 4002, 86400 - 9])
 
     def test_no_sync(self) -> None:
@@ -195,7 +195,7 @@ class States(OpeningCase):
         other = NAT.replace("61000", "61001").replace("8a1b2c3d", "0b0b0b0b")
         self.there(self.opened(NAT, other), 1, 1)
         pair = self.pair()
-        ends = [it.wire.near for node in (pair.a, pair.b) for it in node.states.values()]
+        ends = [state.wire.near for node in (pair.a, pair.b) for state in node.states.values()]
         self.assertEqual(ends, ["203.0.113.1:61000", "203.0.113.1:61001"])
         self.assertEqual(self.asked("diff")[0], "a and b differ in 2 states: 1 only on a, 1 only on b, 0 differ; 1 flow has two names")
 
@@ -210,7 +210,7 @@ class States(OpeningCase):
         shared = WEB.replace("8a1b2c3d", "0b0b0b0b")
         self.there(self.opened(shared, shared + QUERY.replace("8a1b2c3d", "0b0b0b0b")), 1, 2)
         pair = self.pair()
-        self.assertEqual(([str(it) for it in pair.a.states], [str(it) for it in sorted(pair.b.states)]), (["2.2"], ["2.1", "2.2"]))
+        self.assertEqual(([str(state) for state in pair.a.states], [str(it) for it in sorted(pair.b.states)]), (["2.2"], ["2.1", "2.2"]))
 
     def test_dumps_without_names_and_numbers(self) -> None:
         heads = "".join(f"{it.splitlines()[0]}\n" for it in (WEB, NAT))
@@ -321,7 +321,7 @@ class Options(OpeningCase):
     def test_rules(self) -> None:
         """By these rules the server's connections are passed, and the client's are translated to other ports; queries are blocked."""
         rules = ("block any", "pass in proto tcp tport 443", "pass out proto tcp nat 203.0.113.1:50001:65535")
-        lines = ["set timeout tcp.established 90000", "# where it is from", *(f"rule {node} {it}" for node in "ab" for it in rules)]
+        lines = ["set timeout tcp.established 90000", "# where it is from", *(f"rule {node} {rule}" for node in "ab" for rule in rules)]
         setup = self.file("rules.pfl", "".join(f"{it}\n" for it in (*lines, "open", "step main tick a 7")))
         said = self.opened(WEB + NAT + QUERY, WEB, "--rules", setup)
         wanted = [

@@ -92,14 +92,14 @@ class Replies(unittest.TestCase):
 
     def test_other_lines_are_refused(self) -> None:
         packets = ("loose -", "loose 1 2 3", "loose x -", "reset", "right")
-        of_packets = [[*HEAD, "state 1.1", it, "end"] for it in packets]
+        of_packets = [[*HEAD, "state 1.1", packet, "end"] for packet in packets]
         for lines in (["names main"], [*HEAD, "rule x block", "end"], [*HEAD, "clock 1", "end"], *of_packets):
             self.assertRaises(NotExplained, read_explanation, lines)
 
 
 class Rules(unittest.TestCase):
     def decided(self, packet: str, *rules: str, any_flags: Optional[int] = None) -> Optional[int]:
-        words: List[Rule] = [Rule(tuple(it.split())) for it in rules]
+        words: List[Rule] = [Rule(tuple(rule.split())) for rule in rules]
         return deciding(words, read_packet(f"packet a {packet}"), any_flags)
 
     def test_the_last_that_matches_or_the_first_that_is_quick(self) -> None:

@@ -39,7 +39,7 @@ def framed(data: bytes) -> Frame:
 
 
 def record_lines(data: bytes) -> List[str]:
-    return [record_line(it) for it in framed(data).records]
+    return [record_line(record) for record in framed(data).records]
 
 
 class Contents(unittest.TestCase):

@@ -85,7 +85,7 @@ class Room(unittest.TestCase):
 
     def sizes(self, name: str) -> List[int]:
         """The bytes of each message of a capture."""
-        return [len(it.data) - BEFORE_MESSAGE for it in self.packets(name)]
+        return [len(packet.data) - BEFORE_MESSAGE for packet in self.packets(name)]
 
     def written(self, name: str, content: bytes) -> str:
         with open(self.path(name), "wb") as it:
@@ -97,7 +97,7 @@ class Which(Room):
     """Which messages are in which capture, and when they were there."""
 
     def run_of(self, *events: str) -> str:
-        return self.frames(self.script([*SETUP, QUERY, *(f"step main {it}" for it in events)]))
+        return self.frames(self.script([*SETUP, QUERY, *(f"step main {event}" for event in events)]))
 
     def test_one_that_arrives_is_in_both(self) -> None:
         said = self.run_of("flush a", "deliver 1")
@@ -117,7 +117,7 @@ class Which(Room):
     def test_one_that_is_repeated_comes_twice(self) -> None:
         self.run_of("flush a", "repeat 1", "deliver 2", "deliver 1")
         self.assertEqual((self.sizes("a.pcap"), self.sizes("b.pcap")), ([INSERTION], [INSERTION, INSERTION]))
-        self.assertEqual([it.time for it in self.packets("b.pcap")], [4, 5])
+        self.assertEqual([packet.time for packet in self.packets("b.pcap")], [4, 5])
 
     def test_one_that_is_cut_has_the_same_share(self) -> None:
         # of 148 bytes 74 are a half, and 270 / 2 are 135; 49 are 89.4 of 270; a copy of what was cut is as long
@@ -135,8 +135,8 @@ class Which(Room):
 
     def test_each_capture_has_the_clock_of_its_node(self) -> None:
         self.run_of("tick a 60000", "flush a", "tick b 5", "tick a 1", "deliver 1")
-        self.assertEqual([it.time for it in self.packets("a.pcap")], [60000 * MILLISECOND + 3])
-        self.assertEqual([it.time for it in self.packets("b.pcap")], [5 * MILLISECOND + 6])
+        self.assertEqual([packet.time for packet in self.packets("a.pcap")], [60000 * MILLISECOND + 3])
+        self.assertEqual([packet.time for packet in self.packets("b.pcap")], [5 * MILLISECOND + 6])
 
     def test_what_was_undone_is_left_out(self) -> None:
         lines = [*SETUP, QUERY, "step main flush a", "step main cut 1 74", "step main deliver 1"]
@@ -161,14 +161,14 @@ class Which(Room):
         message = self.packets("a.pcap")[0].data[BEFORE_MESSAGE:]
         said = self.frames(script, "--pfsync")
         self.assertEqual(said, "a.pcap has 1 message (1 sent by a); b.pcap has 0 messages (0 sent by b)")
-        self.assertEqual(([it.data for it in self.packets("a.pcap")], self.packets("b.pcap")), ([message], []))
+        self.assertEqual(([packet.data for packet in self.packets("a.pcap")], self.packets("b.pcap")), ([message], []))
         with open(self.path("a.pcap"), "rb") as it:
             self.assertEqual(it.read(HEAD)[20:], b"\xf6\0\0\0")
 
     def test_the_creator_of_a_bulk_status_is_the_node_that_serves(self) -> None:
         self.frames(self.script(ALL))
         # frame 7: the states that are left to a turn come before, and the status is the last record before EOF
-        whole = next(it.data for it in self.packets("b.pcap") if it.data[-20:-16] == b"\x0a\0\0\1")
+        whole = next(packet.data for packet in self.packets("b.pcap") if packet.data[-20:-16] == b"\x0a\0\0\1")
         self.assertEqual(whole[-16:-4], struct.pack(">IIB3x", 1, 0, 1))
 
 
@@ -255,7 +255,7 @@ class Dissection(Room):
     def test_each_kind_of_record_is_as_the_program_says(self) -> None:
         content, wanted = self.both(ALL, "all")
         self.compared(content, wanted)
-        kinds = {it.split()[0] for _, frame in wanted for it in frame.records}
+        kinds = {record.split()[0] for _, frame in wanted for record in frame.records}
         self.assertEqual(kinds, {"ins", "iack", "updc", "upd", "delc", "req", "clr", "bus"})
 
     @needs_tshark
@@ -302,7 +302,7 @@ class Dissection(Room):
         for name in ("a.pcap", "b.pcap"):
             ran = subprocess.run(("tcpdump", "-nvr", self.path(name)), capture_output=True, text=True, timeout=20, check=True)
             found = re.findall(r"ttl 255, id 0, offset 0, flags \[DF\], proto (?:unknown|pfsync) \(240\), length (\d+)\)", ran.stdout)
-            self.assertEqual([int(it) for it in found], [it + 20 for it in self.sizes(name)], ran.stdout)
+            self.assertEqual([int(it) for it in found], [size + 20 for size in self.sizes(name)], ran.stdout)
             self.assertNotIn("bad cksum", ran.stdout)
 
 
@@ -311,7 +311,7 @@ class Damaged(Room):
 
     def messages(self) -> List[bytes]:
         self.frames(self.script(ALL))
-        return [it.data for name in ("a.pcap", "b.pcap") for it in self.packets(name)]
+        return [packet.data for name in ("a.pcap", "b.pcap") for packet in self.packets(name)]
 
     def file(self, its: Sequence[Tuple[bytes, int]]) -> str:
         """A file of these packets, each captured up to some bytes."""
@@ -366,7 +366,7 @@ class Damaged(Room):
             message + b"more": ("INS_ACK 3", ["Bytes after the message"]),
             message[:3] + bytes((len(message) - 4,)) + message[4:-4]: ("INS_ACK 3", ["No group EOF"]),
         }
-        shown = dissected(self.file([(self.with_message(packet, it), 65535) for it in cases]))
+        shown = dissected(self.file([(self.with_message(packet, case), 65535) for case in cases]))
         self.assertEqual([(it.info, it.faults) for it in shown], [*cases.values()])
         shown = dissected(self.file([(packet, BEFORE_MESSAGE + 60)]))
         self.assertEqual((shown[0].info, shown[0].faults), ("INS_ACK 3 [captured short]", ["The packet was captured short"]))

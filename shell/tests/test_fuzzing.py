@@ -383,8 +383,8 @@ class Searches(unittest.TestCase):
     def test_lines_by_chance_have_no_fault_and_few_runs(self) -> None:
         chance = random.Random(5)
         lines = [line_of(chance, "main", ["frame 3 b -", "state a 1.1"]) for _ in range(300)]
-        self.assertEqual({fault_of(it, False) for it in lines}, {""})
-        self.assertEqual(with_few_runs("".join(f"{it}\n" for it in lines)).splitlines(), lines)
+        self.assertEqual({fault_of(line, False) for line in lines}, {""})
+        self.assertEqual(with_few_runs("".join(f"{line}\n" for line in lines)).splitlines(), lines)
 
     def test_a_script_is_left_with_few_runs(self) -> None:
         for line, wanted in (
@@ -400,24 +400,24 @@ class Searches(unittest.TestCase):
 class Setups(unittest.TestCase):
     def test_setups_by_chance_have_no_fault_and_each_form(self) -> None:
         setups = [[*small_setup(random.Random(seed)), "open"] for seed in range(300)]
-        self.assertEqual({read("\n".join(it)).fault for it in setups}, {""})
-        lines = [line for it in setups for line in it]
+        self.assertEqual({read("\n".join(setup)).fault for setup in setups}, {""})
+        lines = [line for setup in setups for line in setup]
         for form in ("set timeout udp", " nat 203.0.113.1:7000$", " nat 203.0.113.1:7000:70", " rdr 10.0.0.1:1000:1", "port 5[34]:"):
-            self.assertTrue(any(re.search(form, it) for it in lines), form)
+            self.assertTrue(any(re.search(form, line) for line in lines), form)
 
     def test_rules_of_the_kernel_by_chance(self) -> None:
         """In every other setup, between its lines, in each form."""
         lines = [*small_setup(random.Random(1))]
         setups = [with_kernel(random.Random(f"kernel {seed}"), lines) for seed in range(400)]
-        self.assertEqual({read("".join(f"{line}\n" for line in (*it, "open"))).fault for it in setups}, {""})
-        self.assertEqual([[line for line in it if not line.startswith("kernel")] for it in setups], [lines] * 400)
-        kernels = [Setup.of(it).kernel for it in setups]
-        self.assertTrue(150 < sum(it.is_profile for it in kernels) < 250)
+        self.assertEqual({read("".join(f"{line}\n" for line in (*setup, "open"))).fault for setup in setups}, {""})
+        self.assertEqual([[line for line in setup if not line.startswith("kernel")] for setup in setups], [lines] * 400)
+        kernels = [Setup.of(setup).kernel for setup in setups]
+        self.assertTrue(150 < sum(kernel.is_profile for kernel in kernels) < 250)
         self.assertGreater(len({*kernels}), 12)
-        said = [line for it in setups for line in it if line.startswith("kernel")]
+        said = [line for setup in setups for line in setup if line.startswith("kernel")]
         for form in ("kernel all$", r"kernel \w+$", r"kernel \w+ \w+ \w+$", r"kernel .*\b(\w+)\b.* \1\b"):
             self.assertTrue(any(re.match(form, it) for it in said), form)
-        self.assertTrue(any(sum(line.startswith("kernel") for line in it) == 2 for it in setups))
+        self.assertTrue(any(sum(line.startswith("kernel") for line in setup) == 2 for setup in setups))
 
     def test_a_seed_without_them_is_what_it_was(self) -> None:
         """A pair by the profile gets packets near its connections, from the same chance as ever."""
@@ -432,7 +432,7 @@ class Setups(unittest.TestCase):
 
     def test_lines_of_them_by_chance(self) -> None:
         lines = [kernel_line(random.Random(seed)) for seed in range(400)]
-        faults = [fault_of(it, True) for it in lines]
+        faults = [fault_of(line, True) for line in lines]
         self.assertEqual({*faults}, {"", "1 Long", "3 Unknown", "4 Missing"})
         self.assertGreater(faults.count(""), 150)
 

@@ -113,7 +113,7 @@ class Left(unittest.TestCase):
         text = "pass in to 10.0.0.1 no state\npass in to 10.0.0.2 modulate state\npass in proto blub\npass in to 10.0.0.3"
         for address, lines in (("10.0.0.3", [3]), ("10.0.0.1", [1, 3]), ("10.0.0.2", [2, 3])):
             said = [it.partition(": ")[0] for it in self.about(address, text).said]
-            self.assertEqual(said, [*(f"pf.conf:{it}" for it in lines), "pf.conf", "pf.conf"])
+            self.assertEqual(said, [*(f"pf.conf:{line}" for line in lines), "pf.conf", "pf.conf"])
 
     def test_files_with_more_rules_than_a_node_may_have(self) -> None:
         nets = ", ".join(f"10.{it // 256}.{it % 256}.1" for it in range(2000))
@@ -188,7 +188,7 @@ class Verdicts(unittest.TestCase):
             place = address if family == 4 or asked.port is None else f"[{address}]"
             its = taken_in(case.text, "--about", f"{asked.end}={place}{'' if asked.port is None else f':{asked.port}'}")
             self.assertEqual(its.status, 0)
-            lines = [Line.of(it) for it in its.rules()]
+            lines = [Line.of(rule) for rule in its.rules()]
             left += len(case.lines) - len(lines)
             for flow in self.flows(chance, family, case.lines, asked):
                 self.assertEqual(of_laboratory(flow, lines), of_laboratory(flow, case.lines), (case.text, asked, flow, its.rules()))
@@ -227,12 +227,12 @@ class Verdicts(unittest.TestCase):
             "packet a out tcp 10.0.0.80:8080 198.51.100.8:4000 S 1 0 1000 0",
             "packet b in tcp 198.51.100.8:4000 192.0.2.1:50001 SA 1 2 1000 0",
         ]
-        steps = [f"step main {it}" for it in packets]
+        steps = [f"step main {packet}" for packet in packets]
         found: List[List[str]] = []
         for words in ((), ("--about", "10.0.0.80:8080")):
             lab = laboratory("\n".join(taken_in(WEB, *words).setup))
             self.addCleanup(lab.close)
-            found.append([lab.ask(it)[0] for it in steps])
+            found.append([lab.ask(step)[0] for step in steps])
         self.assertEqual(found[0], found[1])
         self.assertGreater(len({*found[0]}), 2)
 

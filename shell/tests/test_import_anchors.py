@@ -36,18 +36,18 @@ class Braces(unittest.TestCase):
         )
         # The anchor is two rules of pf, one for each protocol, and its rules have numbers of their own.
         numbers = ["1 @0", "3 @1.0", "4 @1.1", "5 @1.2", "3 @2.0", "4 @2.1", "5 @2.2", "7 @3"]
-        wanted = [f"{it} matches nothing:" if it in ("5 @1.2", "3 @2.0", "5 @2.2") else it for it in numbers]
+        wanted = [f"{number} matches nothing:" if number in ("5 @1.2", "3 @2.0", "5 @2.2") else number for number in numbers]
         texts = ["block all", inner[0], inner[1], inner[2], inner[0], inner[1], inner[2], "pass out"]
         self.assertEqual(its.comments, [f"# pf.conf:{it} {text}" for it, text in zip(wanted, texts)])
-        self.assertEqual([origin(it) for it in its.comments][1:4], ["pf.conf:3 @1.0", "pf.conf:4 @1.1", ""])
-        self.assertTrue(all(is_of_import(it) for it in its.comments))
+        self.assertEqual([origin(comment) for comment in its.comments][1:4], ["pf.conf:3 @1.0", "pf.conf:4 @1.1", ""])
+        self.assertTrue(all(is_of_import(comment) for comment in its.comments))
         self.assertEqual(its.said[0], "pf.conf: 5 rules of em0: 5 exact, 0 approximated, 0 out; 5 rule lines a node")
         self.assertEqual(its.said[1], "pf.conf: 1 other line: 1 exact, 0 approximated, 0 out")
 
     def test_without_a_name_and_in_one_another(self) -> None:
         text = "anchor {\n pass in\n anchor out {\n  pass proto udp\n  pass in\n }\n block proto tcp\n}"
         its = self.exact(text, "pass in", "pass out proto udp", "block any proto tcp")
-        numbers = [it.split()[1:3] for it in its.comments]
+        numbers = [comment.split()[1:3] for comment in its.comments]
         self.assertEqual(numbers, [[f"pf.conf:{line}", f"@{it}"] for line, it in ((2, "0.0"), (4, "0.1.0"), (5, "0.1.1"), (7, "0.2"))])
 
     def test_a_quick_rule_in_an_anchor_ends_everything(self) -> None:
@@ -57,7 +57,7 @@ class Braces(unittest.TestCase):
         # Of its rules that are not quick the last one that matches decides.
         text = "anchor quick from 10.0.0.0/8 {\n pass proto tcp\n block quick from 10.0.0.1\n block proto tcp to port 25\n}\nblock all"
         rules = ("from 10.0.0.1/32", "proto tcp from 10.0.0.0/8 tport 25")
-        self.exact(text, *(f"block any quick {it}" for it in rules), "pass any quick proto tcp from 10.0.0.0/8", "block any")
+        self.exact(text, *(f"block any quick {rule}" for rule in rules), "pass any quick proto tcp from 10.0.0.0/8", "block any")
 
     def test_line_ends_in_lists_and_comments(self) -> None:
         text = "anchor {\n # one\n pass in proto { tcp,\n  udp } # two\n\n block in \\\n  quick\n}"
@@ -118,7 +118,7 @@ class Loaded(unittest.TestCase):
         its = taken_in(conf, a_conf="pass in modulate state\n")
         self.assertEqual(its.rules(), ["pass in from 10.0.0.1/32", "block in", "pass in to 10.0.0.2/32"])
         lost = "approximated: `modulate state` as `keep state`: sequence numbers stay as they are"
-        self.assertEqual([it for it in its.comments if "modulate" in it and "@" not in it], [f"# a.conf:1 {lost}"])
+        self.assertEqual([comment for comment in its.comments if "modulate" in comment and "@" not in comment], [f"# a.conf:1 {lost}"])
         sums = "pf.conf: 2 rules of em0: 1 exact, 1 approximated, 0 out; 3 rule lines a node"
         self.assertEqual(its.said[:2], [f"a.conf:1: {lost}", sums])
 
@@ -178,7 +178,7 @@ class Anchor(NamedTuple):
     @property
     def text(self) -> str:
         words = " ".join(it for it in ("anchor", self.direction, "quick" * self.is_quick, *self.ends.words) if it)
-        return "\n".join([f"{words} {{", *(it.text for it in self.rules), "}"])
+        return "\n".join([f"{words} {{", *(rule.text for rule in self.rules), "}"])
 
 
 ANY = Ends("", "", "any", "", "any", "")
@@ -224,11 +224,11 @@ class Meaning(unittest.TestCase):
         for at in range(ROUNDS):
             family = (4, 4, 6)[at % 3]
             rules = [*[BLOCK_ALL] * (at % 2), *random_rules(chance, family, 2)]
-            text = "\n".join(it.text for it in rules)
+            text = "\n".join(rule.text for rule in rules)
             its = taken_in(text)
             if its.status or any(": out: " in it for it in its.said):
                 continue
-            lines = [Line.of(it) for it in its.rules()]
+            lines = [Line.of(rule) for rule in its.rules()]
             for flow in (random_flow(chance, family) for _ in range(FLOWS)):
                 last, _ = decided(flow, rules)
                 wanted = (True, False) if last is None else (last.action == "pass", last.action == "pass")

@@ -68,7 +68,7 @@ class Files(unittest.TestCase):
 
     def test_numbers_of_pf(self) -> None:
         # @2 is that of pfsync's interface, and @4 carp's on em1; line 14 is one rule for UDP and one for ICMP.
-        numbers = [it.split()[1:3] for it in file("pair").comments if " @" in it]
+        numbers = [comment.split()[1:3] for comment in file("pair").comments if " @" in comment]
         wanted = ((9, 0), (10, 1), (12, 3), (13, 5), (14, 6), (14, 7))
         self.assertEqual(numbers[:6], [[f"pair.conf:{line}", f"@{it}"] for line, it in wanted])
         self.assertEqual(numbers[-1], ["pair.conf:20", "@18"])
@@ -84,7 +84,7 @@ class Files(unittest.TestCase):
         knows_new = check_setup(program(), ["set timeout tcp.first 1", "rule a pass in proto tcp tport 1:2"]) is None
         for name in OF_FILE:
             lines = [it for it in file(name).setup[:-1] if has_word(it)]
-            old = [it for it in lines if not it.startswith("set timeout ") and not _is_new(it)]
+            old = [line for line in lines if not line.startswith("set timeout ") and not _is_new(line)]
             self.assertIsNone(check_setup(program(), lines if knows_new else old), name)
 
     def test_each_bad_line_has_its_text(self) -> None:
@@ -252,7 +252,7 @@ class Origins(unittest.TestCase):
             path = os.path.join(folder, "pair.pfl")
             taken_in("block all\npass out", "-o", path)
             rules = setup_from(program(), path).rules["b"]
-        self.assertEqual([it.described for it in rules], ["block any; pf.conf:1 @0", "pass out; pf.conf:2 @1"])
+        self.assertEqual([rule.described for rule in rules], ["block any; pf.conf:1 @0", "pass out; pf.conf:2 @1"])
 
     def test_other_comments_say_nothing_of_a_rule(self) -> None:
         packet = "step main packet a in udp 192.0.2.9:123 10.0.0.1:1000 40"

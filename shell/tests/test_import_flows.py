@@ -61,11 +61,11 @@ class ByHand(unittest.TestCase):
     """Each of these files, against what is worked out by hand."""
 
     def test_there_are_enough_of_them(self) -> None:
-        counts = {it: len(flows_of(it).flows) for it in NAMES}
+        counts = {name: len(flows_of(name).flows) for name in NAMES}
         self.assertGreaterEqual(len(counts), FEWEST_FILES)
         self.assertGreaterEqual(min(counts.values()), FEWEST_FLOWS, counts)
         # Each names the rule, or those that it passes by.
-        self.assertEqual([it for name in NAMES for it in flows_of(name).flows if not re.search("[0-9]", it.why)], [])
+        self.assertEqual([flow for name in NAMES for flow in flows_of(name).flows if not re.search("[0-9]", flow.why)], [])
 
     def test_the_sums(self) -> None:
         for name in NAMES:

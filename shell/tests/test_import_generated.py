@@ -87,7 +87,7 @@ class Generated(unittest.TestCase):
         with open(f"{TOP}/docs/FIELD-DETAILS.md", encoding="utf-8") as it:
             page = it.read()
         for kind in ("rule", "translation"):
-            said = ", ".join(f"{sums[kind][it]} {it}" for it in VERDICTS)
+            said = ", ".join(f"{sums[kind][verdict]} {verdict}" for verdict in VERDICTS)
             self.assertTrue(said in page, f"docs/FIELD-DETAILS.md does not say {said}")
 
 

@@ -57,7 +57,7 @@ def of_port(port: int, text: str) -> bool:
     """Whether a port is one that a rule has."""
     if text.startswith("{"):
         parts = ["!= 2"] if "!=" in text else text.strip("{ }").split()
-        return any(of_port(port, it) for it in parts)
+        return any(of_port(port, part) for part in parts)
     words = text.split()
     if len(words) == 3:
         low, high = int(words[0]), int(words[2])
@@ -89,7 +89,7 @@ class Ends(NamedTuple):
         words = [self.family, *(["proto", self.protocol] if self.protocol else [])]
         words += ["from", self.source, *(["port", self.source_port] if self.source_port else [])]
         words += ["to", self.destination, *(["port", self.destination_port] if self.destination_port else [])]
-        return [it for it in words if it]
+        return [word for word in words if word]
 
     def matches(self, packet: Packet) -> bool:
         """Whether a packet is one of them, by pf.conf(5)."""
@@ -131,7 +131,7 @@ def line_matches(line: str, packet: Packet) -> bool:
 
 def random_rule(chance: random.Random) -> Random:
     protocol = chance.choice(("tcp", "udp", ""))
-    hosts = (*["any"] * 20, *V4, *V6, *(f"! {it}" for it in (*V4, *V6)), *(f"{mark}<{it}>" for it in TABLES for mark in ("", "! ")))
+    hosts = (*["any"] * 20, *V4, *V6, *(f"! {it}" for it in (*V4, *V6)), *(f"{mark}<{table}>" for table in TABLES for mark in ("", "! ")))
     ports = [chance.choice((*[""] * 10, *PORTS)) if protocol else "" for _ in range(2)]
     direction, family = chance.choice(("", "in", "out")), chance.choice(("", "", "inet", "inet6"))
     return Random(direction, Ends(family, protocol, chance.choice(hosts), ports[0], chance.choice(hosts), ports[1]))

@@ -25,7 +25,7 @@ class Page(unittest.TestCase):
         self.assertIn(rule, setup)
         packet, *said = asked.splitlines()
         # (a port range and a timeout of a class are in no rule that this packet meets)
-        old = "\n".join(it for it in setup.splitlines() if not it.startswith("set timeout "))
+        old = "\n".join(line for line in setup.splitlines() if not line.startswith("set timeout "))
         self.assertEqual(reasons(f"{old}\nstep main {packet}"), [it.strip() for it in said])
 
     def test_the_sections_of_translations(self) -> None:

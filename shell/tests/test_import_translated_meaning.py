@@ -95,7 +95,7 @@ class Filters(NamedTuple):
     @property
     def text(self) -> str:
         words = [self.action, self.direction, *["quick"] * self.is_quick, *self.ends.words, *["flags any"] * self.any_flags]
-        return " ".join(it for it in words if it)
+        return " ".join(word for word in words if word)
 
     def matches(self, packet: Packet, has_syn: bool) -> bool:
         is_taken = self.action == "block" or self.any_flags or has_syn or packet.protocol != "tcp"
@@ -111,7 +111,7 @@ BLOCK_ALL = Filters("block", "", False, False, Ends("", "", "any", "", "any", ""
 def translation_of(packet: Packet, translations: Sequence[Translates]) -> Optional[Translates]:
     """The first translation of the first kind that is for a packet, and where that is none or an exception, of the second kind."""
     for kind in ("binat", "nat") if packet.direction == "out" else ("rdr", "binat"):
-        first = next((it for it in translations if it.kind == kind and it.matches(packet)), None)
+        first = next((translation for translation in translations if translation.kind == kind and translation.matches(packet)), None)
         if first is not None and not first.is_no:
             return first if first.address(packet) else None
     return None
@@ -154,7 +154,7 @@ class Line(NamedTuple):
     def of(cls, text: str) -> "Line":
         action, direction, *words = text.replace("flags any", "any_flags").split()
         flags = {"quick", "any_flags"} & {*words}
-        words = [it for it in words if it not in flags]
+        words = [word for word in words if word not in flags]
         said = dict(zip(words[::2], words[1::2]))
         pool = said.get("nat") or said.get("rdr")
         return cls(action, direction, flags, said, _first_of(pool) if pool else None)
@@ -258,7 +258,7 @@ class Case(NamedTuple):
     def lost(self) -> List[str]:
         """What is lost, but for how one of several ports is chosen: both take the first."""
         reasons = [why for it in self.its.said if "approximated: " in it for why in it.partition("approximated: ")[2].split("; ")]
-        return [it for it in reasons if not it.endswith("at random, and here the first free one is taken")]
+        return [reason for reason in reasons if not reason.endswith("at random, and here the first free one is taken")]
 
     @property
     def is_legible(self) -> bool:
@@ -269,9 +269,9 @@ class Case(NamedTuple):
 def random_case(chance: random.Random, family: int, nots: int = 1) -> Case:
     translations = [random_translation(chance, family) for _ in range(chance.randrange(1, 5))]
     filters = [BLOCK_ALL] * (chance.random() < 0.6) + [random_filter(chance, family, nots) for _ in range(chance.randrange(5))]
-    text = "\n".join([*(it.text for it in translations), *(it.text for it in filters)])
+    text = "\n".join([*(translation.text for translation in translations), *(rule.text for rule in filters)])
     its = taken_in(text)
-    return Case(text, translations, filters, its, [Line.of(it) for it in its.rules()])
+    return Case(text, translations, filters, its, [Line.of(rule) for rule in its.rules()])
 
 
 def some_flows(chance: random.Random, case: Case, family: int) -> List[Flow]:
@@ -302,7 +302,7 @@ class Meaning(unittest.TestCase):
         for family in (4, 4, 4, 6) * (ROUNDS // 4):
             case = random_case(chance, family)
             if case.is_legible and all(it.startswith(STAYS) for it in case.lost):
-                found += [self.compare(case, it) for it in some_flows(chance, case, family)]
+                found += [self.compare(case, flow) for flow in some_flows(chance, case, family)]
         # Each fate comes often enough to say something.
         counts = {it: found.count(it) for it in ("translated", "blocked", "passed", "stays")}
         self.assertGreater(min(counts.values()), 600, counts)
@@ -313,7 +313,7 @@ class Meaning(unittest.TestCase):
         for family in (4, 4, 4, 6) * (ROUNDS // 5):
             case = random_case(chance, family, nots=12)
             if case.is_legible and all(it.startswith(STAYS) for it in case.lost):
-                found += [self.compare(case, it) for it in some_flows(chance, case, family)]
+                found += [self.compare(case, flow) for flow in some_flows(chance, case, family)]
         counts = {it: found.count(it) for it in ("translated", "blocked", "passed")}
         self.assertGreater(min(counts.values()), 200, counts)
 

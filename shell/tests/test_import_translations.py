@@ -104,7 +104,7 @@ class Exact(unittest.TestCase):
         self.exact(text, *own, *rest)
         # What one end leaves out is left out whatever the other end is.
         ends = ("from 10.0.0.1/32", "to 10.1.0.1/32")
-        exceptions = [f"{action} out quick {it}" for it in ends for action in ("pass", "block")]
+        exceptions = [f"{action} out quick {end}" for end in ends for action in ("pass", "block")]
         self.exact("nat on em0 inet from ! 10.0.0.1 to ! 10.1.0.1 -> (em0)\nblock all\npass out", *exceptions, *rest)
 
     def test_a_published_server(self) -> None:
@@ -271,7 +271,7 @@ class WithoutProtocol(unittest.TestCase):
     def test_each_protocol(self) -> None:
         def judged(ends: str, verdict: str, *rules: str) -> None:
             its = taken_in(f"nat pass on em0 {ends} -> 192.0.2.1 port 7")
-            self.assertEqual(its.rules(), [f"pass out quick {it} nat 192.0.2.1:7" for it in rules], ends)
+            self.assertEqual(its.rules(), [f"pass out quick {rule} nat 192.0.2.1:7" for rule in rules], ends)
             self.assertEqual(its.said[0], f"pf.conf:1: approximated: {verdict}" if verdict else its.said[0])
 
         judged("inet from any to any port 500", self.ECHOES, "tport 500 flags any")
@@ -431,8 +431,8 @@ class Said(unittest.TestCase):
         self.assertEqual(its.comments, wanted)
         first = ["pf.conf:1", "pf.conf:4 @1, no nat pf.conf:1", "pf.conf:1"]
         second = ["pf.conf:2", "pf.conf:4 @1, nat pf.conf:2", "pf.conf:2"]
-        self.assertEqual([origin(it) for it in its.comments], ["", "", *first, *second, "pf.conf:4 @1"])
-        self.assertTrue(all(is_of_import(it) for it in its.comments))
+        self.assertEqual([origin(comment) for comment in its.comments], ["", "", *first, *second, "pf.conf:4 @1"])
+        self.assertTrue(all(is_of_import(comment) for comment in its.comments))
 
     def test_other_comments_are_of_nobody(self) -> None:
         others: List[str] = ["# x:1 native", "# x:1 no nats", "# x:1 @2, nat y: pass", "# nat on em0", "# x:1 where no rule: nat"]

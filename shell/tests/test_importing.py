@@ -83,7 +83,7 @@ class Rules(unittest.TestCase):
     def test_addresses(self) -> None:
         self.exact("pass in from 10.1.2.3/8", "pass in from 10.0.0.0/8")
         nets = ("10.0.0.0/8", "172.16.0.0/12", "192.168.7.0/24")
-        self.exact("pass in from { 10/8, 172.16/12, 192.168.7 }", *(f"pass in from {it}" for it in nets))
+        self.exact("pass in from { 10/8, 172.16/12, 192.168.7 }", *(f"pass in from {net}" for net in nets))
         self.exact("pass in from 2001:DB8::/32", "pass in from 2001:0db8:0000:0000:0000:0000:0000:0000/32")
         self.exact("pass in from fe80::1%em0", "pass in from fe80:0000:0000:0000:0000:0000:0000:0001/128")
         # 4 to 7 is a net of four, and 8 and 9 are one of two.
@@ -167,7 +167,7 @@ class Rules(unittest.TestCase):
         ]
         its = taken_in(text)
         self.assertEqual(its.rules(), rules)
-        self.assertEqual([it.split()[2] for it in its.comments], [f"@{it}" for it in range(64)])
+        self.assertEqual([comment.split()[2] for comment in its.comments], [f"@{it}" for it in range(64)])
 
     def test_states(self) -> None:
         self.exact("pass in proto tcp flags any", "pass in proto tcp flags any")
@@ -191,7 +191,7 @@ class Rules(unittest.TestCase):
         why = "`adaptive.start` of a rule is left out: timeouts shrink only by the states of a node"
         self.approximated("pass in keep state (adaptive.start 9)", why, "pass in")
         text, nets = "pass in from ! 10.0.0.0/8 keep state (max 9)", _without_ten()
-        self.approximated(text, "each of its 8 rules here has a `max` of its own", *(f"pass in from {it} max 9" for it in nets))
+        self.approximated(text, "each of its 8 rules here has a `max` of its own", *(f"pass in from {net} max 9" for net in nets))
 
     def test_defaults_of_states_are_for_rules_that_say_nothing_of_states(self) -> None:
         text = "set state-defaults no-sync, max 7\npass in\npass out keep state\nblock in"
@@ -368,7 +368,7 @@ class Settings(unittest.TestCase):
     def test_what_changes_nothing_here(self) -> None:
         lines = ["fail-policy drop", "loginterface em0", 'fingerprints "/etc/pf.os"', "state-policy if-bound", "require-order no"]
         lines += ["skip on lo0", "debug loud"]
-        its = taken_in("\n".join(f"set {it}" for it in lines))
+        its = taken_in("\n".join(f"set {line}" for line in lines))
         self.assertEqual(its.said[1], "pf.conf: 7 other lines: 7 exact, 0 approximated, 0 out")
         its = taken_in("set fail-policy return")
         why = "nothing is sent back where a pass rule can make no state: no RST, no ICMP error"

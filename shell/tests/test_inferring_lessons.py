@@ -80,7 +80,7 @@ class Lessons(Nights):
         """Both segments that b drops in failover-in-mid-stream.pfl are in the script, and dropped there for their window."""
         lab = self.run_of(lines_of(read(LESSONS["failover-in-mid-stream"])))
         made = self.infer_from(lab, *self.logs(lab, lab.branch("main"), "b"))
-        dropped = [it for it in self.outcomes(made) if it[1] == "drop window"]
+        dropped = [outcome for outcome in self.outcomes(made) if outcome[1] == "drop window"]
         self.assertEqual(
             [
                 "packet b in tcp 192.0.2.80:443 10.0.0.17:51512 A 120001 401 60000 1460",

@@ -33,7 +33,7 @@ ASKED = ["flush a", "deliver 2", "flush b", "deliver 3", "flush a", "deliver 4"]
 
 class Scripts(Nights):
     def ran(self, events: Sequence[str], setup: Sequence[str] = RULES) -> Laboratory:
-        return self.run_of([*setup, *(f"step main {it}" for it in events)])
+        return self.run_of([*setup, *(f"step main {event}" for event in events)])
 
     def inferred(self, events: Sequence[str], *words: str, setup: Sequence[str] = RULES) -> Inferred:
         lab = self.ran(events, setup)
@@ -41,7 +41,7 @@ class Scripts(Nights):
 
     def log(self, node: str, *packets: PacketEvent, reason: int = 0, time: int = 0) -> List[str]:
         """The words for a log of packets that were blocked at this many nanoseconds after the clocks began."""
-        its = [Captured(CLOCKS_BEGAN + time, logged(it, reason)) for it in packets]
+        its = [Captured(CLOCKS_BEGAN + time, logged(packet, reason)) for packet in packets]
         return [f"--log-{node}", self.save(f"log-{node}.pcap", pcap(its, 117))]
 
     # ---- events
@@ -130,7 +130,7 @@ class Scripts(Nights):
         """Of a's capture alone: that b asks shows that the insertion did not come, and the update did."""
         lab = self.ran([QUERY, "flush a", "lose 1", "tick a 50", "tick b 50", ANSWER.format("a"), *ASKED])
         made = self.infer(self.captured(lab, lab.branch("main"))[:1])
-        self.assertEqual(["lose 1", "deliver 2"], [it for it in made.events if it in ("lose 1", "deliver 1", "deliver 2")])
+        self.assertEqual(["lose 1", "deliver 2"], [event for event in made.events if event in ("lose 1", "deliver 1", "deliver 2")])
         shown = "later messages of b show that it did not come in time, or that a state of it was refused"
         self.assertIn(f"# 00:00:00.000000 frame 1 of a; {shown}", made.script)
         self.assertIn("# Of 2 frames no capture says whether they came: later ones of the receiver show it.", made.script)
@@ -287,7 +287,7 @@ class Scripts(Nights):
         lines = ["# The rules of em0, taken in from a pf.conf by `./lab import`.", ""]
         lines += ["# pf.conf:2 @0 block all", "rule a block any", "rule b block any"]
         lines += ["# pf.conf:9 @7 pass out on em0", "rule a pass out", "rule b pass out"]
-        path = self.save("pair.pfl", "".join(f"{it}\n" for it in lines).encode())
+        path = self.save("pair.pfl", "".join(f"{line}\n" for line in lines).encode())
         made = self.inferred([QUERY, "flush a", "deliver 1"], "--rules", path)
         at = made.script.index(lines[2])
         self.assertEqual(lines[2:], made.script[at : at + len(lines) - 2])

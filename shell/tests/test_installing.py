@@ -215,8 +215,8 @@ class Anew(Room):
 
     def with_examples(self, *names: str) -> None:
         """Installs with further examples, as an earlier version may have had them."""
-        example = next(it for it in files(self.program) if it.name.endswith("restart.pfl"))
-        more = [example._replace(name=f"share/pfl_lab/examples/{it}") for it in names]
+        example = next(file for file in files(self.program) if file.name.endswith("restart.pfl"))
+        more = [example._replace(name=f"share/pfl_lab/examples/{name}") for name in names]
         with mock.patch("installing.install.files", lambda it: [*files(it), *more]):
             self.install()
 

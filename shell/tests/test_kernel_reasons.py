@@ -62,12 +62,12 @@ CASES: Dict[str, Tuple[str, str]] = {
 
 def of_kernel(script: str) -> List[str]:
     """What is said of the kernel."""
-    return [it for it in reasons(script) if it.startswith("FreeBSD's kernel")]
+    return [reason for reason in reasons(script) if reason.startswith("FreeBSD's kernel")]
 
 
 def others(script: str) -> List[str]:
     """What other rules come to that the reason does not name."""
-    return [it for it in reasons(script) if re.match(r"(by|with|without) .* (it|the run) is ", it)]
+    return [reason for reason in reasons(script) if re.match(r"(by|with|without) .* (it|the run) is ", reason)]
 
 
 class KernelReasons(unittest.TestCase):

@@ -37,7 +37,7 @@ ANY_NUMBER = (
 
 
 def script_of(kernel: str, *events: str) -> List[str]:
-    return [*([kernel] if kernel else []), *RULES, *(f"step main {it}" for it in events)]
+    return [*([kernel] if kernel else []), *RULES, *(f"step main {event}" for event in events)]
 
 
 class Dialogue(unittest.TestCase):

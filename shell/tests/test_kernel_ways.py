@@ -261,18 +261,18 @@ class Ways(unittest.TestCase):
     def test_a_segment_without_data_passes_by_another_rule(self) -> None:
         """So the kernel drops no such segment, however old; by `scale` alone it is dropped."""
         alone = ["by kernel scale it is `drop window` (docs/REAL.md)", "by kernel all it is `pass 1.1`, as here (docs/REAL.md)"]
-        self.assertEqual([it for it in reasons(AGREED + OLD.replace("512 1000", "512 0")) if "kernel" in it], alone)
+        self.assertEqual([reason for reason in reasons(AGREED + OLD.replace("512 1000", "512 0")) if "kernel" in reason], alone)
 
     def test_an_old_segment_that_the_kernel_drops(self) -> None:
         kept = "it keeps the window 65535 of the SYN of the source end as 512, in units of the scale 7"
         drops = f"{kept}, and seq 3000000 begins 934465 below what that allows (by kernel scale; docs/REAL.md)"
         for line in ("", "kernel window loose reset\n"):
-            said = [it for it in reasons(line + AGREED + OLD) if "kernel" in it]
+            said = [reason for reason in reasons(line + AGREED + OLD) if "kernel" in reason]
             self.assertEqual(said, [f"FreeBSD's kernel, as far as we know its sources, drops this packet: {drops}"])
 
     def test_what_a_syn_makes_of_scales(self) -> None:
         for script, wanted in ((OFFER.strip(), KEEPS), (OFFER + ANSWER.strip(), KEEPS)):
-            self.assertEqual([it for it in reasons(script) if "kernel" in it], [wanted.format(65535, 512, 7)])
+            self.assertEqual([reason for reason in reasons(script) if "kernel" in reason], [wanted.format(65535, 512, 7)])
         self.assertEqual([it for it in reasons("kernel scale\n" + OFFER.strip()) if "kernel" in it], [KEPT.format(65535, 512, 7)])
         # What passes only by it.
         counts = "passes this packet: the answer to a scale, which offers one too, counts at both scales, although it has a SYN"
@@ -295,7 +295,7 @@ class Ways(unittest.TestCase):
     def test_what_the_other_rules_would_do(self) -> None:
         for name, (script, wanted) in OTHERS.items():
             with self.subTest(name):
-                said = [it for it in reasons(script) if it.startswith("FreeBSD's kernel")]
+                said = [reason for reason in reasons(script) if reason.startswith("FreeBSD's kernel")]
                 self.assertEqual(said, [f"FreeBSD's kernel, as far as we know its sources, {it}" for it in wanted])
 
     def test_updates(self) -> None:

@@ -133,7 +133,7 @@ class Words(unittest.TestCase):
         with open(f"{TOP}/docs/KERNEL.md", encoding="utf-8") as page:
             rows = re.findall(r"(?m)^\| \[`(\w+)`\]\(#\w+\) \| (.+?) \| .+? \| (.+?) \|$", page.read())
         # (within brackets a part has none of its own)
-        ours = [(it.word, it.what, it.sure) for it in SWITCHES.values()]
+        ours = [(switch.word, switch.what, switch.sure) for switch in SWITCHES.values()]
         self.assertEqual(*([(word, what, re.sub("[();`]| (?=%)", "", sure)) for word, what, sure in its] for its in (rows, ours)))
 
 

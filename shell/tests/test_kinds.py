@@ -92,7 +92,7 @@ class Refused(unittest.TestCase):
         path = self.room / "given"
         path.write_bytes(content)
         out = StringIO()
-        named = [str(path) if it == "FILE" else str(self.room / it) if it.startswith("OUT.") else it for it in words]
+        named = [str(path) if word == "FILE" else str(self.room / word) if word.startswith("OUT.") else word for word in words]
         with redirect_stdout(out), redirect_stderr(out):
             status = main(["--program", program(), *named])
         self.assertEqual([*self.room.iterdir()], [path])

@@ -79,17 +79,17 @@ class Page(unittest.TestCase):
 
     def test_records(self) -> None:
         page = [(int(number), name, int(size)) for name, number, size, _ in table("## Frames", "Message")]
-        self.assertEqual(page, [(it.number, it.name, it.size) for it in KINDS.values()])
+        self.assertEqual(page, [(kind.number, kind.name, kind.size) for kind in KINDS.values()])
         self.assertIn(f"`queue N {'|'.join(QUEUES)} NUMBER NAME`", section("### Replies"))
         explained = codes(section("### What `why` answers").partition("RECORD is")[2].partition("FATE is")[0])
-        self.assertEqual([it.split()[0] for it in explained], [it.word for it in KINDS.values()])
+        self.assertEqual([it.split()[0] for it in explained], [kind.word for kind in KINDS.values()])
         shown = [code.split()[0] for row in table("### What `frame` answers", "RECORD") for code in codes(row[0])]
         self.assertEqual({*shown}, {*BY_WORD})
 
     def test_lines_of_a_setup_and_commands(self) -> None:
         setup = [codes(row[0])[0] for row in table("### Setup", "Line")]
         self.assertEqual(setup, [form.replace(RULE_FORM, "RULE") for it in SETUP.values() for form in it.form.split("\n")])
-        commands = [form for it in COMMANDS.values() for form in it.form.split("\n")]
+        commands = [form for command in COMMANDS.values() for form in command.form.split("\n")]
         self.assertEqual([codes(row[0])[0] for row in table("### Commands", "Line")], commands)
         self.assertIn(f"There are at most {MOST_BRANCHES} branches", section("### Commands"))
         self.assertIn(f"of more than {LONGEST_LINE} bytes", section("## Lines and replies"))
@@ -99,11 +99,11 @@ class Page(unittest.TestCase):
         page = {code for what, cell in rows for code in codes(cell) if "refused" not in what and "faulty" not in what}
         shown = codes(section("### Replies").partition("A shown branch is many lines")[2].partition("\n1. ")[2])[0]
         others = {"excised", "event K step NAME EVENT", "outcome OUTCOME", "refused N REFUSAL", "end"}
-        self.assertEqual(page - others | {shown}, {reply for it in COMMANDS.values() for reply in it.replies})
+        self.assertEqual(page - others | {shown}, {reply for command in COMMANDS.values() for reply in command.replies})
 
     def test_events(self) -> None:
         page = [codes(row[0])[0] for row in table("### Commands", "Event")]
-        self.assertEqual(page, [form for it in EVENTS.values() for form in it.forms])
+        self.assertEqual(page, [form for event in EVENTS.values() for form in event.forms])
         for it in EVENTS.values():
             self.assertIs(it.values[0], TICKET if it.word in OF_FRAME else NODE)
         for number in (GREATEST, GREATEST_LONG):
@@ -115,14 +115,14 @@ class Page(unittest.TestCase):
         for words, cell in table("### Replies", "Event"):
             of, forms = words.split(", "), codes(cell)
             page.update({of[0]: forms} if len(of) == 1 else {word: [form] for word, form in zip(of, forms)})
-        self.assertEqual(page, {it.word: [outcome.form for outcome in it.outcomes] for it in EVENTS.values()})
+        self.assertEqual(page, {event.word: [outcome.form for outcome in event.outcomes] for event in EVENTS.values()})
 
     def test_refusals(self) -> None:
         names = [name for _, name, _ in table("## Refusals", "No")]
         self.assertEqual(names, list(faults.EVENT_REFUSALS))
         lines = section("## Refusals").partition("```text\n")[2].partition("```")[0].splitlines()
-        page = {word: [int(it) for it in numbers] for word, *numbers in map(str.split, lines)}
-        self.assertEqual(page, {it.word: [names.index(name) + 1 for name in it.refusals] for it in EVENTS.values()})
+        page = {word: [int(number) for number in numbers] for word, *numbers in map(str.split, lines)}
+        self.assertEqual(page, {event.word: [names.index(name) + 1 for name in event.refusals] for event in EVENTS.values()})
 
     def test_faults(self) -> None:
         page = {of: re.sub(r"\([^)]*\)|; NoMemory.*", "", names).strip() for of, names in table("## Other faults", "Of")}
@@ -134,7 +134,7 @@ class Page(unittest.TestCase):
             ("a command", faults.COMMAND_REFUSALS),
         ):
             self.assertEqual(tuple(it.strip() for it in page[of].split(",")), names, of)
-        self.assertEqual({name for it in COMMANDS.values() for name in it.refusals}, {*faults.COMMAND_REFUSALS})
+        self.assertEqual({name for command in COMMANDS.values() for name in command.refusals}, {*faults.COMMAND_REFUSALS})
 
     def test_searches(self) -> None:
         text = section("### Searches")
@@ -145,7 +145,7 @@ class Page(unittest.TestCase):
         said = [code for row in table("### Searches", "Word") if row[1].startswith("`") for code in codes(row[1].partition(": ")[0])]
         choices = [it for it in said if it.startswith("N ")]
         self.assertEqual({it for it in said if it not in choices}, {*SCOPES, *OF_PAIR, *(f"{it} EVENT" for it in OF_PACKET), THEN})
-        anything = [it.removeprefix(f"N {ANY} ") for it in choices if it != "N EVENT"]
+        anything = [choice.removeprefix(f"N {ANY} ") for choice in choices if choice != "N EVENT"]
         wanted = [" ".join([it.word, *(value.name for value in it.values[1:])]) for it in OF_FRAME.values()]
         self.assertEqual(anything, wanted)
 

@@ -38,7 +38,7 @@ class Logs(unittest.TestCase):
         lines = self.lines(SCRIPT + "back main 2")
         self.assertEqual(lines[0], "main: 3 events, 1 stands")
         self.assertEqual(lines[2], "  >  cursor at 1")
-        self.assertEqual([it.endswith("  (undone)") for it in lines[1:]], [False, False, True, True])
+        self.assertEqual([line.endswith("  (undone)") for line in lines[1:]], [False, False, True, True])
 
     def test_everything_undone(self) -> None:
         lines = self.lines(SCRIPT + "back main 3")

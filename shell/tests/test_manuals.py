@@ -168,7 +168,7 @@ class Macros(unittest.TestCase):
     def test_mandoc_warns_of_nothing(self) -> None:
         for page in PAGES:
             ran = subprocess.run(("mandoc", "-T", "lint", f"{TOP}/docs/man/{page}.1"), capture_output=True, text=True, timeout=20)
-            self.assertEqual([it for it in ran.stdout.splitlines() if MISSING not in it], [])
+            self.assertEqual([line for line in ran.stdout.splitlines() if MISSING not in line], [])
             ran = subprocess.run(("mandoc", "-T", "ascii", f"{TOP}/docs/man/{page}.1"), capture_output=True, text=True, timeout=20)
             self.assertGreater(len(ran.stdout.splitlines()), 100)
 

@@ -32,7 +32,7 @@ class Told(Followers):
         self.assertEqual(self.said(one, "names"), ["names main"])
         self.said(two, "back main 2", "tick a 7", "fork main 1 other", "excise other 1")
         notes = ["back main 2 -> at 0", "step main tick a 7 -> clock 7 dropped 2", "fork main 1 other -> forked", "excise other 1 -> excised"]
-        self.assertEqual(self.said(one, ""), [f"[session 2] {it}" for it in notes])
+        self.assertEqual(self.said(one, ""), [f"[session 2] {note}" for note in notes])
 
     def test_own_commands_are_no_notes(self) -> None:
         one, two = self.shells(self.serve(2), 2)
@@ -42,7 +42,7 @@ class Told(Followers):
             said += self.said(one, f"tick a {number}", "flush a")
         said += self.said(one, "")
         notes = [it for it in said if it.startswith("[")]
-        self.assertEqual([it.split(" ->")[0] for it in notes], [f"[session 2] step main tick b {it}" for it in range(5)])
+        self.assertEqual([note.split(" ->")[0] for note in notes], [f"[session 2] step main tick b {it}" for it in range(5)])
 
     def test_many_are_one_line(self) -> None:
         one, two = self.shells(self.serve(2), 2)
@@ -87,7 +87,7 @@ class Told(Followers):
     def test_replies_in_short(self) -> None:
         replies = {"step pass 1.1 dropped 0": "pass 1.1", "step sent 1 148 dropped 3": "sent 1 148 dropped 3", "at 0": "at 0"}
         replies.update({"step drop block dropped 0": "drop block", "refused 8 Event 2 NothingPending": "refused 8 Event 2 NothingPending"})
-        self.assertEqual({it: in_short(it) for it in replies}, replies)
+        self.assertEqual({reply: in_short(reply) for reply in replies}, replies)
 
 
 class Due(Followers):

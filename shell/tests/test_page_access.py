@@ -209,7 +209,7 @@ class Rules(unittest.TestCase):
 
     def test_a_page_in_order_keeps_nearly_all(self) -> None:
         browser = self.shown(RIGHT)
-        found: List[Rule] = [it for it in RULES if it(browser)]
+        found: List[Rule] = [rule for rule in RULES if rule(browser)]
         # (it has neither a banner nor a list of branches)
         self.assertEqual(found, [access_rules.landmarks_are_few])
 

@@ -133,7 +133,7 @@ class Probes(unittest.TestCase):
         over = "<p style='position: absolute; left: 8px; top: 10px; margin: 0'>one</p>"
         self.shown(f"<button>Go <b>on</b></button>{over}<p hidden>never</p><details><summary>more</summary><p>later</p></details>")
         pieces = browser.evaluate(PIECES)
-        self.assertEqual([it["text"] for it in pieces], ["BUTTON Go on", "P one", "SUMMARY more"])
+        self.assertEqual([piece["text"] for piece in pieces], ["BUTTON Go on", "P one", "SUMMARY more"])
         self.assertEqual([pieces[it]["text"] for pair in boxes_that_overlap(pieces) for it in sorted(pair)], ["BUTTON Go on", "P one"])
 
     def test_what_can_be_reached(self) -> None:

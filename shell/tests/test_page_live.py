@@ -334,7 +334,7 @@ document.querySelector("form").submit();
         self.addCleanup(stranger.shutdown)
         bob.open(f"http://127.0.0.1:{stranger.server_address[1]}/")
         bob.wait_until("window.tried === 3 && document.readyState === 'complete'", 5)
-        self.assertTrue([it for it in bob.errors() if "frame" in it])
+        self.assertTrue([error for error in bob.errors() if "frame" in error])
         self.click(ann, "purge a")
         self.at(ann, "3 / 3")
         self.assertRegex(ann.evaluate(SAID), "^Ann: step main purge a")

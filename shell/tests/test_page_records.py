@@ -37,7 +37,7 @@ def whole(record: Record, number: int) -> Facts:
     lab = record.laboratory
 
     def with_contents(pair: Pair) -> Pair:
-        return lab.with_contents(pair, Branch("main", [it.event for it in record.moments], number))
+        return lab.with_contents(pair, Branch("main", [moment.event for moment in record.moments], number))
 
     looker = Looker(lab.setup, with_contents)
     return looker.take(lab.ask(f"past main {number}")).edits
@@ -46,7 +46,7 @@ def whole(record: Record, number: int) -> Facts:
 def scripts_without_faults(pattern: str, each: int) -> List[str]:
     """Every so-many-th of these scripts, if it has no fault."""
     paths = sorted(glob(f"{TOP}/{pattern}"))[::each]
-    return [it for it in paths if not faulty(program(), lines_of(read(it)))]
+    return [path for path in paths if not faulty(program(), lines_of(read(path)))]
 
 
 class OfRecords(unittest.TestCase):
@@ -79,7 +79,7 @@ class Records(OfRecords):
 
     def test_outcomes_and_changes(self) -> None:
         record = self.record(f"packet a out {FLOW}", "flush a", "lose 1")
-        self.assertEqual([it.outcome for it in record.moments], ["pass 1.1", "sent 1 148", "lost"])
+        self.assertEqual([moment.outcome for moment in record.moments], ["pass 1.1", "sent 1 148", "lost"])
         self.assertEqual(record.moments[2].changes, [("bad", "link: frame 1 gone: to b, 148 bytes: 1 insert")])
         self.assertEqual(record.moments[2].edits and sorted(record.moments[2].edits), ["frame/1", "pair"])
 
@@ -92,7 +92,7 @@ class Synchronised(OfRecords):
         self.assertEqual(record.sync(Branch("main", [f"packet a out {FLOW}", "flush a", "lose 1"], 2)), 2)
         self.assertEqual((len(record.moments), record.undone), (2, 1))
         self.assertEqual(record.sync(Branch("main", [f"packet a out {FLOW}", "flush a", "deliver 1"], 3)), 2)
-        self.assertEqual([it.outcome for it in record.moments], ["pass 1.1", "sent 1 148", "taken 1"])
+        self.assertEqual([moment.outcome for moment in record.moments], ["pass 1.1", "sent 1 148", "taken 1"])
         self.compare(record)
 
     def test_the_opening_again(self) -> None:
@@ -110,7 +110,7 @@ class Synchronised(OfRecords):
         kinds = [f"packet a out {FLOW}", f"packet a out {FLOW.replace('1000', '1001')}", "flush a", "tick a 70000", "purge a", "restart b"]
         record, events = self.record(), [""]
         for _ in range(40):
-            events = [it for it in events[: dice.randrange(len(events) + 1)] if it]
+            events = [event for event in events[: dice.randrange(len(events) + 1)] if event]
             events += dice.choices(kinds[:2], k=1) + dice.choices(kinds, k=3)
             taken = self.accepted(events)
             record.sync(Branch("main", taken, len(taken)))
@@ -119,7 +119,7 @@ class Synchronised(OfRecords):
 
     def accepted(self, events: List[str]) -> List[str]:
         """Those of the events that are accepted one after another."""
-        replies = self.record().laboratory.run([f"step main {it}" for it in events])
+        replies = self.record().laboratory.run([f"step main {event}" for event in events])
         return [it for it, reply in zip(events, replies) if reply[0].startswith("step")]
 
 
@@ -140,7 +140,7 @@ class NotEachLookedAt(OfRecords):
         self.assertEqual(seen[-1], 12)
         for number in seen:
             self.assertEqual(laid_over(record, number), whole(record, number), number)
-        unseen = next(it for it in record.moments if it.edits is None)
+        unseen = next(moment for moment in record.moments if moment.edits is None)
         self.assertEqual((unseen.why, unseen.changes), (["rule 0 pass", f"new {unseen.outcome.split()[1]}"], ()))
 
     def test_back_to_a_moment_that_was_not_looked_at(self) -> None:

@@ -49,7 +49,7 @@ def of_events(number: int) -> List[str]:
         lines += [f"packet a out udp {source} 192.0.2.9:53 40", "flush a", f"deliver {sent}"]
         lines += [f"packet a in udp 192.0.2.9:53 {source} 80", "flush a", f"lose {lost}"]
         lines += ["tick a 7000", "tick b 7000", "purge a", "purge b"]
-    return ["# A long run", *RULES.splitlines(), *(f"step main {it}" for it in lines)]
+    return ["# A long run", *RULES.splitlines(), *(f"step main {line}" for line in lines)]
 
 
 def of_many_events(times: int) -> Dict[str, Any]:

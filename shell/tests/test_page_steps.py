@@ -25,7 +25,7 @@ class Opens(PageCase):
         self.open()
         for branch in BRANCHES:
             self.go(branch, 4)
-        asked = [it for it in self.browser.requests() if not it.startswith("data:")]
+        asked = [request for request in self.browser.requests() if not request.startswith("data:")]
         self.assertEqual([it.partition("?")[0] for it in asked], [f"file://{page_cases.desk.page(RUN.encode())}"])
         self.assertEqual(self.browser.evaluate("performance.getEntriesByType('resource').map(it => it.name)"), [])
 

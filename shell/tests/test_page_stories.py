@@ -39,10 +39,10 @@ class Stories(unittest.TestCase):
         return run
 
     def notes(self, run: Run) -> Dict[str, Dict[int, List[str]]]:
-        return {it.name: {place: list(those) for place, those in it.notes.items()} for it in run.records}
+        return {record.name: {place: list(those) for place, those in record.notes.items()} for record in run.records}
 
     def events(self, run: Run) -> Dict[str, List[str]]:
-        return {it.name: [one.event for one in it.moments] for it in run.records}
+        return {record.name: [one.event for one in record.moments] for record in run.records}
 
     def test_the_title_and_what_comes_before_the_pair_is_open(self) -> None:
         run = self.run_of(f"# A title. And more of it.\n# On.\n{SETUP}")
@@ -67,7 +67,7 @@ class Stories(unittest.TestCase):
         run = self.run_of(f"{SETUP}# One.\nstep main {ONE}\n# Two.\nstep main {TWO}\n# Back.\nback main 2\n# Three.\nstep main {THREE}\n")
         self.assertEqual(self.events(run), {"main": [THREE], "main~1": [ONE, TWO]})
         self.assertEqual(self.notes(run), {"main": {1: ["Back.", "Three."]}, "main~1": {1: ["One."], 2: ["Two."]}})
-        self.assertEqual([it.former for it in run.records], [False, True])
+        self.assertEqual([record.former for record in run.records], [False, True])
 
     def test_back_and_forward_again_keeps_one_run(self) -> None:
         run = self.run_of(f"{SETUP}step main {ONE}\nback main 1\nforward main 1\n# Two.\nstep main {TWO}\n")
@@ -105,7 +105,7 @@ class Stories(unittest.TestCase):
     def test_the_newest_of_many_runs_are_kept(self) -> None:
         tries = "".join(f"step main tick a {it}\nback main 1\n" for it in range(1, 12))
         run = self.run_of(SETUP + tries)
-        former = [it.moments[0].event for it in run.records if it.former]
+        former = [record.moments[0].event for record in run.records if record.former]
         self.assertEqual(former, [f"tick a {it}" for it in range(12 - MOST_FORMER, 12)])
 
 
@@ -124,7 +124,7 @@ class AtRandom(unittest.TestCase):
             lab = Laboratory(program())
             story = story_of(lab, lines_of("\n".join(self.script(seed))))
             branches = {name: (it.events, it.cursor) for name, it in story.branches.items()}
-            self.assertEqual(branches, {it: (lab.branch(it).events, lab.branch(it).cursor) for it in lab.names()}, seed)
+            self.assertEqual(branches, {name: (lab.branch(name).events, lab.branch(name).cursor) for name in lab.names()}, seed)
             lab.close()
 
 

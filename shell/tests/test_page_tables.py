@@ -124,10 +124,10 @@ def queue_of(node: Node) -> Dict[str, str]:
 
 def rest_of(node: Node) -> List[str]:
     """What else is to be told to the peer: requests, the statuses of a bulk update, and clears."""
-    asks = ["0.0 (all states)" if str(it) == "0.0" else str(it) for it in node.asks]
-    statuses = [{1: "start", 2: "end"}[it] for it in node.statuses]
-    told = [f"update request {it}" for it in asks] + [f"bulk status {it}" for it in statuses]
-    return told + [f"clear creator {it.creator} up to id {it.bound}" for it in node.clears]
+    asks = ["0.0 (all states)" if str(ask) == "0.0" else str(ask) for ask in node.asks]
+    statuses = [{1: "start", 2: "end"}[status] for status in node.statuses]
+    told = [f"update request {ask}" for ask in asks] + [f"bulk status {status}" for status in statuses]
+    return told + [f"clear creator {clear.creator} up to id {clear.bound}" for clear in node.clears]
 
 
 @lru_cache(maxsize=None)
@@ -176,7 +176,7 @@ class Moments(PageCase):
                 held = shown["rest"][at][len(rest_of(node)) :]
                 self.assertEqual([it.split()[3].rstrip(":") for it in held], [str(it.name) for it in node.held])
                 counters = {it: both[at] for it, both in shown["counters"].items()}
-                self.assertEqual(counters, {it.counts: str(node.counters[it.name]) for it in COUNTERS})
+                self.assertEqual(counters, {counter.counts: str(node.counters[counter.name]) for counter in COUNTERS})
             self.assertEqual(shown["said"], wanted["said"])
             self.assertEqual(sorted(it for it, _ in shown["frames"]), wanted["frames"])
             for ticket, text in shown["frames"]:
@@ -220,7 +220,7 @@ class Moments(PageCase):
         # By the kernel's rule b has the state for the 600 seconds that a has said.
         rules = "kernel expiry\nrule a pass out timeout udp.first 600\nrule b pass out\nopen\n"
         events = (QUERY, "flush a", "deliver 1", "tick b 1500", QUERY, "flush a", "deliver 2")
-        seen = self.walk(rules + "".join(f"step main {it}\n" for it in events), "main", range(8))
+        seen = self.walk(rules + "".join(f"step main {event}\n" for event in events), "main", range(8))
         self.assertEqual([seen[it]["b"]["1.1"]["small"][1] for it in (3, 4)], [f"last used {it} s ahead of the clock" for it in (540, 538)])
 
     def test_random_jumps(self) -> None:
@@ -289,7 +289,7 @@ step main packet b out udp 10.0.0.4:1000 192.0.2.9:53 40
     def test_field_by_field(self) -> None:
         self.open(self.SCRIPT, "#main/7")
         # The answer brought the source to MULTIPLE, the destination to SINGLE, and the class to udp.single, at a alone.
-        at_a, at_b = (self.browser.text(f"#tables [data-node={it}] [data-state='1.1']") for it in NODES)
+        at_a, at_b = (self.browser.text(f"#tables [data-node={node}] [data-state='1.1']") for node in NODES)
         told = ("source level", "MULTIPLE", "SINGLE"), ("destination level", "SINGLE", "NO_TRAFFIC"), ("class", "udp.single", "udp.first")
         for field, one, two in told:
             self.assertRegex(at_a, f"{field} here {one}, at b {two}")

@@ -26,7 +26,7 @@ def read(path: str) -> str:
 class Pages(unittest.TestCase):
     def test_dialogues_are_what_the_shell_says(self) -> None:
         pages = ["docs/SHELL.md", "docs/TUTORIAL.md", "README.md"]
-        found = [it for page in pages for it in dialogues(read(page))]
+        found = [dialogue for page in pages for dialogue in dialogues(read(page))]
         self.assertTrue(found)
         for it in found:
             self.assertEqual(it, printed(typed(it)))

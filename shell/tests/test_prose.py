@@ -21,7 +21,7 @@ def read(text: str) -> List[Tuple[int, int, str]]:
 
 def found(text: str) -> List[str]:
     """The faults of a document, each with its line."""
-    return [f"{it.line}: {it.what}" for it in prose.faults(prose.markdown(text))]
+    return [f"{fault.line}: {fault.what}" for fault in prose.faults(prose.markdown(text))]
 
 
 class Sentences(unittest.TestCase):
@@ -99,7 +99,7 @@ class Faults(unittest.TestCase):
 class Files(unittest.TestCase):
     def test_strings_of_python_are_read_line_by_line(self) -> None:
         text = '"""One two."""\nA = "name"\nB = (\n    "three four "\n    f"five {A} six\\nseven eight"\n)\n'
-        blocks = [(it.line, it.text) for it in prose.strings(text)]
+        blocks = [(string.line, string.text) for string in prose.strings(text)]
         self.assertEqual(sorted(blocks), [(1, "One two."), (4, "seven eight"), (4, "three four five ` six")])
 
     def test_lines_of_text_are_by_themselves(self) -> None:

@@ -583,7 +583,7 @@ class Reasons(unittest.TestCase):
         self.check(PURGES)
 
     def test_a_purge_tells_the_first_to_expire_first(self) -> None:
-        told = [it.split(" (")[0] for it in reasons(HALVED + QUERY + SECOND + "step main tick a 60000\nstep main purge a")]
+        told = [reason.split(" (")[0] for reason in reasons(HALVED + QUERY + SECOND + "step main tick a 60000\nstep main purge a")]
         self.assertEqual(told, ["the clock of a is at 60000 ms", "state 1.2", "state 1.1", "no states remain"])
         # A fourth state: each timeout is 0, and all expire at one time.
         told = reasons(HALVED + QUERY + SECOND + THIRD + THIRD.replace("10.0.0.3", "10.0.0.4") + "step main purge a")

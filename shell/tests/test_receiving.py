@@ -59,7 +59,7 @@ class LastUses(unittest.TestCase):
         setup = Setup.of([*lines, *([f"kernel {words}"] if words else [])])
         data = bytes(4) + bytes.fromhex(rules_checksum(setup.rules["a"])) + bytes(HEADER - 20)
         frame = Frame(1, "b", data, tuple(it for it, _ in records))
-        return [*received(setup, setup.kernel, node, frame, [taken(*it) for it in records])]
+        return [*received(setup, setup.kernel, node, frame, [taken(*record) for record in records])]
 
     def last(self, words: str, lines: Sequence[str], clock: int, remaining: int) -> Tuple[int, int]:
         """When an imported state was last used, and when it expires."""

@@ -139,7 +139,7 @@ class Slips(unittest.TestCase):
     """Lines that are faulty or refused, and were not before."""
 
     def slips(self, text: str) -> List[str]:
-        return [str(it) for it in annotating.annotated(program(), text).slips()]
+        return [str(slip) for slip in annotating.annotated(program(), text).slips()]
 
     def test_a_right_script_has_none(self) -> None:
         self.assertEqual(self.slips(RIGHT), [])
@@ -161,7 +161,7 @@ class Slips(unittest.TestCase):
         self.assertEqual(self.slips(text), [])
         # (what was refused is faulty now, and another line is refused)
         slips = self.slips(text.replace("main flush", "main flsh").replace("#= 1\n", "back main 1\n#> at 0\n#= 1\n"))
-        self.assertEqual([it.split(":")[0] for it in slips], ["line 2", "line 6"])
+        self.assertEqual([slip.split(":")[0] for slip in slips], ["line 2", "line 6"])
         self.assertEqual(self.slips(annotating.annotated(program(), "open\nstp\n").text), [])
 
     def test_a_fault_of_the_setup_is_reported_once(self) -> None:

@@ -470,7 +470,7 @@ class Before(unittest.TestCase):
 class Scripts(unittest.TestCase):
     def test_a_script_has_the_line_and_not_the_words(self) -> None:
         ran = run_lines(program(), [*SETUP, f"step main {QUERY}", f"search main 1 9 passed {ANSWER}; 1 flush a", "names"])
-        self.assertEqual([it[0].split()[0] for it in ran.replies], ["step", "none", "names"])
+        self.assertEqual([reply[0].split()[0] for reply in ran.replies], ["step", "none", "names"])
         self.assertEqual(run_lines(program(), ["open", "search apart", "search main 1 9 apart"], "check").replies[0], ["line 2 bad 4 Missing"])
 
 

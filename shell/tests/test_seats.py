@@ -88,7 +88,7 @@ class Seated(AtPage):
         self.assertRegex(self.said(ann, "search apart, anywhere")[1], "^found: no event is needed")
         self.assertEqual(self.said(ann, "quit"), [])
         moments = self.page(door)["branches"][0]["moments"]
-        self.assertEqual([it.get("who", "") for it in moments], ["", "Cid", "Ann"])
+        self.assertEqual([moment.get("who", "") for moment in moments], ["", "Cid", "Ann"])
 
     def test_who_left_comes_back(self) -> None:
         door = self.live()
@@ -229,7 +229,7 @@ class Named(AtPage):
         self.said(bob, "back main 1")
         self.assertEqual(self.said(dora, "names")[1:], ["[Bob] back main 1 -> at 3"])
         moments = self.page(door)["branches"][0]["moments"]
-        self.assertEqual([it["who"] for it in moments], ["Ann", "Bob", "Cid"])
+        self.assertEqual([moment["who"] for moment in moments], ["Ann", "Bob", "Cid"])
 
     def test_each_event_has_its_name_though_they_come_at_once(self) -> None:
         port = self.join(3)

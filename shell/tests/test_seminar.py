@@ -44,7 +44,7 @@ class Seminar(unittest.TestCase):
         lines = [self.served.stdout.readline() for _ in range(4)]
         self.assertEqual(lines[2], f"from another machine: `ssh -L {port}:127.0.0.1:{port} HOST` there, and then the same addresses\n")
         self.assertEqual(lines[3], "connected; the server answers once all its sessions are\n")
-        return [it.split()[0] for it in lines[:2]]
+        return [line.split()[0] for line in lines[:2]]
 
     def shell(self, *words: str) -> Terminal:
         terminal = Terminal([sys.executable, f"{TOP}/lab", "shell", *words], MORE, columns=132, rows=40)
@@ -95,7 +95,7 @@ class Seminar(unittest.TestCase):
         ann = self.shell("--page", step, "--name", "Ann")
         ann.wait_for("main 3/3>")
         ann.type("why 1\r")
-        ann.wait(lambda rows: any("rule 0 of a (pass any)" in it for it in rows) and rows[-1] == "main 3/3>")
+        ann.wait(lambda rows: any("rule 0 of a (pass any)" in row for row in rows) and rows[-1] == "main 3/3>")
         ann.type("back main 1\r")
         ann.wait_for("main 2/3>")
         self.note(bob, "[Ann] back main 1 -> at 2")

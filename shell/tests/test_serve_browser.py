@@ -99,7 +99,7 @@ class Turned(Served):
         self.assertEqual(clients[-1].ask("log main"), NOBODY)
         self.assertEqual(clients[0].ask(STEP), ["step pass 1.1 dropped 0"])
         self.assertEqual(clients[-1].ask("show main")[0], "branch main events 1 cursor 1")
-        self.assertEqual([commands_of(it.ask(VIEW)[0]) for it in clients], [3] * len(clients))
+        self.assertEqual([commands_of(client.ask(VIEW)[0]) for client in clients], [3] * len(clients))
 
     def assert_ends(self, clients: Sequence[Client], reports: int) -> None:
         """That the sessions end with the three commands of `assert_nothing_taken`, and as many browsers were turned away."""
@@ -225,7 +225,7 @@ class Requests(Turned):
     def test_what_is_no_request(self) -> None:
         unknown = (" POST /", "POST\t/", "POST  /", "POST", "POST x/", "/", "step / HTTP/1.1 x", "step /x HTTP/2", "x" * 512, " / HTTP/1.1")
         comments = ("# /", "#POST /", "# /comment", "# / HTTP/1.1 is what a browser sends", "# /x and /y HTTP/1.1", f"# {'x' * LONG}", "#" * 512)
-        answers = {**{it: ["bad 3 Unknown"] for it in unknown}, **{it: [] for it in comments}}
+        answers = {**{it: ["bad 3 Unknown"] for it in unknown}, **{comment: [] for comment in comments}}
         answers.update({"step /x": ["bad 4 Missing"], "show /": ["refused 1 NoBranch"], f"x {'x' * LONG}": ["bad 1 Long"]})
         for line, faults in answers.items():
             with self.subTest(line):
@@ -350,7 +350,7 @@ class OwnPages(Turned):
         with self.held():
             self.browser.evaluate("arguments[0].forEach(method => send(arguments[1], {method}))", [*methods], target)
             time.sleep(SENDING)
-        self.assert_sent(address, [target] * len(methods), [f"{it} failed" for it in methods])
+        self.assert_sent(address, [target] * len(methods), [f"{method} failed" for method in methods])
         clients = self.clients(self.proved.port, 2)
         self.assert_nothing_taken(clients)
         self.assert_ends(clients, len(methods))
@@ -387,7 +387,7 @@ class Pages(Turned):
         """That the browser has sent, or tried to send, what it was told to, and heard nothing but this fault."""
         self.browser.wait_until("window.tried.length === arguments[0]", PROMPT, len(FAILED))
         self.assertEqual(sorted(self.browser.evaluate("window.tried")), FAILED)
-        faults = [it for it in self.browser.errors() if f"127.0.0.1:{port}" in it]
+        faults = [error for error in self.browser.errors() if f"127.0.0.1:{port}" in error]
         self.assertRegex("\n".join(faults), why)
         self.assertGreaterEqual(self.browser.requests().count(f"http://127.0.0.1:{port}/"), SENT - 1)
 

@@ -207,7 +207,7 @@ class AtOnce(Served):
             self.assertEqual(player.replies, replay.replies[number], f"session {number}")
             self.assertTrue(player.sees_its_own)
             self.assertEqual(player.views, sorted(player.views, key=commands_of))
-            self.assertEqual(player.views, [replay.views[commands_of(it)] for it in player.views])
+            self.assertEqual(player.views, [replay.views[commands_of(view)] for view in player.views])
         self.assertEqual(replay.run.ask("show main"), shown)
 
 

@@ -191,7 +191,7 @@ class Student(Room):
             with open(f"{TOP}/examples/{name}.pfl", encoding="utf-8") as it:
                 replies = {line[3:].strip() for line in it if line.startswith("#> ")}
             self.assertGreater(len(replies), 2)
-            self.assertEqual({it for it in replies if it in Reader(text).of("pre") or f">{it}<" in text}, set())
+            self.assertEqual({reply for reply in replies if reply in Reader(text).of("pre") or f">{reply}<" in text}, set())
             self.assertNotIn("<svg", text)
 
 
@@ -233,8 +233,8 @@ class Teacher(Room):
 
     def test_outcomes_are_those_of_charts(self) -> None:
         lines = ["flush a", "repeat 1", "cut 1 30", "deliver 1", "lose 2", "tick a 1500", "purge a", "clear a", "restart b"]
-        its = self.answers([*SETUP, QUERY, *(f"step main {it}" for it in lines)])
-        outcomes = [re.split(r" \| ", its[f"step main {it}"])[3] for it in lines]
+        its = self.answers([*SETUP, QUERY, *(f"step main {line}" for line in lines)])
+        outcomes = [re.split(r" \| ", its[f"step main {line}"])[3] for line in lines]
         wanted = ["#1: insert 1.1", "#2: copy of #1", "#1: cut to 30 bytes", outcomes[3], "#2: lost", "clock 1.5 s", "0 states deleted"]
         self.assertEqual(outcomes, [*wanted, "1 state cleared", "boot 3"])
         self.assertRegex(outcomes[3], "^#1: broken: ")
@@ -244,9 +244,9 @@ class Teacher(Room):
         its = Reader(text)
         self.assertEqual([it for it in its.of("h2") if it], ["Rules", "Events", "Branch main at the end", "Branch other at the end"])
         labels = [attributes["aria-label"] or "" for _, attributes in its.found if attributes.get("role") == "img"]
-        self.assertEqual([it.partition(":")[0] for it in labels], ["Chart of main, events 1 to 3", "Chart of other, events 1 to 2"])
+        self.assertEqual([label.partition(":")[0] for label in labels], ["Chart of main, events 1 to 3", "Chart of other, events 1 to 2"])
         tables = [it for it in its.of("pre") if it.startswith("branch ")]
-        self.assertEqual([it.partition("\n")[0] for it in tables], ["branch main  3 events", "branch other  2 events"])
+        self.assertEqual([table.partition("\n")[0] for table in tables], ["branch main  3 events", "branch other  2 events"])
         self.assertIn("\nnode b  clock 0 s", tables[0])
         for it in re.findall("<svg.*?</svg>", text, re.S):
             self.assertEqual(ElementTree.fromstring(it).tag, "{http://www.w3.org/2000/svg}svg")

@@ -138,7 +138,7 @@ class Stranger(Clone):
     """Types what the pages print."""
 
     def test_what_is_printed_works(self) -> None:
-        found = [it for page in PAGES for it in commands(page)]
+        found = [command for page in PAGES for command in commands(page)]
         self.assertEqual({it.page for it in found}, {*PAGES})
         for dialogue in found:
             with self.subTest(dialogue.page, line=dialogue.line):

@@ -181,7 +181,7 @@ class States(unittest.TestCase):
             flows = (f"192.0.2.9:53 10.0.0.1:{1000 + it}" for it in range(count))
             lines = [state(f"udp out {it} {it}").replace("1.1", f"1.{at}", 1) for at, it in enumerate(flows, 1)]
             lines = [it.strip() for it in node_a(shown(*lines), *setup)]
-            return [it.split(", udp")[0] for it in lines if it.startswith(("timeouts", "expire"))]
+            return [line.split(", udp")[0] for line in lines if line.startswith(("timeouts", "expire"))]
 
         # Each is last used at 1 s, and it is 3 s now: of 60 s 58 are left, and of 30 s 28.
         limits = ("set astart 2", "set aend 4")

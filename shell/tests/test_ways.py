@@ -37,7 +37,7 @@ def state(ends: Ends, protocol: str = "tcp") -> State:
 
 
 def lines(way: Way) -> List[str]:
-    return [it.line for it in way.packets]
+    return [packet.line for packet in way.packets]
 
 
 def after(kernel: Kernel, now: Optional[State], packets: Sequence[PacketEvent]) -> Optional[State]:
@@ -116,8 +116,8 @@ class ByHand(unittest.TestCase):
         """The windows are 1024 of 64 bytes each, and 512 of 128."""
         source, destination = End(4, 6, 1024, 101, 65637), End(4, 7, 512, 501, 66037)
         way = way_to(PROFILE, "a", None, wanted((source, destination)))
-        self.assertEqual([it.split()[6] for it in lines(way)], ["S", "SA", "A", "A"])
-        self.assertEqual([it.split()[-1] for it in lines(way)[:2]], ["6", "7"])
+        self.assertEqual([line.split()[6] for line in lines(way)], ["S", "SA", "A", "A"])
+        self.assertEqual([line.split()[-1] for line in lines(way)[:2]], ["6", "7"])
         then = after(PROFILE, None, way.packets)
         self.assertEqual((way.missed, then and (then.source, then.destination)), ("", (source, destination)))
 
@@ -157,7 +157,7 @@ class ByHand(unittest.TestCase):
 
 class Keys(unittest.TestCase):
     def packets(self, protocol: str, direction: str, wire: Key, stack: Key, levels: Tuple[int, int]) -> List[str]:
-        source, destination = (End(it, None, 0, 0, 0) for it in levels)
+        source, destination = (End(level, None, 0, 0, 0) for level in levels)
         way = way_to(PROFILE, "b", None, Wanted(protocol, direction, wire, stack, source, destination))
         self.assertEqual(way.missed, "")
         return lines(way)
@@ -206,7 +206,7 @@ class ByTheProgram(unittest.TestCase):
                 with self.subTest(words=words, ends=ends):
                     way = way_to(kernel, "a", None, wanted(ends))
                     self.assertEqual(way.missed, "")
-                    ran = run_lines(program(), [*setup, *(f"step main {it}" for it in lines(way)), "show main"])
+                    ran = run_lines(program(), [*setup, *(f"step main {line}" for line in lines(way)), "show main"])
                     (state,) = read_shown(ran.replies[-1]).a.states.values()
                     self.assertEqual((state.source, state.destination), ends)
 

@@ -27,7 +27,7 @@ TWO = [QUERY, "flush a", "deliver 1", "packet a in udp 192.0.2.9:53 10.0.0.1:100
 
 
 def lab_of(events: Sequence[str], setup: str = SETUP) -> Laboratory:
-    return laboratory(setup + "".join(f"step main {it}\n" for it in events))
+    return laboratory(setup + "".join(f"step main {event}\n" for event in events))
 
 
 def quiet_progress(done: int, total: int) -> None:
@@ -53,7 +53,7 @@ class Tries(unittest.TestCase):
 
     def heads(self, events: Sequence[str], *words: str, setup: str = SETUP) -> List[str]:
         """The first line of each group."""
-        return [it for it in self.lines(events, *words, setup=setup) if it[:1].isdigit()]
+        return [line for line in self.lines(events, *words, setup=setup) if line[:1].isdigit()]
 
 
 class Faults(Tries):
@@ -176,7 +176,7 @@ class Plays(Tries):
     def test_all_is_told_at_the_end(self) -> None:
         played = self.played([QUERY, "flush a"], "skip", 2)
         self.assertEqual(played.until_quiet, ["flush a", "deliver 1"])
-        self.assertEqual([len(it.states) for it in played.pair.nodes.values()], [1, 1])
+        self.assertEqual([len(node.states) for node in played.pair.nodes.values()], [1, 1])
 
     def test_many_events_are_sent_in_parts(self) -> None:
         packets = [QUERY.replace(":1000", f":{port}") for port in range(1000, 1300)]
@@ -185,7 +185,7 @@ class Plays(Tries):
 
     def test_a_variant_goes_as_its_lines_go_in_a_run_of_their_own(self) -> None:
         with open(f"{TOP}/examples/lost-bulk-frame.pfl", encoding="utf-8") as script:
-            lab = laboratory("\n".join(it for it in script.read().splitlines() if not it.startswith("#")))
+            lab = laboratory("\n".join(line for line in script.read().splitlines() if not line.startswith("#")))
         self.addCleanup(lab.close)
         branch = lab.branch("main")
         course = course_of(lab, branch)
@@ -320,7 +320,7 @@ class Groups(Tries):
         lines = self.lines(events, "--faults", "lose", "--from", "6")
         # (the request lost, no update is begun; its answer lost, the state is lost with it)
         self.assertEqual(
-            [it for it in lines if it[:1].isdigit()],
+            [line for line in lines if line[:1].isdigit()],
             [f"1  2 faults: at the end only on a: {FLOW}; at the end b waits for a bulk update"],
         )
 
@@ -355,7 +355,7 @@ class Groups(Tries):
 
     def test_nodes_that_go_on_answering_each_other(self) -> None:
         with open(f"{TOP}/examples/asymmetric-routing.pfl", encoding="utf-8") as script:
-            lab = laboratory("\n".join(it for it in script.read().splitlines() if not it.startswith("#")))
+            lab = laboratory("\n".join(line for line in script.read().splitlines() if not line.startswith("#")))
         self.addCleanup(lab.close)
         lines = answer(lab, lab.branch("main"), read(["--faults", "last", "--from", "10", "--to", "10"])[1], PLAIN, quiet_progress, lambda: "").lines
         self.assertEqual(lines[3], "1  1 fault: at the end the nodes keep answering each other; the end was not compared")
@@ -388,7 +388,7 @@ class Groups(Tries):
         self.assertEqual(lines[1], "as it was, at the end `deliver 2` is refused")
         rest = "the end was not compared: the run does not come to rest: at the end `deliver 2` is refused"
         self.assertEqual(
-            [it for it in lines if it[:1].isdigit()],
+            [line for line in lines if line[:1].isdigit()],
             [
                 f"1  1 fault: at the end nothing is pending or in flight any more; {rest}",
                 f"2  3 faults: no packet judged differently; {rest}",
@@ -414,18 +414,18 @@ class Options(Tries):
 
     def test_watch(self) -> None:
         # (without the query, the answer that is dropped could not have come)
-        self.assertEqual([it[0] for it in self.heads(ARRIVES, "--watch", "drop")], ["1", "2", "3"])
-        self.assertEqual([it[0] for it in self.heads(ARRIVES, "--watch", "gone")], ["3", "4"])
+        self.assertEqual([head[0] for head in self.heads(ARRIVES, "--watch", "drop")], ["1", "2", "3"])
+        self.assertEqual([head[0] for head in self.heads(ARRIVES, "--watch", "gone")], ["3", "4"])
         self.assertEqual(self.lines(ARRIVES, "--watch", "pass")[-1], "no fault changes that")
-        self.assertEqual([it[0] for it in self.heads(ARRIVES, "--watch", "apart")], ["1"])
-        self.assertEqual([it[0] for it in self.heads(ARRIVES, "--watch", "pass,4")], ["1", "2", "3", "4"])
+        self.assertEqual([head[0] for head in self.heads(ARRIVES, "--watch", "apart")], ["1"])
+        self.assertEqual([head[0] for head in self.heads(ARRIVES, "--watch", "pass,4")], ["1", "2", "3", "4"])
         self.assertEqual(self.heads(ARRIVES, "--watch", "1"), [])
         self.assertEqual(self.heads(LOST, "--watch", "pass", "--faults", "undone")[0][:9], "1  1 faul")
 
     def test_one_group_has_all_its_faults_and_the_whole_reason(self) -> None:
         lines = self.lines(ARRIVES, "--only", "2")
         head = f"2  3 faults: event 4 pass -> drop block; at the end changed on a and b (levels, class): {FLOW}"
-        self.assertEqual([it for it in lines if it[:1].isdigit()], [head])
+        self.assertEqual([line for line in lines if line[:1].isdigit()], [head])
         self.assertEqual(lines[4], "   frame 1 last (event 3); without event 2 (flush a); b restarts before event 4")
         with self.assertRaisesRegex(Unknown, "there is no group 9: they are numbered from 1 to 6"):
             self.lines(ARRIVES, "--only", "9")
@@ -442,7 +442,7 @@ class Options(Tries):
         self.assertEqual(lines[0], "main, 4 events: 9 single faults (lose, restart), two together: 36 pairs")
         dropped, waits = "event 4 pass -> drop block; at the end", "; at the end a waits for a bulk update"
         self.assertEqual(
-            [it for it in lines[:-1] if it[:1].isdigit()],
+            [line for line in lines[:-1] if line[:1].isdigit()],
             [
                 f"1  1 pair: {dropped} only on a: {FLOW}{waits}",
                 # (lost, and a restarts before event 2; or it does so, and the end of its update waits at b when that restarts)
@@ -522,7 +522,7 @@ class Options(Tries):
         self.assertTrue(found.is_interrupted)
         # Lost, twice and last are tried.
         self.assertEqual(found.lines[2], "interrupted: 3 of 22 were tried")
-        self.assertEqual([it for it in found.lines if it[:1].isdigit()][2:], ["3  1 fault: every packet and state as it was"])
+        self.assertEqual([line for line in found.lines if line[:1].isdigit()][2:], ["3  1 fault: every packet and state as it was"])
 
 
 if __name__ == "__main__":

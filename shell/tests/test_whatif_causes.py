@@ -46,7 +46,7 @@ class Held(Tries):
         still = "event 1 held and released -> still held; at the end"
         # (only frame 1 brings b the state; while it is not acknowledged, its flag says that it waits)
         self.assertEqual(
-            [it for it in lines if it[:1].isdigit()],
+            [line for line in lines if line[:1].isdigit()],
             [f"1  1 fault: {still} only on a: {FLOW}", f"2  1 fault: {still} changed on a (flags): {FLOW}"],
         )
         self.assertTrue(lines[6].startswith("     `defer` is on: the packet of a new state waits on its way out"))
@@ -92,7 +92,7 @@ class Causes(Tries):
     """Packets that could not have come."""
 
     def marks(self, events: List[str], *words: str, setup: str = DEFER) -> List[str]:
-        return [it.strip() for it in self.lines(events, *words, setup=setup) if "could not have come:" in it]
+        return [line.strip() for line in self.lines(events, *words, setup=setup) if "could not have come:" in line]
 
     def test_an_answer_to_a_packet_that_waits(self) -> None:
         # Frame 2 comes after the answer: the SYN goes, but too late for it.
@@ -201,7 +201,7 @@ class Flushing(Tries):
         events = [SYN, "flush a", "deliver 1", SYN_ACK, "flush b", "deliver 2", f"{tcp} PA 1 1 60000 400", "flush a"]
         events += ["deliver 3", f"packet b in tcp {SERVER} {CLIENT} A 1 401 60000 60000", "flush b", "deliver 4", "tick a 1", "tick a 1"]
         lines = self.lines(events, "--faults", "late", "--from", "9", "--to", "9", "--flushing")
-        self.assertTrue(any("the nodes keep answering each other; the end was not compared" in it for it in lines), lines)
+        self.assertTrue(any("the nodes keep answering each other; the end was not compared" in line for line in lines), lines)
 
     def test_a_refusal_is_explained_where_it_was(self) -> None:
         # Without the flush of a, the state is sent before the delivery; so the flush of b is as in the run.

@@ -82,7 +82,7 @@ class Shared(unittest.TestCase):
     def test_their_effects_are_the_same(self) -> None:
         for name in ("lost-bulk-frame", "split-brain", "asymmetric-routing-deferred", "syn-flood"):
             with open(f"{TOP}/examples/{name}.pfl", encoding="utf-8") as script:
-                lab = self.lab(laboratory("\n".join(it for it in script.read().splitlines() if not it.startswith("#"))))
+                lab = self.lab(laboratory("\n".join(line for line in script.read().splitlines() if not line.startswith("#"))))
             self.assertGreater(self.same_effects(lab), 5, name)
 
     def test_their_effects_are_the_same_in_random_nights(self) -> None:

@@ -89,7 +89,7 @@ class Command(Written):
     def test_an_interrupt_ends_it_with_what_was_found(self) -> None:
         flows = [QUERY.replace(":1000", f":{port}") for port in range(1000, 1050)]
         steps = [it for number, flow in enumerate(flows, 1) for it in (flow, "flush a", f"deliver {number}")]
-        script = self.file("long.pfl", "\n".join([*SETUP, *(f"step main {it}" for it in steps), ""]))
+        script = self.file("long.pfl", "\n".join([*SETUP, *(f"step main {step}" for step in steps), ""]))
         command, env = (sys.executable, f"{TOP}/lab", "whatif", script, "--pairs", "--faults", "skip"), {**os.environ, "PFL_LAB": program()}
         ours, its = pty.openpty()
         self.addCleanup(os.close, ours)

@@ -166,5 +166,5 @@ class End:
             return Change(text, before, after)
         ours, its = self.flows[keys], other.flows[keys]
         otherwise = {node: tuple(ours[node].changed(its[node])) for node in ours if ours[node][1:] != its[node][1:]}
-        what = dict.fromkeys(it for parts in otherwise.values() for it in parts)
+        what = dict.fromkeys(part for parts in otherwise.values() for part in parts)
         return Change(text, before, after, tuple(what), tuple(otherwise))

@@ -91,7 +91,7 @@ class Course:
 
     def in_flight(self, place: int) -> List[int]:
         """The frames in flight after the first events."""
-        return [it.ticket for it in self.frames.values() if it.number <= place and not 0 < it.end <= place]
+        return [frame.ticket for frame in self.frames.values() if frame.number <= place and not 0 < frame.end <= place]
 
 
 @dataclass(frozen=True)
@@ -142,7 +142,7 @@ def planned(course: Course, variant: Variant) -> List[Planned]:
 
 def _delivered(course: Course) -> Iterator[Sent]:
     """The frames that are delivered, including those in flight after the last event, which are delivered at the end."""
-    return (it for it in course.frames.values() if not it.has(LOSE))
+    return (frame for frame in course.frames.values() if not frame.has(LOSE))
 
 
 def _of_frame(kind: str, frame: Sent, what: str, *added: Tuple[Position, Planned], is_moved: bool = False) -> Fault:

@@ -21,16 +21,16 @@ Idle = List[Tuple[str, ...]]
 def idle_nodes(ask: Ask, branch: str, events: int) -> Idle:
     shown = ask([f"{PAST.word} {branch} {it}" for it in range(events + 1)])
     pairs = (read_shown([line for line in it if not line.startswith("state ")]) for it in shown)
-    return [tuple(node for node in NODES if not it.nodes[node].pending and it.nodes[node].serve == "-") for it in pairs]
+    return [tuple(node for node in NODES if not pair.nodes[node].pending and pair.nodes[node].serve == "-") for pair in pairs]
 
 
 def send(step: Step, nodes: Sequence[str]) -> bool:
     """Lets nodes send what they have, until they have nothing more and serve no bulk update; each frame arrives at once. Returns whether
     that came to an end."""
     for _ in range(MOST_ROUNDS):
-        sent = [outcome[1] for outcome in map(step, [f"{FLUSH.word} {it}" for it in nodes]) if outcome and outcome[0] == SENT.word]
+        sent = [outcome[1] for outcome in map(step, [f"{FLUSH.word} {node}" for node in nodes]) if outcome and outcome[0] == SENT.word]
         for ticket in sent:
             step(f"{DELIVER.word} {ticket}")
-        if not sent and not [it for it in nodes if step(f"{TURN.word} {it}")]:
+        if not sent and not [node for node in nodes if step(f"{TURN.word} {node}")]:
             return True
     return False

@@ -64,7 +64,7 @@ class Effect(NamedTuple):
     @property
     def possible(self) -> Tuple[Verdict, ...]:
         """The verdicts on packets that could have come."""
-        return tuple(it for it in self.verdicts if it.number not in self.impossible)
+        return tuple(verdict for verdict in self.verdicts if verdict.number not in self.impossible)
 
     @property
     def passes(self) -> bool:
@@ -77,11 +77,11 @@ class Effect(NamedTuple):
 
     @property
     def is_gone(self) -> bool:
-        return any(it.is_gone for it in self.changes)
+        return any(change.is_gone for change in self.changes)
 
     @property
     def is_apart(self) -> bool:
-        return bool(self.waits or self.trouble) or any(it.is_apart for it in self.changes)
+        return bool(self.waits or self.trouble) or any(change.is_apart for change in self.changes)
 
     @property
     def rank(self) -> int:
@@ -105,11 +105,11 @@ class Effect(NamedTuple):
 
     def without(self, numbers: FrozenSet[int]) -> "Effect":
         """The same without the packets of some events, which did not come, without those that could not have come, and without refusals."""
-        return self._replace(verdicts=tuple(it for it in self.verdicts if it.number not in numbers), hung=(), refused=())
+        return self._replace(verdicts=tuple(verdict for verdict in self.verdicts if verdict.number not in numbers), hung=(), refused=())
 
     def judges(self, number: int) -> bool:
         """Whether the packet of an event gets another verdict."""
-        return any(it.number == number for it in self.verdicts)
+        return any(verdict.number == number for verdict in self.verdicts)
 
 
 def goes_on(verdict: str) -> bool:
@@ -136,7 +136,7 @@ class Base:
     def __init__(self, course: Course, played: Played, setup: Setup):
         self.setup = setup
         self.trouble, self.fates = played.trouble, played.fates
-        self.verdicts = {it.number: verdict_of(it.came) for it in course.events if it.kind is PACKET}
+        self.verdicts = {event.number: verdict_of(event.came) for event in course.events if event.kind is PACKET}
         self._numbers = [*self.verdicts]
         self.end = End(played.shown, setup)
         self.causes = Causes(course, played.fates)
@@ -218,7 +218,7 @@ class Watch:
     def has(self, effect: Effect) -> bool:
         if not self.words and not self.numbers:
             return True
-        return any(_WATCHED[it](effect) for it in self.words) or any(map(effect.judges, self.numbers))
+        return any(_WATCHED[word](effect) for word in self.words) or any(map(effect.judges, self.numbers))
 
 
 _WATCHED: Dict[str, Callable[[Effect], bool]] = {
@@ -238,7 +238,7 @@ def union(one: Effect, two: Effect) -> Optional[Effect]:
         return None
     if any(changes[it.flow] != it for it in (*one.changes, *two.changes)):
         return None
-    changed, trouble = tuple(verdicts[it] for it in sorted(verdicts)), one.trouble or two.trouble
+    changed, trouble = tuple(verdicts[verdict] for verdict in sorted(verdicts)), one.trouble or two.trouble
     is_compared = one.is_compared and two.is_compared
     if not is_compared:
         return Effect(changed, trouble=trouble, is_compared=False)

@@ -89,12 +89,12 @@ def _verdicts(ask: Ask, branch: str, place: int, event: str, gone: Sequence[OfNo
     """What an event did to the packets that are held no more after it."""
     if not gone or event.startswith(RESTART.word):
         return [DROPPED] * len(gone)
-    freed, lost = (sum(now.counts[it][which] - before.counts[it][which] for it in NODES) for which in (0, 1))
+    freed, lost = (sum(now.counts[node][which] - before.counts[node][which] for node in NODES) for which in (0, 1))
     if not (freed and lost):
         return [RELEASED if freed else DROPPED] * len(gone)
     # A frame with both: what was acknowledged went on.
     records = [it.split() for it in ask([f"{WHY.word} {branch} {place}"])[0] if it.startswith("record ")]
-    acknowledged = {it[2] for it in records if it[-1] == "acknowledged"}
+    acknowledged = {record[2] for record in records if record[-1] == "acknowledged"}
     return [RELEASED if name in acknowledged else DROPPED for _, name in gone]
 
 

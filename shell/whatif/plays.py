@@ -85,7 +85,7 @@ class Player:
 
     def __init__(self, lab: Laboratory, branch: Branch, course: Course, flushes: bool = False):
         self.lab, self.branch, self.course = lab, branch, course
-        self.name = next(it for it in NAMES if it != branch.name)
+        self.name = next(name for name in NAMES if name != branch.name)
         self._has_variant = False
         # The lines that begin a variant, until they are asked.
         self._first: List[str] = []
@@ -129,8 +129,8 @@ class Player:
 
     def _fates_of_run(self, played: Played) -> Dict[int, Fate]:
         """What became of the held packets of the run, by the numbers of their events."""
-        held = {it.number: {self._held(it.number): it.number} for it in self.course.events if is_held(it.outcome)}
-        return self._ended([*((it.line, it.came) for it in self.course.events), *played.events], held, 0)
+        held = {event.number: {self._held(event.number): event.number} for event in self.course.events if is_held(event.outcome)}
+        return self._ended([*((event.line, event.came) for event in self.course.events), *played.events], held, 0)
 
     def _fates_of(self, played: Played) -> Dict[int, Fate]:
         """The same of a variant. What became of a packet before the variant parts from the run is the same in both."""
@@ -238,7 +238,7 @@ class Player:
         goes_on = True
         while goes_on and not played.trouble:
             is_turn = events[:1] and events[0].startswith(TURN.word)
-            events = self._followed(events, [] if is_turn else [it for it in _FLUSHES if it not in events], played)
+            events = self._followed(events, [] if is_turn else [flush for flush in _FLUSHES if flush not in events], played)
             goes_on = bool(events or is_turn)
             if not played.trouble and len(played.until_quiet) > SPARE_STEPS:
                 played.trouble = ENDLESS * (len(played.until_quiet) > self._most_steps(played, begun))

@@ -14,7 +14,7 @@ class Names:
     def __init__(self, course: Course, place: int):
         self.course, self.place = course, place
         self._tickets: Dict[int, int] = {}
-        self._next_ticket = 1 + sum(it.number <= place for it in course.frames.values())
+        self._next_ticket = 1 + sum(frame.number <= place for frame in course.frames.values())
         # Names, by node and name in the run.
         self._states: Dict[Tuple[str, str], str] = {}
 
@@ -48,7 +48,7 @@ class Names:
 
     def forget(self, steps: Sequence[Planned]) -> None:
         """Takes back what was foreseen for the newest events."""
-        sent = [it.sends for it in steps if it.sends]
+        sent = [step.sends for step in steps if step.sends]
         for ticket in sent:
             del self._tickets[ticket]
         self._next_ticket -= len(sent)

@@ -82,7 +82,7 @@ def tried(player: Player, asked: Asked, progress: Progress, why: Why) -> Tried:
 
 def _bounded(branch: str, course: Course, faults: List[Fault]) -> None:
     """Refuses what would take hours."""
-    events = sum(len(course) - it.place for it in faults)
+    events = sum(len(course) - fault.place for fault in faults)
     if events > MOST_EVENTS:
         raise Unknown(
             f"{branch} has {len(course):,} events that stand and {len(faults):,} single faults, whose runs have {events:,} events"
