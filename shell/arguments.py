@@ -133,6 +133,14 @@ def parser(name: str = "./lab", arguments: Optional[Sequence[str]] = None) -> Co
         if arguments is None or word in arguments:
             add_options(its)
 
+    _of_scripts(add, name)
+    _of_questions(add)
+    _of_firewalls(add, name)
+    return words
+
+
+def _of_scripts(add: Callable[..., None], name: str) -> None:
+    """The words for a dialogue, and for what happens in scripts."""
     add(
         "shell",
         _shell,
@@ -163,12 +171,10 @@ def parser(name: str = "./lab", arguments: Optional[Sequence[str]] = None) -> Co
         description="Writes a script as a sheet to print: its comments, its rules and its events, with room to write the outcomes that"
         " a student expects. With --replies it is the teacher's.",
     )
-    _further(add, name)
-    return words
 
 
-def _further(add: Callable[..., None], name: str) -> None:
-    """The words that ask what else might have happened, and those that read files of real firewalls."""
+def _of_questions(add: Callable[..., None]) -> None:
+    """The words that ask what else might have happened."""
     add(
         "whatif",
         _whatif,
@@ -183,6 +189,10 @@ def _further(add: Callable[..., None], name: str) -> None:
         description="Plays scripts again with each word of `kernel` and with all of them. It shows which replies change, the first of"
         " them with its reason. Status: 0 if none changes, 1 if any does, 2 if a script could not be played.",
     )
+
+
+def _of_firewalls(add: Callable[..., None], name: str) -> None:
+    """The words that read files of real firewalls, or write files like theirs."""
     add(
         "compare",
         _compare,

@@ -1,7 +1,7 @@
 """Faults that do the same: what happens at one node may change places with what happens at the other, and the pair after both is the same.
 
-pfl_search proves that of its runs (`Commuting.antt` there). Here it is asked of the events that a run accepted, so fewer kinds may change
-places: nothing with an event that makes a frame or shortens one, and no two restarts, which number the boots.
+pfl_search proves that of its runs (`Commuting.antt` there). Here an event that a fault adds at a node changes places with events that the
+run accepted. It does so with none that copies or cuts a frame, and a restart not with another one, since restarts number the boots.
 """
 from __future__ import annotations
 
