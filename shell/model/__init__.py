@@ -1,1 +1,1 @@
-"""The pair as the program shows it, read from its lines: states, frames, events and reasons; and by which rules packets and records move states."""
+"""The pair as the program shows it: states, frames, events and reasons; and by which rules packets and records move states."""

@@ -54,12 +54,6 @@ class WithTests(SmallTree):
         for name, text in (("test_passing", PASSING), ("test_mixed", MIXED), ("test_skipped", SKIPPED)):
             (folder / f"{name}.py").write_text(text)
 
-    def release(self) -> None:
-        """Makes a release, with nothing built."""
-        self.start(QUICK, "lab", "release").communicate(timeout=60)
-        for it in (self.top / "crates").glob("*/out"):
-            shutil.rmtree(it)
-
 
 class Around(WithTests):
     def around(self, *words: str) -> Tuple[int, str, str]:

@@ -29,8 +29,7 @@ class Releases(SmallTree):
 
     def setUp(self) -> None:
         super().setUp()
-        self.assertEqual(self.run_it(QUICK, "lab", "release")[0], 0)
-        self.forget()
+        self.release()
 
     def forget(self) -> None:
         """Nothing is built."""

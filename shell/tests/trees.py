@@ -1,12 +1,14 @@
 """A repository of four small crates, in which a stand-in for the checker proves and builds."""
 from __future__ import annotations
 
+import atexit
 import os
 import shutil
 import subprocess
 import sys
 import tempfile
 import unittest
+from functools import lru_cache
 from pathlib import Path
 from typing import Dict
 
@@ -26,37 +28,64 @@ if [ "$1" = run ]; then printf '#!/bin/sh\\necho ran "$@"\\n' > out/pfl_lab; chm
 """
 
 
+def planted(top: Path) -> None:
+    """Makes such a repository of an empty folder."""
+    for name in ("proving", "shell"):
+        shutil.copytree(f"{TOP}/{name}", top / name, ignore=shutil.ignore_patterns("__pycache__", "tests"))
+    for name in ("lab", "test"):
+        shutil.copy(f"{TOP}/{name}", top)
+    (top / "crates.txt").write_text(CRATES)
+    (top / "HANDLES").write_text("Handles allowed: none.\n")
+    for name in ("bin", "notes"):
+        (top / name).mkdir()
+    (top / "proving/seconds.txt").write_text(COSTS)
+    for line in CRATES.splitlines():
+        folder = top / "crates" / line.split(":")[0] / "src"
+        folder.mkdir(parents=True)
+        (folder / "lib.rt").write_text("//! Nothing.\n")
+
+
+def surroundings(top: Path, checker: str) -> Dict[str, str]:
+    """The environment of its commands, whose `rt` is this one; without text there is none."""
+    env = {name: text for name, text in os.environ.items() if name != "PFL_LAB"}
+    path = top / "bin/rt"
+    path.unlink(missing_ok=True)
+    if checker:
+        path.write_text(checker)
+        path.chmod(0o755)
+    folders = [folder for folder in env["PATH"].split(":") if not os.path.exists(f"{folder}/rt")]
+    more = {"NOTES": str(top / "notes"), "XDG_CACHE_HOME": str(top / "cache")}
+    return {**env, "PATH": ":".join([str(path.parent), *folders]), **more}
+
+
+@lru_cache(maxsize=None)
+def released() -> Path:
+    """Such a repository with a release of its own and nothing built, which is made once: that takes seconds."""
+    top = Path(tempfile.mkdtemp())
+    atexit.register(shutil.rmtree, top)
+    planted(top)
+    command = (sys.executable, str(top / "lab"), "release")
+    subprocess.run(command, cwd=top, env=surroundings(top, QUICK), stdin=subprocess.DEVNULL, capture_output=True, check=True, timeout=60)
+    for built in (top / "crates").glob("*/out"):
+        shutil.rmtree(built)
+    return top
+
+
 class SmallTree(unittest.TestCase):
     """A test over such a repository."""
 
     def setUp(self) -> None:
         self.top = Path(tempfile.mkdtemp())
         self.addCleanup(shutil.rmtree, self.top)
-        for name in ("proving", "shell"):
-            shutil.copytree(f"{TOP}/{name}", self.top / name, ignore=shutil.ignore_patterns("__pycache__", "tests"))
-        for name in ("lab", "test"):
-            shutil.copy(f"{TOP}/{name}", self.top)
-        (self.top / "crates.txt").write_text(CRATES)
-        (self.top / "HANDLES").write_text("Handles allowed: none.\n")
-        for name in ("bin", "notes"):
-            (self.top / name).mkdir()
-        (self.top / "proving/seconds.txt").write_text(COSTS)
-        for line in CRATES.splitlines():
-            folder = self.top / "crates" / line.split(":")[0] / "src"
-            folder.mkdir(parents=True)
-            (folder / "lib.rt").write_text("//! Nothing.\n")
+        planted(self.top)
+
+    def release(self) -> None:
+        """Gives it its release, with nothing built."""
+        shutil.copytree(released(), self.top, dirs_exist_ok=True)
 
     def environment(self, checker: str) -> Dict[str, str]:
         """An environment whose `rt` is this one; without text there is none."""
-        env = {it: text for it, text in os.environ.items() if it != "PFL_LAB"}
-        path = self.top / "bin/rt"
-        path.unlink(missing_ok=True)
-        if checker:
-            path.write_text(checker)
-            path.chmod(0o755)
-        folders = [it for it in env["PATH"].split(":") if not os.path.exists(f"{it}/rt")]
-        more = {"NOTES": str(self.top / "notes"), "XDG_CACHE_HOME": str(self.top / "cache")}
-        return {**env, "PATH": ":".join([str(path.parent), *folders]), **more}
+        return surroundings(self.top, checker)
 
     def start(self, checker: str, *words: str) -> "subprocess.Popen[str]":
         """Begins one of the repository's own commands."""
