@@ -99,9 +99,24 @@ class Player:
         played, names = Played(place), Names(self.course, place)
         self._begin(place)
         plan = planned(self.course, variant)
-        steps: Deque[Tuple[int, Planned]] = deque(enumerate(plan[:until]))
+        passed = self._step_all(plan[:until], played, names)
+        if until is None:
+            self._quiet(played)
+            if not variant:
+                self._fates = self._fates_of_run(played)
+            played.fates = self._fates_of(played) if variant else self._fates
+        else:
+            for step in plan[until : until + 1]:
+                self._send_before(step, passed, played, names)
+            # (the branch begins, even if no line followed)
+            self._asked([])
+        return played
+
+    def _step_all(self, plan: Sequence[Planned], played: Played, names: Names) -> int:
+        """Steps events, many together; returns how many events of the run have come."""
+        steps: Deque[Tuple[int, Planned]] = deque(enumerate(plan))
         waiting: List[_Waiting] = []
-        passed, most = place, 1 if self._idle else MOST_TOGETHER
+        passed, most = played.place, 1 if self._idle else MOST_TOGETHER
         while steps or waiting:
             if not steps or len(waiting) == most or waiting and steps[0][1].words[0] == KILL.word:
                 steps.extendleft(self._step(waiting, played, names))
@@ -116,16 +131,7 @@ class Player:
             else:
                 waiting.append(_Waiting(at, step, line))
                 names.foresee(step)
-        if until is None:
-            self._quiet(played)
-            if not variant:
-                self._fates = self._fates_of_run(played)
-            played.fates = self._fates_of(played) if variant else self._fates
-        else:
-            for step in plan[until : until + 1]:
-                self._send_before(step, passed, played, names)
-            self._asked([])
-        return played
+        return passed
 
     def _fates_of_run(self, played: Played) -> Dict[int, Fate]:
         """What became of the held packets of the run, by the numbers of their events."""
