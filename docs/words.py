@@ -64,9 +64,9 @@ def rows(word: str) -> Iterator[str]:
         return
     yield "| Word | What it does |"
     yield "|---|---|"
-    for name, word in OURS.items():
+    for name, about in OURS.items():
         more = f" ([more](#{SECTIONS[name]}))" if name in SECTIONS else ""
-        yield f"| {', '.join(f'`{form}`' for form in forms(word))} | {CLAUSE_END.split(word.what)[0]}{more} |"
+        yield f"| {', '.join(f'`{form}`' for form in forms(about))} | {CLAUSE_END.split(about.what)[0]}{more} |"
 
 
 def page(text: str) -> Tuple[str, int]:

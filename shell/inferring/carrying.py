@@ -166,5 +166,5 @@ def _address(end: str) -> str:
 
 def event(node: str, direction: str, packet: IpPacket, ends: Tuple[str, str]) -> PacketEvent:
     """A packet as it comes to a node, between these ends."""
-    of_tcp = packet.flags, packet.seq, packet.ack, packet.window, packet.scale
-    return PacketEvent(node, direction, packet.protocol, *ends, packet.length, *of_tcp)
+    numbers = packet.seq, packet.ack, packet.window
+    return PacketEvent(node, direction, packet.protocol, *ends, packet.length, packet.flags, *numbers, packet.scale)

@@ -47,8 +47,8 @@ class Replies(unittest.TestCase):
             "left": Edge(501, (4294966797,), None),
             "ack": Edge(101, (4294900362, 67136), None),
         }
-        found = reason(*lines)
-        self.assertEqual(found, OfState(Name(1, 1), edges, is_eased=True))
+        plain = reason(*lines)
+        self.assertEqual(plain, OfState(Name(1, 1), edges, is_eased=True))
         its_reset, its_loose = "reset 503 500 502 1", "loose - -"
         asked = reason(*lines, its_reset)
         self.assertEqual(asked, OfState(Name(1, 1), edges, True, Edge(503, (500, 502), 1)))
@@ -56,7 +56,7 @@ class Replies(unittest.TestCase):
         self.assertEqual(near, OfState(Name(1, 1), edges, True, Edge(503, (500, 502), 1), Loose(None, None)))
         far = reason("state 1.1", "right 501 102 399", "left 101 100 -", "loose 7 -")
         self.assertEqual(far, OfState(Name(1, 1), {"right": Edge(501, (102,), 399), "left": Edge(101, (100,), None)}, loose=Loose(7, None)))
-        found = [(one.is_inside, one.passes_loosely) for one in (found, asked, near, far) if isinstance(one, OfState)]
+        found = [(one.is_inside, one.passes_loosely) for one in (plain, asked, near, far) if isinstance(one, OfState)]
         self.assertEqual(found, [(True, False), (False, False), (False, True), (False, False)])
 
     def test_records(self) -> None:

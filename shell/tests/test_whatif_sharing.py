@@ -2,6 +2,7 @@
 from __future__ import annotations
 
 import unittest
+from functools import partial
 from typing import Dict, List, Set
 
 from ..console.colours import PLAIN
@@ -99,11 +100,8 @@ class AtOnce(unittest.TestCase):
         """The answer, by reasons that are asked at once, or later, by a replay of each first fault."""
         branch = lab.branch("main")
 
-        def why(*found: object) -> List[str]:
-            return report.why_first(*found, PLAIN)  # type: ignore[arg-type]
-
         with lab.beside(branch) as other:
-            its = tried(Player(other, branch, course_of(lab, branch)), Asked(), quiet_progress, why)
+            its = tried(Player(other, branch, course_of(lab, branch)), Asked(), quiet_progress, partial(report.why_first, PLAIN))
             groups = report.shown_groups(its)
             for _, group in groups:
                 self.assertIsNotNone(group.reason)

@@ -2,6 +2,7 @@
 from __future__ import annotations
 
 import time
+from functools import partial
 from typing import IO, Callable, List, NamedTuple, Optional
 
 from ..console.colours import Paint
@@ -33,7 +34,7 @@ def answer(lab: Laboratory, branch: Branch, asked: Asked, paint: Paint, progress
     course, taken = course_of(lab, branch), lab.names()
     with lab.beside(branch) as other:
         player = Player(other, branch, course, asked.flushing)
-        trial = tried(player, asked, progress, lambda *found: why_first(*found, paint))
+        trial = tried(player, asked, progress, partial(why_first, paint))
         groups = shown_groups(trial)
         others = NOTHING if trial.is_interrupted else otherwise(lab, branch, trial, groups)
         lines = report(trial, groups, paint, others.groups)

@@ -88,7 +88,7 @@ def _group(trial: Tried, number: int, group: Group, other: str, paint: Paint) ->
     lines += [f"   {paint.note(_hung(hung))}" for hung in group.effect.hung]
     lines += [f"   {paint.note(other)}"] * bool(other)
     if group.reason is None:
-        group.reason = why_first(trial, group.variants[0], group.effect, trial.player.play(group.variants[0]), paint)
+        group.reason = why_first(paint, trial, group.variants[0], group.effect, trial.player.play(group.variants[0]))
     return lines + [f"   {line}" for line in group.reason]
 
 
@@ -181,7 +181,7 @@ def _row(place: int, variant: Variant) -> Tuple[str, int]:
 # ---- the first fault of a group
 
 
-def why_first(trial: Tried, variant: Variant, effect: Effect, played: Played, paint: Paint) -> List[str]:
+def why_first(paint: Paint, trial: Tried, variant: Variant, effect: Effect, played: Played) -> List[str]:
     """Why the first fault of a group, which was just played, changes what it does, and which events it causes to be refused."""
     if effect.is_nothing:
         return []
@@ -221,7 +221,8 @@ def _reason(trial: Tried, place: int, paint: Paint, about: str = "") -> List[str
     event, lines = question.explanation.event, reasons(question)
     those = [line for line in lines if about and about in line]
     if not trial.asked.only:
-        lines = those or lines[:1] + (explain_absence(question)[:1] if isinstance(question.reason, Judged) else [])
+        absence = explain_absence(question)[:1] if isinstance(question.reason, Judged) else []
+        lines = those or [*lines[:1], *absence]
     return [paint.head(f"{event.line}: {event.came}"), *(f"  {line}" for line in lines)]
 
 
