@@ -32,6 +32,12 @@ class Unset(unittest.TestCase):
         pass
     test_two = test_one
 """
+DYING = """import os, unittest
+class Small(unittest.TestCase):
+    def test_one(self):
+        os._exit(3)
+    test_two = test_one
+"""
 SKIPPED = """import unittest
 def setUpModule():
     raise unittest.SkipTest("there is no fox")
@@ -49,7 +55,7 @@ class WithTests(SmallTree):
         super().setUp()
         folder = self.top / "shell/tests"
         folder.mkdir()
-        for name in ("__init__.py", "__main__.py"):
+        for name in ("__init__.py", "__main__.py", "running.py"):
             shutil.copy(f"{TOP}/shell/tests/{name}", folder)
         for name, text in (("test_passing", PASSING), ("test_mixed", MIXED), ("test_skipped", SKIPPED)):
             (folder / f"{name}.py").write_text(text)
@@ -79,6 +85,13 @@ class Around(WithTests):
         self.release()
         status, out, _ = self.around()
         self.assertEqual((status, out), (1, "test: 3 tests were skipped: there is no fox\n2 passed, 3 failed, 3 skipped\n"))
+
+    def test_a_module_that_ends_its_process_has_failed_and_the_others_run(self) -> None:
+        self.release()
+        (self.top / "shell/tests/test_dying.py").write_text(DYING)
+        status, out, said = self.around("test_dying", "test_passing")
+        self.assertEqual((status, out), (1, "1 passed, 1 failed\n"))
+        self.assertIn("test: shell.tests.test_dying ended before its tests did\n", said)
 
     def test_a_module_that_is_not_there_is_named(self) -> None:
         said = "test: there is no module test_pasing of tests (did you mean `test_passing`?)\n"
