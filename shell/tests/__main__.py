@@ -37,7 +37,7 @@ def came_of(names: Sequence[str]) -> Came:
     if len(names) == 1:
         return run(names[0], sys.stderr)
     begun = time.monotonic()
-    came = Workers(names, len(os.sched_getaffinity(0))).run()
+    came = Workers().run(names, len(os.sched_getaffinity(0)))
     print(f"Ran {came.many} tests in {time.monotonic() - begun:.0f} s", file=sys.stderr)
     return came
 

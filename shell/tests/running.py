@@ -24,6 +24,8 @@ FIRST = (
     *("test_releases", "test_bridge_followed", "test_bridge", "test_building", "test_around", "test_seats", "test_shell", "test_notes"),
     *("test_charts_sheets", "test_import_translated_meaning", "test_inferring_nights", "test_installing", "test_dumps_read"),
 )
+# The modules that say how fast something is: they run after all others, one after another.
+ALONE = ("test_capture_speed", "test_page_size")
 # What unittest reports of a module or a class that was not set up.
 _NOT_SET_UP = re.compile(r"\w+(?:Module|Class) \((?P<its>.*)\)")
 
@@ -97,6 +99,11 @@ def run(name: str, out: TextIO) -> Came:
 # ---- in several processes
 
 
+def _module(name: str) -> str:
+    """The module of a test's name."""
+    return next(part for part in name.split(".") if part.startswith("test_"))
+
+
 def take() -> None:
     """Runs the tests whose names come on standard input, and answers each with what came of them, as a line of JSON."""
     with os.fdopen(os.dup(0), encoding="utf-8") as given, os.fdopen(os.dup(1), "w", encoding="utf-8") as answers:
@@ -113,25 +120,32 @@ def take() -> None:
 class Workers:
     """Processes that run tests side by side."""
 
-    def __init__(self, names: Sequence[str], many: int):
-        long = {name: at for at, name in enumerate(FIRST)}
-        self._names: Deque[str] = deque(sorted(names, key=lambda name: long.get(name.rpartition(".")[2], len(long))))
+    def __init__(self) -> None:
+        self._names: Deque[str] = deque()
         self._processes: List["subprocess.Popen[str]"] = []
-        self._threads = [threading.Thread(target=self._work, daemon=True) for _ in range(min(many, len(names)))]
         self._lock = threading.Lock()
         self.came = Came()
 
-    def run(self) -> Came:
-        """What came of all tests. Each report of tests that failed is printed when it comes."""
+    def run(self, names: Sequence[str], many: int) -> Came:
+        """What came of tests, in this many processes. Each report of tests that failed is printed when it comes."""
+        long = {name: at for at, name in enumerate(FIRST)}
+        alone = [name for name in names if _module(name) in ALONE]
+        others = sorted({*names} - {*alone}, key=lambda name: (long.get(_module(name), len(long)), name))
         try:
-            for thread in self._threads:
-                thread.start()
-            for thread in self._threads:
-                thread.join()
+            self._run(others, many)
+            self._run(alone, 1)
         finally:
             for process in self._processes:
                 process.kill()
         return self.came
+
+    def _run(self, names: Sequence[str], many: int) -> None:
+        self._names.extend(names)
+        threads = [threading.Thread(target=self._work, daemon=True) for _ in range(min(many, len(names)))]
+        for thread in threads:
+            thread.start()
+        for thread in threads:
+            thread.join()
 
     def _work(self) -> None:
         """Has a process run one module after another; a process that ends before its tests is followed by another one."""
