@@ -2,12 +2,16 @@
 from __future__ import annotations
 
 from dataclasses import dataclass, field, replace
+from functools import lru_cache
 from typing import List, Optional, Sequence
 
 from ..language.events import CUT, DELIVER, LOSE, REPEAT, TAKEN
 from .branches import Happened
 from .frames import Frame, Record
 from .pair import other
+
+# How many lines of records are kept as read: runs that are compared have most of their frames in common.
+_KEPT_LINES = 1 << 13
 
 
 @dataclass
@@ -62,10 +66,16 @@ class Flight:
         return self.ended is not None and self.ended.outcome[0] == TAKEN.word
 
 
+@lru_cache(maxsize=_KEPT_LINES)
+def _record_of(line: str) -> Record:
+    """The record of a line."""
+    return Record.read(line.split()[1:])
+
+
 def read_flight(reply: Sequence[str]) -> Flight:
     """The frame that a reply shows."""
     _, event, came, frame, *lines, _ = reply
-    records = tuple(Record.read(line.split()[1:]) for line in lines if line.startswith("record "))
+    records = tuple(_record_of(line) for line in lines if line.startswith("record "))
     steps = [line for line in lines if line.startswith(("event ", "outcome "))]
     later = [Happened.read(*two) for two in zip(steps[::2], steps[1::2])]
     return Flight(replace(Frame.read(frame.split()[1:]), records=records), Happened.read(event, came), later)

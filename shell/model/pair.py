@@ -2,12 +2,16 @@
 from __future__ import annotations
 
 from dataclasses import dataclass, field
-from typing import Callable, Dict, List, Optional, Sequence
+from functools import lru_cache
+from typing import Callable, Dict, List, Optional, Sequence, Tuple
 
 from ..language.names import COUNTERS, Name
 from ..language.packets import PacketEvent
 from .frames import Frame
 from .states import State
+
+# How many lines of states are kept as read: pairs that are shown one after another have most of them in common.
+_KEPT_LINES = 1 << 13
 
 
 class NotShown(ValueError):
@@ -103,10 +107,13 @@ class Pair:
     def b(self) -> Node:
         return self.nodes["b"]
 
-    def line(self, words: List[str]) -> None:
+    def line(self, line: str) -> None:
         """Takes one line of what is shown."""
-        kind, rest = words[0], words[1:]
-        if kind == "node":
+        kind, *rest = line.split()
+        if kind == "state":
+            node, state = _state_of(line)
+            self.nodes[node].states[state.name] = state
+        elif kind == "node":
             self.nodes[rest[0]] = Node.read(rest)
         elif kind == "link":
             self.next_ticket, self.next_boot = int(rest[1]), int(rest[3])
@@ -121,20 +128,21 @@ def _take_counts(node: Node, words: List[str]) -> None:
     node.counters = dict(zip((counter.name for counter in COUNTERS), map(int, words)))
 
 
-def _take_state(node: Node, words: List[str]) -> None:
-    state = State.read(words)
-    node.states[state.name] = state
-
-
 _OF_NODE: Dict[str, Callable[[Node, List[str]], None]] = {
     "count": _take_counts,
-    "state": _take_state,
     "queue": lambda node, it: node.queue.append(Queued(it[0], int(it[1]), Name.read(it[2]))),
     "ask": lambda node, it: node.asks.append(Name.read(it[0])),
     "bus": lambda node, it: node.statuses.append(int(it[0])),
     "clr": lambda node, it: node.clears.append(Cleared(int(it[0]), int(it[1]))),
     "held": lambda node, it: node.held.append(Held.read(it)),
 }
+
+
+@lru_cache(maxsize=_KEPT_LINES)
+def _state_of(line: str) -> Tuple[str, State]:
+    """The node and the state of a line."""
+    _, node, *words = line.split()
+    return node, State.read(words)
 
 
 def read_shown(lines: Sequence[str]) -> Pair:
@@ -145,7 +153,7 @@ def read_shown(lines: Sequence[str]) -> Pair:
             raise NotShown("\n".join(lines[:1]))
         pair = Pair(head[1], int(head[3]), int(head[5]))
         for line in lines[1:-1]:
-            pair.line(line.split())
+            pair.line(line)
         return pair
     except (IndexError, KeyError, ValueError) as error:
         raise NotShown("\n".join(lines[:1])) from error

@@ -50,7 +50,7 @@ class Eye:
         head, before = shown[0].split(), self.pair
         self.pair = Pair(head[1], int(head[3]), int(head[5]))
         for line in few:
-            self.pair.line(line.split())
+            self.pair.line(line)
         changed = self._changed(before, many)
         for node in self.pair.nodes.values():
             node.queue = list(self.queued[node.id].values())
