@@ -1,12 +1,11 @@
 //! The desk on which an event changes a node: the parts of the node, and what was recorded since the event began. Each place by
 //! itself (places), what is asked of or sent to the peer beside the queues of names (lists), the small changes that events are made of
-//! (changes), what a frame takes out (taking), and what ends an event (ending). What is read of the node stands in readers.
+//! (changes), what a frame takes out (taking), and what ends an event (ending). What is read of the node is read of its parts.
 
 mod changes;
 mod ending;
 mod lists;
 pub(crate) mod places;
-mod readers;
 mod taking;
 
 ghost use Rattle.std.specs.Prelude.{◌≡◌, ◌≤◌, false, IfOk, []};
@@ -87,6 +86,13 @@ impl<A: Allocator + Copy> Desk<A> {
 }
 
 impl<A: Allocator> Desk<A> {
+    /// The parts of the node, to be read.
+    pub fn parts(&self) -> &Parts<A>
+        ensures parts { result.now ≡ self.now.node }
+    {
+        &self.parts
+    }
+
     /// States for proofs what is true of each desk. It does nothing.
     pub fn known(&self)
         ensures parts { AreParts self.now.node }

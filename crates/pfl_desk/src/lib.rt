@@ -12,6 +12,7 @@ pub use counters::Counters;
 pub use desk::Desk;
 pub use edit::{Counter, MotionEdit, NodeEdit, StateEdit};
 pub use laws::new_nodes_are_nodes;
+pub use parts::Parts;
 pub use parts::judge::{Overfull, judged};
 pub use pfl_defer::Deferrals;
 pub use pfl_queue::{Entry, Kind, Pending, QueueEdit};

@@ -1,6 +1,6 @@
 //! The parts of a node, which an event changes one by one and which return what changed as an edit: each place by itself (places), what
 //! is asked of or sent to the peer beside the queues of names (lists), and what a frame takes out (taking). What an event is judged by
-//! stands in judge, what takes an edit back or redoes it in undo, and what is read of the parts in readers.
+//! stands in judge, what takes an edit back or redoes it in undo, and what is read of a node in readers.
 
 pub(crate) mod judge;
 mod lists;
@@ -134,7 +134,7 @@ impl<A: Allocator + Copy> Parts<A> {
 
 impl<A: Allocator> Parts<A> {
     /// States for proofs what is true of the parts of each node. It does nothing.
-    pub(crate) fn known(&self)
+    pub fn known(&self)
         ensures parts { AreParts self.now }
     {
         let _clock = &self.clock;

@@ -5,7 +5,7 @@ ghost use Rattle.pfl_lines.specs.Faults.{fault_number};
 
 use pfl_base::BadPacket;
 
-/// Why a line says nothing: the first of these that applies.
+/// Why a line says nothing. The first two are looked for first; then the words are read from the left, and the first fault counts.
 #[derive(Clone, Copy, Debug, PartialEq, Eq)]
 pub enum LineFault {
     /// The line has more than 512 bytes.

@@ -81,7 +81,7 @@ impl<A: Allocator + Copy> Node<A> {
         ensures { NodeGives deleted_edits (killing.kill_refusal self.old name) (killing.killed self.old name)
             (λ state. maps.get self.old.states name ≡ Some state) result self.old self.new }
     {
-        let Some(state) = self.states().by_name(name).copied() else {
+        let Some(state) = self.parts().states().by_name(name).copied() else {
             return Err(Refusal::NoSuchState);
         };
         let (_, edits) = self.step(&NodeEvent::Kill { name })?;

@@ -11,7 +11,7 @@ ghost use Rattle.pfl_receive.specs.desk.Drafts.{Writes};
 ghost use Rattle.pfl_receive.specs.desk.Nodes.{Node as Whole, is_overfull};
 
 use pfl_base::{Refusal, StateName};
-use pfl_receive::{Desk, Overfull};
+use pfl_receive::{Desk, Overfull, Parts};
 use std::alloc::Allocator;
 
 /// Gives up all states without announcing each, has the peer clear them by their last id, and returns how many there were.
@@ -31,9 +31,10 @@ fn give_up_all<A: Allocator>(desk: &mut Desk<A>) -> Result<usize, Overfull>
     ensures count { IfOk result (λ count. count ≡ maps.len desk.old.node.states) }
     ensures writes { Writes (4 * maps.len desk.old.node.states + 2) desk.old desk.new }
 {
-    let count = desk.states().len();
-    let creator = desk.creator();
-    let last = desk.next_id().saturating_sub(1);
+    let parts = desk.parts();
+    let count = parts.states().len();
+    let creator = parts.creator();
+    let last = parts.next_id().saturating_sub(1);
     forget_all(desk);
     desk.announce_clear(creator, last)?;
     Ok(count)
@@ -45,15 +46,15 @@ fn forget_all<A: Allocator>(desk: &mut Desk<A>)
     ensures node { desk.new.node ≡ fold forgotten desk.old.node (maps.keys desk.old.node.states) }
     ensures writes { Writes (4 * maps.len desk.old.node.states) desk.old desk.new }
 {
-    while let Some(name) = first_name(desk) {
+    while let Some(name) = first_name(desk.parts()) {
         desk.forget(name);
     }
 }
 
 /// The least name of a state.
-fn first_name<A: Allocator>(desk: &Desk<A>) -> Option<StateName>
-    ensures first { result ≡ slice_get (maps.keys desk.now.node.states) 0 }
+fn first_name<A: Allocator>(parts: &Parts<A>) -> Option<StateName>
+    ensures first { result ≡ slice_get (maps.keys parts.now.states) 0 }
 {
-    let row = desk.states().iter().next()?;
+    let row = parts.states().iter().next()?;
     Some(row.state.name())
 }

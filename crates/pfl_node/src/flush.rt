@@ -42,7 +42,7 @@ impl<A: Allocator> Node<A> {
     pub fn send_refusal(&self) -> Option<Refusal>
         ensures refusal { result ≡ flushing.send_refusal self.now }
     {
-        if self.desk.queue().is_empty() {
+        if self.parts().queue().is_empty() {
             return Some(Refusal::NothingPending);
         }
         None
@@ -57,7 +57,7 @@ fn send_next<A: Allocator + Copy>(desk: &mut Desk<A>, alloc: A) -> Result<Vec<u8
     ensures fits { IfOk result (λ bytes. length bytes.items ≤ desk.old.node.limits.mtu) }
     ensures carries { OnOk result (0 < length (next_frame desk.old.node.queue desk.old.node.limits.mtu)) }
 {
-    if desk.queue().is_empty() {
+    if desk.parts().queue().is_empty() {
         return Err(Refusal::NothingPending);
     }
     send(desk, alloc)
@@ -96,7 +96,7 @@ fn frame_taken<A: Allocator + Copy>(
     ensures writes { Writes (length (next_frame desk.old.node.queue desk.old.node.limits.mtu)) desk.old desk.new }
 {
     let entries = desk.take_entries()?;
-    let bytes = bytes_of(desk, alloc, &entries)?;
+    let bytes = bytes_of(desk.parts(), alloc, &entries)?;
     Ok((bytes, entries))
 }
 

@@ -14,7 +14,7 @@ pub(crate) fn kill<A: Allocator>(desk: &mut Desk<A>, name: StateName) -> Result<
     requires idle { IsIdle desk.old }
     ensures { Carries deleted_edits (kill_meaning desk.old.node name) (λ _. outcome.Killed) result desk.old desk.new }
 {
-    let Some(state) = desk.states().by_name(name).copied() else {
+    let Some(state) = desk.parts().states().by_name(name).copied() else {
         return Err(Refusal::NoSuchState);
     };
     let tried = desk.delete(Slot::UNKNOWN, &state);

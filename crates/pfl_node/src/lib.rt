@@ -21,4 +21,4 @@ mod turn;
 pub use laws::{one_state_per_key, records_leave_the_rest};
 pub use node::Node;
 pub use pfl_bulk::BulkClient;
-pub use pfl_receive::{Counter, Counters, MotionEdit, NodeEdit, QueueEdit};
+pub use pfl_receive::{Counter, Counters, MotionEdit, NodeEdit, Parts, QueueEdit};

@@ -9,7 +9,7 @@ ghost use Rattle.pfl_receive.specs.desk.Nodes.{Node as Whole};
 use crate::node::Node;
 use pfl_base::Refusal;
 use pfl_edits::{Change, OfPart, Recorder};
-use pfl_receive::{Desk, NodeEdit, take_record};
+use pfl_receive::{Desk, NodeEdit, Parts, take_record};
 use pfl_wire::Message;
 use std::alloc::Allocator;
 
@@ -59,14 +59,14 @@ fn take_one<A: Allocator>(
     ensures { Does (delivering.message_edits desk.old.node message.now) (delivering.message_refusal desk.old.node message.now print.now)
         (delivering.message_taken desk.old.node message.now print.now) Any result desk.old desk.new }
 {
-    let same_rules = has_print(desk, print);
+    let same_rules = has_print(desk.parts(), print);
     let tried = take_record(desk, message, same_rules);
     desk.judge(tried)
 }
 
 /// Whether the node's rules have the checksum.
-fn has_print<A: Allocator>(desk: &Desk<A>, print: &[u8; 16]) -> bool
-    ensures same { result ≡ delivering.has_print desk.now.node print.now }
+fn has_print<A: Allocator>(parts: &Parts<A>, print: &[u8; 16]) -> bool
+    ensures same { result ≡ delivering.has_print parts.now print.now }
 {
-    *print == desk.rules().print()
+    *print == parts.rules().print()
 }

@@ -1,7 +1,5 @@
 //! The node.
 
-mod readers;
-
 ghost use Rattle.std.specs.Prelude.{◌≡◌, IfOk};
 ghost use Rattle.pfl_language.specs.Limits.{AreLimits};
 ghost use Rattle.pfl_node.specs.inner.Room.{most_edits as most};
@@ -10,7 +8,7 @@ ghost use Rattle.pfl_receive.specs.desk.Nodes.{Node as Whole, IsNode, new_node};
 
 use pfl_edits::{NoMemory, Reversible};
 use pfl_language::Limits;
-use pfl_receive::{Desk, NodeEdit};
+use pfl_receive::{Desk, NodeEdit, Parts};
 use pfl_rules::RuleSet;
 use std::alloc::Allocator;
 use std::marker::Model;
@@ -72,7 +70,7 @@ impl<A: Allocator + Copy> Node<A> {
     pub fn copy(&self) -> Result<Self, NoMemory>
         ensures same { IfOk result (λ copied. copied ≡ self.now) }
     {
-        let room = most_edits(&self.desk.limits());
+        let room = most_edits(&self.parts().limits());
         let desk = self.desk.copy(self.alloc, room)?;
         Ok(Node {
             alloc: self.alloc,
@@ -82,6 +80,13 @@ impl<A: Allocator + Copy> Node<A> {
 }
 
 impl<A: Allocator> Node<A> {
+    /// What is read of it.
+    pub fn parts(&self) -> &Parts<A>
+        ensures parts { result.now ≡ self.now }
+    {
+        self.desk.parts()
+    }
+
     /// States for proofs what is true of each node. It does nothing.
     pub fn known(&self)
         ensures node { IsNode self.now }

@@ -46,7 +46,7 @@ fn handle<A: Allocator>(
     requires room { 14 ≤ desk.old.edits.spare }
     ensures done { Handles result desk.old desk.new (handled desk.old.node dir packet.now) (packet_points desk.old.node dir packet.now) }
 {
-    let Some((slot, state)) = desk.states().find(&key(packet, dir), dir) else {
+    let Some((slot, state)) = desk.parts().states().find(&key(packet, dir), dir) else {
         let fate = judge(desk, dir, packet)?;
         return Ok((fate, desk.is_overcounted()));
     };
@@ -71,7 +71,8 @@ fn follow<A: Allocator>(
         ((followed desk.old.node dir packet.now state.now (tracked_at desk.old.node state.now packet.now dir)).node
         ∷ on_the_way desk.old.node state.now (tracked_at desk.old.node state.now packet.now dir)) }
 {
-    match track_by(desk.kernel(), state, packet, dir, desk.clock()) {
+    let parts = desk.parts();
+    match track_by(parts.kernel(), state, packet, dir, parts.clock()) {
         Tracked::Moved(state) => {
             let fate = accept(desk, slot, state)?;
             Ok((fate, desk.is_overcounted()))

@@ -10,7 +10,7 @@ ghost use Rattle.pfl_receive.specs.desk.inner.Judging.{Went};
 ghost use Rattle.pfl_receive.specs.desk.Nodes.{Node as Whole, AreParts};
 
 use pfl_base::Refusal;
-use pfl_receive::{Desk, Overfull, Slot, judged};
+use pfl_receive::{Desk, Overfull, Parts, Slot, judged};
 use pfl_rules::scaled;
 use pfl_track::State;
 use std::alloc::Allocator;
@@ -34,11 +34,11 @@ fn delete_expired<A: Allocator>(desk: &mut Desk<A>) -> Result<(usize, bool), Ove
     ensures count { IfOk result (λ r. r.0 ≡ length (purging.expired_states desk.old.node)) }
     ensures writes { Writes (5 * length (purging.expired_states desk.old.node)) desk.old desk.new }
 {
-    let states = desk.states().len();
+    let states = desk.parts().states().len();
     let mut count = 0;
     let mut overcounted = false;
     desk.order_expiries(states);
-    while let Some(state) = first_expired(desk, states) {
+    while let Some(state) = first_expired(desk.parts(), states) {
         desk.delete(Slot::UNKNOWN, &state)?;
         overcounted |= desk.is_overcounted();
         count += 1;
@@ -48,15 +48,15 @@ fn delete_expired<A: Allocator>(desk: &mut Desk<A>) -> Result<(usize, bool), Ove
 }
 
 /// Of the states that have expired by the timeouts of this many states, the first to expire.
-fn first_expired<A: Allocator>(desk: &Desk<A>, states: usize) -> Option<State>
-    ensures first { result ≡ slice_get (purging.expired_among states desk.now.node) 0 }
-    ensures parts { AreParts desk.now.node }
+fn first_expired<A: Allocator>(parts: &Parts<A>, states: usize) -> Option<State>
+    ensures first { result ≡ slice_get (purging.expired_among states parts.now) 0 }
+    ensures parts { AreParts parts.now }
 {
-    let table = desk.states();
-    let adaptive = desk.limits().adaptive();
+    let table = parts.states();
+    let adaptive = parts.limits().adaptive();
     let row = table.first_expiring(adaptive, states)?;
     let timeout = scaled(row.timeout, adaptive, states);
-    if row.state.expired(timeout, desk.clock()) {
+    if row.state.expired(timeout, parts.clock()) {
         Some(row.state)
     } else {
         None

@@ -11,7 +11,7 @@ ghost use Rattle.pfl_receive.specs.desk.inner.Judging.{judged_as};
 ghost use Rattle.pfl_receive.specs.desk.Nodes.{Node as Whole, AreParts, is_overcounted, refused_by};
 
 use pfl_base::{Refusal, StateName};
-use pfl_receive::Desk;
+use pfl_receive::{Desk, Parts};
 use std::alloc::Allocator;
 
 /// Lets the packets go out that are held for long enough, the oldest first, and returns how many. Their states wait no more.
@@ -19,7 +19,7 @@ pub(crate) fn release<A: Allocator>(desk: &mut Desk<A>) -> Result<usize, Refusal
     requires idle { IsIdle desk.old }
     ensures { Carries (releasing.release_edits desk.old.node) (releasing.release_meaning desk.old.node) outcome.Released result desk.old desk.new }
 {
-    if desk.held().is_empty() {
+    if desk.parts().held().is_empty() {
         return Err(Refusal::NothingPending);
     }
     let count = release_due(desk);
@@ -35,7 +35,7 @@ fn release_due<A: Allocator>(desk: &mut Desk<A>) -> usize
     ensures writes { Writes (3 * length (releasing.due_names desk.old.node)) desk.old desk.new }
 {
     let mut count = 0;
-    while let Some(name) = first_due(desk) {
+    while let Some(name) = first_due(desk.parts()) {
         desk.release(name);
         count += 1;
     }
@@ -43,12 +43,12 @@ fn release_due<A: Allocator>(desk: &mut Desk<A>) -> usize
 }
 
 /// Of the packets whose time has come, the name of the oldest.
-fn first_due<A: Allocator>(desk: &Desk<A>) -> Option<StateName>
-    ensures first { result ≡ slice_get (releasing.due_names desk.now.node) 0 }
-    ensures parts { AreParts desk.now.node }
+fn first_due<A: Allocator>(parts: &Parts<A>) -> Option<StateName>
+    ensures first { result ≡ slice_get (releasing.due_names parts.now) 0 }
+    ensures parts { AreParts parts.now }
 {
-    let wait = u64::from(desk.limits().defer_ms);
-    let held = desk.held().due(desk.clock(), wait).first()?;
+    let wait = u64::from(parts.limits().defer_ms);
+    let held = parts.held().due(parts.clock(), wait).first()?;
     Some(held.name)
 }
 

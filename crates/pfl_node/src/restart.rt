@@ -20,11 +20,12 @@ impl<A: Allocator + Copy> Node<A> {
     pub fn restart(&self, boot: u32) -> Result<Self, NoMemory>
         ensures restarted { IfOk result (λ n. n ≡ event.restarted self.now boot) }
     {
-        let limits = self.desk.limits();
-        let rules = self.desk.rules().copy()?;
+        let parts = self.parts();
+        let limits = parts.limits();
+        let rules = parts.rules().copy()?;
         let room = most_edits(&limits);
         let mut desk = Desk::new(self.alloc, limits, rules, boot, 1, room)?;
-        ask_first(&mut desk, self.clock());
+        ask_first(&mut desk, parts.clock());
         desk.give_up_edits();
         Ok(Node {
             alloc: self.alloc,

@@ -20,8 +20,9 @@ pub(crate) fn retry<A: Allocator>(desk: &mut Desk<A>) -> Result<Retried, Refusal
     requires idle { IsIdle desk.old }
     ensures { Carries retried_edits (retrying.retry_meaning desk.old.node) outcome.Tried result desk.old desk.new }
 {
-    let wait = u64::from(desk.limits().bulk_ms);
-    let retry = desk.client().retry(wait, desk.clock())?;
+    let parts = desk.parts();
+    let wait = u64::from(parts.limits().bulk_ms);
+    let retry = parts.client().retry(wait, parts.clock())?;
     let tried = ask_again(desk, retry);
     desk.judge(tried)
 }

@@ -14,7 +14,7 @@ pub(crate) fn tick<A: Allocator>(desk: &mut Desk<A>, ms: Millis) -> Result<Milli
     requires idle { IsIdle desk.old }
     ensures { Carries ticked_edits (tick_meaning desk.old.node ms) outcome.Clock result desk.old desk.new }
 {
-    let now = desk.clock();
+    let now = desk.parts().clock();
     if LAST_MILLISECOND - now < ms {
         return Err(Refusal::ClockFull);
     }

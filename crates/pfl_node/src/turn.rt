@@ -13,7 +13,7 @@ ghost use Rattle.pfl_receive.specs.queue.declared.Kind.TheVariants as kind;
 
 use pfl_base::{Millis, Refusal, StateName};
 use pfl_bulk::BulkServer;
-use pfl_receive::{Desk, Kind, Overfull};
+use pfl_receive::{Desk, Kind, Overfull, Parts};
 use pfl_track::State;
 use pfl_wire::BulkStatus;
 use std::alloc::Allocator;
@@ -27,7 +27,7 @@ pub(crate) fn turn<A: Allocator>(desk: &mut Desk<A>) -> Result<usize, Refusal>
     requires idle { IsIdle desk.old }
     ensures { Carries (turning.turn_edits desk.old.node) (turning.turn_meaning desk.old.node) outcome.Queued result desk.old desk.new }
 {
-    if !desk.server().is_serving() {
+    if !desk.parts().server().is_serving() {
         return Err(Refusal::NotSyncing);
     }
     let tried = queue_next(desk);
@@ -43,10 +43,11 @@ fn queue_next<A: Allocator>(desk: &mut Desk<A>) -> Result<usize, Overfull>
     ensures count { IfOk result (λ count. count ≡ length (turning.turn_of desk.old.node)) }
     ensures writes { Writes (length (turning.turn_of desk.old.node) + 3) desk.old desk.new }
 {
-    let batch = desk.limits().batch as usize;
+    let parts = desk.parts();
+    let batch = parts.limits().batch as usize;
     let mut names = [StateName::NONE; MOST_NAMES];
-    let count = next_names(desk, batch + 1, &mut names);
-    let turn = desk.server().turn(&names[..count], batch);
+    let count = next_names(parts, batch + 1, &mut names);
+    let turn = parts.server().turn(&names[..count], batch);
     queue_all(desk, turn.names)?;
     announce_end(desk, turn.is_last)?;
     desk.set_server(turn.server);
@@ -55,23 +56,23 @@ fn queue_next<A: Allocator>(desk: &mut Desk<A>) -> Result<usize, Overfull>
 
 /// Of the names that the server may send, the first after its cursor, at most this many: they are written to the front of `names`,
 /// and counted.
-fn next_names<A: Allocator>(desk: &Desk<A>, most: usize, names: &mut [StateName]) -> usize
-    requires parts { AreParts desk.now.node }
+fn next_names<A: Allocator>(parts: &Parts<A>, most: usize, names: &mut [StateName]) -> usize
+    requires parts { AreParts parts.now }
     requires room { most ≤ length names.old }
     ensures few { result ≤ length names.new }
-    ensures names { take result names.new ≡ first_names desk.now.node.server (turning.eligible_names desk.now.node desk.now.node.server) most }
+    ensures names { take result names.new ≡ first_names parts.now.server (turning.eligible_names parts.now parts.now.server) most }
 {
-    let BulkServer::Serving { cursor, since } = desk.server() else {
+    let BulkServer::Serving { cursor, since } = parts.server() else {
         return 0;
     };
     let mut at = cursor;
     let mut count = 0;
     while count < most {
-        let Some(row) = desk.states().after(at) else {
+        let Some(row) = parts.states().after(at) else {
             return count;
         };
         at = row.state.name();
-        if is_eligible(desk, &row.state, since) {
+        if is_eligible(parts, &row.state, since) {
             names[count] = at;
             count += 1;
         }
@@ -80,14 +81,14 @@ fn next_names<A: Allocator>(desk: &Desk<A>, most: usize, names: &mut [StateName]
 }
 
 /// The state may be sent in a bulk update that runs since then.
-fn is_eligible<A: Allocator>(desk: &Desk<A>, state: &State, since: Millis) -> bool
-    ensures eligible { result ≡ turning.is_eligible desk.now.node since state.now }
+fn is_eligible<A: Allocator>(parts: &Parts<A>, state: &State, since: Millis) -> bool
+    ensures eligible { result ≡ turning.is_eligible parts.now since state.now }
 {
     let settled = match state.peer_change() {
         Some(time) => time <= since,
         None => true,
     };
-    desk.queue().kind_of(state.name()).is_none() && !state.no_sync() && settled
+    parts.queue().kind_of(state.name()).is_none() && !state.no_sync() && settled
 }
 
 /// Puts all these names on the queue of updates.

@@ -1,5 +1,6 @@
 pub mod Revisions
 pub mod Seats
+pub mod Texts
 pub mod Views
 pub mod Rule
 pub mod Steps

@@ -22,6 +22,11 @@ pub struct Overtaken {
 }
 
 impl fmt::Display for Overtaken {
+    ghost use Rattle.std.specs.Prelude.{Some};
+    ghost use Rattle.pfl_publish.specs.Texts.{overtaken_text};
+
+    ghost output = { λ overtaken. Some (overtaken_text overtaken.at overtaken.now) };
+
     fn fmt<W: fmt::Write>(&self, f: &mut fmt::Formatter<W>) -> fmt::Result {
         write!(
             f,

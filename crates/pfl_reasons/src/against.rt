@@ -9,7 +9,7 @@ ghost use Rattle.pfl_reasons.specs.Against as meant;
 use pfl_base::{LAST_MILLISECOND, Millis, NodeId, Refusal};
 use pfl_bulk::BulkClient;
 use pfl_language::{Event, NodeEvent};
-use pfl_world::{Node, World};
+use pfl_world::{Parts, World};
 use std::alloc::Allocator;
 
 /// What stands against an event that is refused, in numbers, as the pair is before the event.
@@ -76,7 +76,7 @@ fn pending_against<A: Allocator>(world: &World<A>, event: &Event) -> Against
     let Some(id) = node_of(world, event) else {
         return Against::Nothing;
     };
-    let queue = world.node(id).queue();
+    let queue = world.node(id).parts().queue();
     Against::Pending {
         limit: queue.limit(),
         pending: queue.len(),
@@ -91,7 +91,7 @@ fn clock_against<A: Allocator>(world: &World<A>, event: &Event) -> Against
         return Against::Nothing;
     };
     Against::Clock {
-        clock: world.node(id).clock(),
+        clock: world.node(id).parts().clock(),
         last: LAST_MILLISECOND,
     }
 }
@@ -101,13 +101,13 @@ fn due_against<A: Allocator>(world: &World<A>, event: &Event) -> Against
     ensures { result ≡ meant.due_against world.now event.now }
 {
     match event {
-        Event::At { node, event } => due_at(world.node(*node), event),
+        Event::At { node, event } => due_at(world.node(*node).parts(), event),
         _ => Against::Nothing,
     }
 }
 
 /// When the time of an event at the node comes, if it has one.
-fn due_at<A: Allocator>(node: &Node<A>, event: &NodeEvent) -> Against
+fn due_at<A: Allocator>(node: &Parts<A>, event: &NodeEvent) -> Against
     ensures { result ≡ meant.due_at node.now event.now }
 {
     match event {
@@ -118,7 +118,7 @@ fn due_at<A: Allocator>(node: &Node<A>, event: &NodeEvent) -> Against
 }
 
 /// When the oldest packet may go out that the node holds, if it holds one.
-fn release_against<A: Allocator>(node: &Node<A>) -> Against
+fn release_against<A: Allocator>(node: &Parts<A>) -> Against
     ensures { result ≡ meant.release_against node.now }
 {
     node.known();
@@ -132,7 +132,7 @@ fn release_against<A: Allocator>(node: &Node<A>) -> Against
 }
 
 /// When the node's client may ask again, if it waits.
-fn asking_against<A: Allocator>(node: &Node<A>) -> Against
+fn asking_against<A: Allocator>(node: &Parts<A>) -> Against
     ensures { result ≡ meant.asking_against node.now node.now.client }
 {
     node.known();

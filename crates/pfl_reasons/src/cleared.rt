@@ -5,11 +5,11 @@ ghost use Rattle.pfl_world.specs.receive.Receiving.{cleared_names};
 ghost use Rattle.pfl_reasons.specs.Records.{is_named};
 
 use pfl_table::Row;
-use pfl_world::Node;
+use pfl_world::Parts;
 use std::alloc::Allocator;
 
 /// How many states of the creator have an id of at most the bound.
-pub(crate) fn count_cleared<A: Allocator>(node: &Node<A>, creator: u32, bound: u64) -> usize
+pub(crate) fn count_cleared<A: Allocator>(node: &Parts<A>, creator: u32, bound: u64) -> usize
     ensures { result ≡ length (cleared_names node.now creator bound) }
 {
     let states = node.states();

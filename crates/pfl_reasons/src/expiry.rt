@@ -8,7 +8,7 @@ use pfl_base::{Class, Millis, StateName};
 use pfl_edits::NoMemory;
 use pfl_rules::scaled;
 use pfl_track::State;
-use pfl_world::Node;
+use pfl_world::Parts;
 use std::alloc::Allocator;
 
 /// A state that a purge looks at: its class, the seconds that its rule or its class gives it, those as they are scaled among the states
@@ -23,7 +23,7 @@ pub struct Expiry {
 }
 
 /// When a state of the node expires, where the node has this number of states.
-fn expiry_of<A: Allocator>(node: &Node<A>, states: usize, state: &State) -> Expiry
+fn expiry_of<A: Allocator>(node: &Parts<A>, states: usize, state: &State) -> Expiry
     requires past { state.now.last ≤ 2 ^ 63 }
     ensures { result ≡ meant.expiry_of states node.now state.now }
 {
@@ -42,7 +42,7 @@ fn expiry_of<A: Allocator>(node: &Node<A>, states: usize, state: &State) -> Expi
 /// The states of a node, by name, each with when it expires.
 pub(crate) fn expiries<A: Allocator, B: Allocator>(
     alloc: A,
-    node: &Node<B>,
+    node: &Parts<B>,
 ) -> Result<Vec<Expiry, A>, NoMemory>
     ensures { IfOk result (λ list. list.items ≡ expiries node.now) }
 {

@@ -16,7 +16,7 @@ use pfl_base::{NodeId, Refusal};
 use pfl_edits::NoMemory;
 use pfl_language::{Event, FrameEvent, NodeEvent, Outcome};
 use pfl_wire::FrameBytes;
-use pfl_world::{Node, World};
+use pfl_world::{Parts, World};
 use std::alloc::Allocator;
 
 /// What would come of an event, its outcome or its refusal, and why. The world stays as it is, whatever the answer. `alloc` lends
@@ -91,13 +91,13 @@ fn reason_at<A: Allocator + Copy>(
             let reason = packet_reason(world, node, *dir, packet)?;
             Ok(Explained::Packet(reason))
         }
-        NodeEvent::Purge => purge_reason(alloc, world.node(node)),
+        NodeEvent::Purge => purge_reason(alloc, world.node(node).parts()),
         _ => Ok(Explained::Plain),
     }
 }
 
 /// What a purge looks at.
-fn purge_reason<A: Allocator + Copy>(alloc: A, node: &Node<A>) -> Result<Explained<A>, NoMemory>
+fn purge_reason<A: Allocator + Copy>(alloc: A, node: &Parts<A>) -> Result<Explained<A>, NoMemory>
     ensures explained { IfOk result (λ r. explained_of r ≡ explained_at node.now at_node.Purge) }
 {
     node.known();

@@ -1,7 +1,6 @@
 //! What becomes of one record, read off the node that it comes to (if_pfsync.c).
 
 ghost use Rattle.std.specs.Prelude.{◌≡◌};
-ghost use Rattle.pfl_world.specs.desk.Nodes.{timeout_at};
 ghost use Rattle.pfl_world.specs.receive.Receiving as receiving;
 ghost use Rattle.pfl_reasons.specs.Records as meant;
 
@@ -10,16 +9,15 @@ use crate::record_fate::{BadRecord, RecordFate, TakenEnds};
 use pfl_base::{Class, Kernel, Millis, StateName};
 use pfl_merge::{Received, imported_use, merge};
 use pfl_queue::Kind;
-use pfl_rules::scaled;
 use pfl_track::State;
 use pfl_wire::{Message, StateRecord, UpdateRecord};
-use pfl_world::Node;
+use pfl_world::Parts;
 use std::alloc::Allocator;
 
 /// What becomes of a record that comes to the node. `same_rules` says that the peer's rules are the node's own.
 #[tactic(auto, unfolding(crate::specs::Records::record_fate))]
 pub(crate) fn record_fate<A: Allocator>(
-    node: &Node<A>,
+    node: &Parts<A>,
     message: &Message,
     same_rules: bool,
 ) -> RecordFate
@@ -41,7 +39,7 @@ pub(crate) fn record_fate<A: Allocator>(
 }
 
 /// The state of a record is taken over, or the record is bad.
-fn import_fate<A: Allocator>(node: &Node<A>, sent: &StateRecord, same_rules: bool) -> RecordFate
+fn import_fate<A: Allocator>(node: &Parts<A>, sent: &StateRecord, same_rules: bool) -> RecordFate
     ensures { result ≡ meant.import_fate node.now same_rules sent.now }
 {
     match import_fault(node, sent) {
@@ -53,7 +51,7 @@ fn import_fate<A: Allocator>(node: &Node<A>, sent: &StateRecord, same_rules: boo
 }
 
 /// Why the state may not be taken over, if there is a reason: the first one.
-fn import_fault<A: Allocator>(node: &Node<A>, sent: &StateRecord) -> Option<BadRecord>
+fn import_fault<A: Allocator>(node: &Parts<A>, sent: &StateRecord) -> Option<BadRecord>
     ensures { result ≡ meant.import_fault node.now sent.now }
 {
     if is_known(node, sent.name) {
@@ -69,14 +67,14 @@ fn import_fault<A: Allocator>(node: &Node<A>, sent: &StateRecord) -> Option<BadR
 }
 
 /// The node has a state of the name.
-fn is_known<A: Allocator>(node: &Node<A>, name: StateName) -> bool
+fn is_known<A: Allocator>(node: &Parts<A>, name: StateName) -> bool
     ensures { result ≡ receiving.is_known node.now name }
 {
     node.states().by_name(name).is_some()
 }
 
 /// The node itself would have given the name, and did not.
-fn is_not_given<A: Allocator>(node: &Node<A>, name: StateName) -> bool
+fn is_not_given<A: Allocator>(node: &Parts<A>, name: StateName) -> bool
     ensures { result ≡ receiving.is_not_given node.now name }
 {
     name.creator == node.creator() && node.next_id() <= name.id
@@ -90,7 +88,7 @@ fn is_deletion(kind: Option<Kind>) -> bool
 }
 
 /// The state that has a key of the record's, the wire key first, or else the limit.
-fn key_fault<A: Allocator>(node: &Node<A>, sent: &StateRecord) -> Option<BadRecord>
+fn key_fault<A: Allocator>(node: &Parts<A>, sent: &StateRecord) -> Option<BadRecord>
     ensures { result ≡ meant.key_fault node.now sent.now }
 {
     let states = node.states();
@@ -108,28 +106,28 @@ fn key_fault<A: Allocator>(node: &Node<A>, sent: &StateRecord) -> Option<BadReco
 }
 
 /// When the state of a record counts as last used, as the node keeps it.
-fn imported_last<A: Allocator>(node: &Node<A>, sent: &StateRecord, same_rules: bool) -> Millis
+fn imported_last<A: Allocator>(node: &Parts<A>, sent: &StateRecord, same_rules: bool) -> Millis
     ensures { result ≡ (receiving.imported node.now same_rules sent.now).last }
 {
     let rule = kept_rule(node, same_rules, sent.rule);
     let seconds = import_timeout(node, rule, sent.class);
-    imported_use(node.limits().kernel, sent.remaining, seconds, node.clock())
+    imported_use(node.kernel(), sent.remaining, seconds, node.clock())
 }
 
 /// The timeout by which a state is taken over, in seconds: with `expiry` as the rules say it (if_pfsync.c, as far as we know it), and
 /// else as the node scales it.
-fn import_timeout<A: Allocator>(node: &Node<A>, rule: Option<u16>, class: Class) -> u32
+fn import_timeout<A: Allocator>(node: &Parts<A>, rule: Option<u16>, class: Class) -> u32
     ensures { result ≡ receiving.import_timeout node.now rule class }
 {
-    if node.limits().kernel.expiry {
+    if node.kernel().expiry {
         node.rules().timeout(rule, class)
     } else {
-        timeout(node, rule, class)
+        node.timeout(rule, class)
     }
 }
 
 /// The number of a rule, which means one only under the same rules.
-fn kept_rule<A: Allocator>(node: &Node<A>, same_rules: bool, rule: Option<u32>) -> Option<u16>
+fn kept_rule<A: Allocator>(node: &Parts<A>, same_rules: bool, rule: Option<u32>) -> Option<u16>
     ensures { result ≡ receiving.kept_rule node.now same_rules rule }
 {
     node.known();
@@ -138,17 +136,8 @@ fn kept_rule<A: Allocator>(node: &Node<A>, same_rules: bool, rule: Option<u32>) 
     if known { Some(number as u16) } else { None }
 }
 
-/// The timeout that the node gives the states of a rule and a class as it stands, in seconds (pf.conf(5), `adaptive.start`).
-fn timeout<A: Allocator>(node: &Node<A>, rule: Option<u16>, class: Class) -> u32
-    ensures { result ≡ timeout_at node.now rule class }
-{
-    node.known();
-    let seconds = node.rules().timeout(rule, class);
-    scaled(seconds, node.limits().adaptive(), node.states().len())
-}
-
 /// The state of the name waits no longer, if it does wait.
-fn ack_fate<A: Allocator>(node: &Node<A>, name: StateName) -> RecordFate
+fn ack_fate<A: Allocator>(node: &Parts<A>, name: StateName) -> RecordFate
     ensures { result ≡ meant.ack_fate node.now name }
 {
     match node.states().by_name(name) {
@@ -164,7 +153,7 @@ fn ack_fate<A: Allocator>(node: &Node<A>, name: StateName) -> RecordFate
 }
 
 /// A whole state: it is merged, or taken over.
-fn update_fate<A: Allocator>(node: &Node<A>, sent: &StateRecord, same_rules: bool) -> RecordFate
+fn update_fate<A: Allocator>(node: &Parts<A>, sent: &StateRecord, same_rules: bool) -> RecordFate
     ensures { result ≡ meant.update_fate node.now same_rules sent.now }
 {
     match node.states().by_name(sent.name) {
@@ -174,7 +163,7 @@ fn update_fate<A: Allocator>(node: &Node<A>, sent: &StateRecord, same_rules: boo
 }
 
 /// A part of a state: it is merged, or the whole state is asked for.
-fn short_fate<A: Allocator>(node: &Node<A>, sent: &UpdateRecord) -> RecordFate
+fn short_fate<A: Allocator>(node: &Parts<A>, sent: &UpdateRecord) -> RecordFate
     ensures { result ≡ meant.short_fate node.now sent.now }
 {
     match node.states().by_name(sent.name) {
@@ -184,11 +173,11 @@ fn short_fate<A: Allocator>(node: &Node<A>, sent: &UpdateRecord) -> RecordFate
 }
 
 /// What the peer sends of a state of the node is merged.
-fn merge_fate<A: Allocator>(node: &Node<A>, state: &State, received: &Received) -> RecordFate
+fn merge_fate<A: Allocator>(node: &Parts<A>, state: &State, received: &Received) -> RecordFate
     ensures { result ≡ meant.merge_fate node.now state.now received.now }
 {
-    let kernel = node.limits().kernel;
-    let seconds = timeout(node, state.rule(), received.class);
+    let kernel = node.kernel();
+    let seconds = node.timeout(state.rule(), received.class);
     let merged = merge(kernel, state, received, seconds, node.clock());
     RecordFate::Merged {
         stale_src: merged.stale_src,
@@ -237,7 +226,7 @@ fn of_update(sent: &UpdateRecord) -> Received
 }
 
 /// All states are asked for, or one, or one that is not there.
-fn request_fate<A: Allocator>(node: &Node<A>, name: StateName) -> RecordFate
+fn request_fate<A: Allocator>(node: &Parts<A>, name: StateName) -> RecordFate
     ensures { result ≡ meant.request_fate node.now name }
 {
     if name == StateName::NONE {
@@ -252,7 +241,7 @@ fn request_fate<A: Allocator>(node: &Node<A>, name: StateName) -> RecordFate
 }
 
 /// A state that is asked for is queued, unless it may not be sent, or is to be sent whole already.
-fn answer_fate<A: Allocator>(node: &Node<A>, state: &State) -> RecordFate
+fn answer_fate<A: Allocator>(node: &Parts<A>, state: &State) -> RecordFate
     ensures { result ≡ meant.answer_fate node.now state.now }
 {
     if !state.no_sync() && is_partly_announced(node.queue().kind_of(state.name())) {
@@ -273,7 +262,7 @@ fn is_partly_announced(kind: Option<Kind>) -> bool
 }
 
 /// The state of the name is deleted; a name without one is bad.
-fn delete_fate<A: Allocator>(node: &Node<A>, name: StateName) -> RecordFate
+fn delete_fate<A: Allocator>(node: &Parts<A>, name: StateName) -> RecordFate
     ensures { result ≡ meant.delete_fate node.now name }
 {
     if is_known(node, name) {
@@ -284,7 +273,7 @@ fn delete_fate<A: Allocator>(node: &Node<A>, name: StateName) -> RecordFate
 }
 
 /// A bulk status is heard by a client that waits.
-fn status_fate<A: Allocator>(node: &Node<A>) -> RecordFate
+fn status_fate<A: Allocator>(node: &Parts<A>) -> RecordFate
     ensures { result ≡ meant.status_fate node.now }
 {
     if node.client().is_waiting() {

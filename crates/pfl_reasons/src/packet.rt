@@ -17,7 +17,7 @@ use pfl_edits::NoMemory;
 use pfl_language::{Event, NodeEvent};
 use pfl_rules::Rule;
 use pfl_track::{Judgement, KeyPair, State, Tracked, track_by, window_test_by};
-use pfl_world::{Node, World};
+use pfl_world::{Parts, World};
 use std::alloc::Allocator;
 
 /// Why a packet has its fate at the node.
@@ -30,7 +30,7 @@ pub(crate) fn packet_reason<A: Allocator + Copy>(
     ensures reason { IfOk result (λ r. r ≡ meant.packet_reason (node_at world.old id) dir packet.now) }
     ensures still { world.new ≡ world.old }
 {
-    let node = world.node(id);
+    let node = world.node(id).parts();
     node.known();
     let Some(state) = node.states().found(&key(packet, dir), dir).copied() else {
         let judged = judged(node, dir, packet);
@@ -39,7 +39,7 @@ pub(crate) fn packet_reason<A: Allocator + Copy>(
             judged,
         });
     };
-    let kernel = node.limits().kernel;
+    let kernel = node.kernel();
     match track_by(kernel, &state, packet, dir, node.clock()) {
         Tracked::Reused => reuse_reason(world, id, &state, dir, packet),
         _ => Ok(PacketReason::OfState {
@@ -82,7 +82,7 @@ fn reuse_reason<A: Allocator + Copy>(
     let Ok((_, change)) = world.apply(&kill) else {
         return Err(NoMemory);
     };
-    let judged = judged(world.node(id), dir, packet);
+    let judged = judged(world.node(id).parts(), dir, packet);
     world.revert(change);
     Ok(PacketReason::ByRules {
         closed: Some(name),
@@ -91,7 +91,7 @@ fn reuse_reason<A: Allocator + Copy>(
 }
 
 /// What the rules make of a packet that no state takes.
-fn judged<A: Allocator>(node: &Node<A>, dir: Dir, packet: &Packet) -> Judged
+fn judged<A: Allocator>(node: &Parts<A>, dir: Dir, packet: &Packet) -> Judged
     requires packet { IsPacket packet.now }
     ensures { result ≡ meant.judged_reason node.now dir packet.now }
 {
@@ -110,7 +110,7 @@ fn judged<A: Allocator>(node: &Node<A>, dir: Dir, packet: &Packet) -> Judged
 
 /// What stands against a new state of a packet that a rule passes.
 fn start_reason<A: Allocator>(
-    node: &Node<A>,
+    node: &Parts<A>,
     dir: Dir,
     packet: &Packet,
     number: u16,
@@ -139,7 +139,7 @@ fn start_reason<A: Allocator>(
 }
 
 /// How many states the rule may have, where it has as many or more.
-fn max_reached<A: Allocator>(node: &Node<A>, number: u16, rule: &Rule) -> Option<u32>
+fn max_reached<A: Allocator>(node: &Parts<A>, number: u16, rule: &Rule) -> Option<u32>
     ensures { result ≡ (if starting.is_at_max node.now number rule.now then rule.now.max else None) }
 {
     let most = rule.max?;
@@ -151,7 +151,7 @@ fn max_reached<A: Allocator>(node: &Node<A>, number: u16, rule: &Rule) -> Option
 }
 
 /// The state with a key of the new one, or else the new one.
-fn by_keys<A: Allocator>(node: &Node<A>, rule: u16, keys: &KeyPair) -> Judged
+fn by_keys<A: Allocator>(node: &Parts<A>, rule: u16, keys: &KeyPair) -> Judged
     ensures { result ≡ meant.by_keys rule (by_wire node.now.states keys.now.wire) (by_stack node.now.states keys.now.stack)
         (Judged.Makes rule (starting.next_name node.now)) }
 {

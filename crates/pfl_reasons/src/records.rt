@@ -15,7 +15,7 @@ use crate::record_fate::{RecordFate, TakenRecord};
 use pfl_base::NodeId;
 use pfl_edits::{NoMemory, Tape, undo_to};
 use pfl_wire::{FrameBytes, Message};
-use pfl_world::{Node, World, WorldTape, records_leave_the_rest};
+use pfl_world::{Parts, World, WorldTape, records_leave_the_rest};
 use std::alloc::Allocator;
 
 /// The records of a frame that comes to a node, each with what becomes of it. The node takes them, and then this is undone: the world
@@ -74,7 +74,7 @@ fn take_next<A: Allocator + Copy>(
     ensures fits { OnOk result (Fits Finds IsWorld put_back (above (length tape.old.list) tape.new.list) world.new) }
     ensures back { OnOk result (back put_back (above (length tape.old.list) tape.new.list) world.new ≡ world.old) }
 {
-    let node = world.node(to);
+    let node = world.node(to).parts();
     let fate = record_fate(node, message, has_print(node, print));
     // The frame is accepted as a whole, so none of its records is refused: only memory can be wanting.
     match world.take_record_on(to, message, print, tape) {
@@ -84,7 +84,7 @@ fn take_next<A: Allocator + Copy>(
 }
 
 /// Whether the node's rules have the checksum.
-fn has_print<A: Allocator>(node: &Node<A>, print: &[u8; 16]) -> bool
+fn has_print<A: Allocator>(node: &Parts<A>, print: &[u8; 16]) -> bool
     ensures { result ≡ has_print node.now print.now }
 {
     *print == node.rules().print()

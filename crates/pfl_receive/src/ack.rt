@@ -17,7 +17,7 @@ pub(crate) fn take_ack<A: Allocator>(desk: &mut Desk<A>, name: StateName)
     ensures states { maps.len desk.new.node.states ≤ maps.len desk.old.node.states }
     ensures writes { Writes 3 desk.old desk.new }
 {
-    let Some(state) = desk.states().by_name(name).copied() else {
+    let Some(state) = desk.parts().states().by_name(name).copied() else {
         return;
     };
     if state.ack_wanted() {

@@ -14,6 +14,7 @@ pub(crate) fn take_status<A: Allocator>(desk: &mut Desk<A>, status: BulkStatus)
     ensures node { desk.new.node ≡ receiving.status_taken desk.old.node status }
     ensures writes { Writes 1 desk.old desk.new }
 {
-    let client = desk.client().status(status, desk.clock());
+    let parts = desk.parts();
+    let client = parts.client().status(status, parts.clock());
     desk.set_client(client);
 }

@@ -11,7 +11,7 @@ ghost use Rattle.pfl_receive.specs.Receiving as receiving;
 ghost use Rattle.pfl_desk.specs.table.Tables.{state_after};
 
 use pfl_base::StateName;
-use pfl_desk::Desk;
+use pfl_desk::{Desk, Parts};
 use std::alloc::Allocator;
 
 /// The states of the creator up to the bound go unannounced, by four edits each at most.
@@ -21,16 +21,16 @@ pub(crate) fn take_clear<A: Allocator>(desk: &mut Desk<A>, creator: u32, bound: 
     ensures paid { IsPaid 0 desk.old desk.new }
     ensures writes { Writes (4 * length (receiving.cleared_names desk.old.node creator bound)) desk.old desk.new }
 {
-    while let Some(name) = first_cleared(desk, creator, bound) {
+    while let Some(name) = first_cleared(desk.parts(), creator, bound) {
         desk.forget(name);
     }
 }
 
 /// The first name of the creator up to the bound.
-fn first_cleared<A: Allocator>(desk: &Desk<A>, creator: u32, bound: u64) -> Option<StateName>
-    ensures first { result ≡ slice_get (receiving.cleared_names desk.now.node creator bound) 0 }
+fn first_cleared<A: Allocator>(parts: &Parts<A>, creator: u32, bound: u64) -> Option<StateName>
+    ensures first { result ≡ slice_get (receiving.cleared_names parts.now creator bound) 0 }
 {
-    let Some(name) = first_from(desk, StateName { creator, id: 0 }) else {
+    let Some(name) = first_from(parts, StateName { creator, id: 0 }) else {
         return None;
     };
     if is_cleared(name, creator, bound) {
@@ -48,12 +48,12 @@ fn is_cleared(name: StateName, creator: u32, bound: u64) -> bool
 }
 
 /// The first name of a state from this one on.
-fn first_from<A: Allocator>(desk: &Desk<A>, name: StateName) -> Option<StateName>
-    ensures first { result ≡ (if is_some (maps.get desk.now.node.states name) then Some name else option_map
-        (λ s. s.name) (state_after desk.now.node.states name)) }
-    ensures parts { AreParts desk.now.node }
+fn first_from<A: Allocator>(parts: &Parts<A>, name: StateName) -> Option<StateName>
+    ensures first { result ≡ (if is_some (maps.get parts.now.states name) then Some name else option_map
+        (λ s. s.name) (state_after parts.now.states name)) }
+    ensures parts { AreParts parts.now }
 {
-    let states = desk.states();
+    let states = parts.states();
     if states.by_name(name).is_some() {
         return Some(name);
     }

@@ -16,7 +16,7 @@ pub(crate) fn take_deletion<A: Allocator>(desk: &mut Desk<A>, name: StateName)
     ensures paid { IsPaid 1 desk.old desk.new }
     ensures writes { Writes 4 desk.old desk.new }
 {
-    if desk.states().by_name(name).is_some() {
+    if desk.parts().states().by_name(name).is_some() {
         desk.forget(name);
     } else {
         desk.count(Counter::Bad);

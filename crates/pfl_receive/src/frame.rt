@@ -12,7 +12,7 @@ ghost use Rattle.pfl_receive.specs.Receiving.{taken};
 ghost use Rattle.pfl_wire.specs.Frames.{frame_len, records_of};
 
 use crate::records::take_record;
-use pfl_desk::{Desk, Overfull};
+use pfl_desk::{Desk, Overfull, Parts};
 use pfl_wire::{FrameBytes, Records};
 use std::alloc::Allocator;
 
@@ -29,15 +29,15 @@ pub fn take_frame<A: Allocator>(
     ensures count { IfOk result (λ r. r.0 ≡ length (records_of frame.now)) }
     ensures writes { Writes (work_edits * frame_work desk.old.node frame.now) desk.old desk.new }
 {
-    let same_rules = has_same_rules(desk, frame);
+    let same_rules = has_same_rules(desk.parts(), frame);
     take_records(desk, frame.records(), same_rules)
 }
 
 /// Whether the frame's checksum is that of the node's rules.
-fn has_same_rules<A: Allocator>(desk: &Desk<A>, frame: &FrameBytes<'_>) -> bool
-    ensures same { result ≡ delivering.same_rules desk.now.node frame.now }
+fn has_same_rules<A: Allocator>(parts: &Parts<A>, frame: &FrameBytes<'_>) -> bool
+    ensures same { result ≡ delivering.same_rules parts.now frame.now }
 {
-    *frame.print() == desk.rules().print()
+    *frame.print() == parts.rules().print()
 }
 
 /// Takes records one after another, and returns how many, and whether after one of them a number was too high.

@@ -13,7 +13,7 @@ mod update;
 
 pub use frame::take_frame;
 pub use pfl_desk::{
-    Counter, Counters, Deferrals, Desk, Entry, Kind, MotionEdit, NodeEdit, Overfull, Pending,
-    QueueEdit, Slot, StateTable, judged,
+    Counter, Counters, Desk, Entry, Kind, MotionEdit, NodeEdit, Overfull, Parts, QueueEdit, Slot,
+    judged,
 };
 pub use records::take_record;

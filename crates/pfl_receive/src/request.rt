@@ -9,7 +9,7 @@ ghost use Rattle.pfl_receive.specs.Receiving as receiving;
 ghost use Rattle.pfl_wire.specs.declared.message.BulkStatus.TheVariants.{Start, End as Finish};
 
 use pfl_base::StateName;
-use pfl_desk::{Counter, Desk, Kind, Overfull};
+use pfl_desk::{Counter, Desk, Kind, Overfull, Parts};
 use pfl_track::State;
 use pfl_wire::BulkStatus;
 use std::alloc::Allocator;
@@ -27,7 +27,7 @@ pub(crate) fn take_request<A: Allocator>(
     if name == StateName::NONE {
         return serve(desk);
     }
-    let Some(state) = desk.states().by_name(name).copied() else {
+    let Some(state) = desk.parts().states().by_name(name).copied() else {
         desk.count(Counter::Bad);
         return Ok(());
     };
@@ -41,8 +41,9 @@ fn serve<A: Allocator>(desk: &mut Desk<A>) -> Result<(), Overfull>
     ensures node { OnOk result (desk.new.node ≡ receiving.bulk_taken desk.old.node) }
     ensures writes { Writes 3 desk.old desk.new }
 {
-    let has_states = desk.states().len() > 0;
-    let server = desk.server().start(has_states, desk.clock());
+    let parts = desk.parts();
+    let has_states = parts.states().len() > 0;
+    let server = parts.server().start(has_states, parts.clock());
     desk.announce_status(status_of(has_states))?;
     desk.set_server(server);
     Ok(())
@@ -69,7 +70,7 @@ fn answer<A: Allocator>(desk: &mut Desk<A>, state: &State) -> Result<(), Overful
     ensures writes { Writes 2 desk.old desk.new }
 {
     let name = state.name();
-    if !is_answered(desk, state) {
+    if !is_answered(desk.parts(), state) {
         return Ok(());
     }
     desk.mark(name, Kind::Update)?;
@@ -78,10 +79,10 @@ fn answer<A: Allocator>(desk: &mut Desk<A>, state: &State) -> Result<(), Overful
 }
 
 /// The state may be announced to the peer, and the whole of it is not sent already.
-fn is_answered<A: Allocator>(desk: &Desk<A>, state: &State) -> bool
-    ensures answered { result ≡ (not state.now.no_sync && receiving.is_partly_announced (kind_of desk.now.node.queue state.now.name)) }
+fn is_answered<A: Allocator>(parts: &Parts<A>, state: &State) -> bool
+    ensures answered { result ≡ (not state.now.no_sync && receiving.is_partly_announced (kind_of parts.now.queue state.now.name)) }
 {
-    !state.no_sync() && is_partly_announced(desk.queue().kind_of(state.name()))
+    !state.no_sync() && is_partly_announced(parts.queue().kind_of(state.name()))
 }
 
 /// On no queue, or on one that sends less than the whole state.

@@ -29,7 +29,7 @@ pub(crate) fn take_update<A: Allocator>(
         (maps.get desk.old.node.states sent.now.name) (receiving.insert_taken desk.old.node same_rules sent.now false)) }
     ensures writes { Writes 7 desk.old desk.new }
 {
-    let Some(state) = desk.states().by_name(sent.name).copied() else {
+    let Some(state) = desk.parts().states().by_name(sent.name).copied() else {
         return take_insertion(desk, sent, false, same_rules);
     };
     take_merge(desk, &state, &of_state(sent))
@@ -47,7 +47,7 @@ pub(crate) fn take_short_update<A: Allocator>(
         (maps.get desk.old.node.states sent.now.name) (to.ask desk.old.node sent.now.name)) }
     ensures writes { Writes 7 desk.old desk.new }
 {
-    let Some(state) = desk.states().by_name(sent.name).copied() else {
+    let Some(state) = desk.parts().states().by_name(sent.name).copied() else {
         return desk.ask(sent.name);
     };
     take_merge(desk, &state, &of_update(sent))
@@ -66,8 +66,9 @@ fn take_merge<A: Allocator>(
     ensures node { OnOk result (desk.new.node ≡ receiving.merge_taken desk.old.node state.now received.now) }
     ensures writes { Writes 7 desk.old desk.new }
 {
-    let timeout = desk.timeout(state.rule(), received.class);
-    let merged = merge(desk.kernel(), state, received, timeout, desk.clock());
+    let parts = desk.parts();
+    let timeout = parts.timeout(state.rule(), received.class);
+    let merged = merge(parts.kernel(), state, received, timeout, parts.clock());
     desk.drop_held(state.name());
     put_merged(desk, &merged)
 }

@@ -2,4 +2,4 @@
 
 /// The release, the sum of its sources, and the logic that proves them.
 pub(crate) const VERSION: &str =
-    "release 23, sources 123cce0dc88404229c62cbc9a1a003aa23d6b756db6ffa8deacea7e9a33317a6, logic dac8208d650f15bf";
+    "release 24, sources d51fc20736d1feaef6c087fe628a0422493f83bf808e9c2dac0244dc57992263, logic dac8208d650f15bf";

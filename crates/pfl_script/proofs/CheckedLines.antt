@@ -9,7 +9,7 @@ use Rattle.pfl_reader.specs.Saids.{kept_said}
 use Rattle.pfl_script.specs.Answers.{is_command, kept_bad, kept_command, bad_lines, one_if}
 use Rattle.pfl_script.specs.Checks.{line_report, kept_report, lines_report, good_lines, good_text, ChecksPart, ChecksUncounted}
 use Rattle.pfl_script.proofs.Pieces.{appends_none, appends_then}
-use Rattle.pfl_script.proofs.Running.{said-kept, bad-kept, command-kept, bad_lines-push, taken-none, taken-line, taken-first, taken-all, taken-drained}
+use Rattle.pfl_script.proofs.Running.{said-kept, bad-kept, command-kept, bad_lines-push, taken-none, taken-line, taken-all, taken-drained}
 
 -- lines after line m were checked so far, the last of which is line n
 pub record Went (old new : Option (List ℕ)) (m n : ℕ) (w v : Option (List ℕ)) (good bad : ℕ) : Type 0 where
@@ -84,7 +84,7 @@ Went-uncounted old mid new m n w v x good bad part went over appends = record {
 
 -- what is reported of the last line was written in part
 pub Went-cut : (old mid new : Option (List ℕ)) (m n : ℕ) (w v x : Option (List ℕ)) (good bad part : ℕ) (k : Kept) →
-    Went old mid m n w v good bad → ReadsLine k mid new → Appends v x (take part (kept_report (n + 1) k)) → ChecksPart old m w x
+    Went old mid m n w v good bad → ReadsLine k mid new → Appends v x (take part (kept_report (n + 1) k)) → ChecksPart old new m w x
 Went-cut old mid new m n w v x good bad part k went reads appends =
     let line = reads.body in
     let lines = went.lines in
@@ -93,7 +93,7 @@ Went-cut old mid new m n w v x good bad part k went reads appends =
     record {
       lines = lines;
       last = line;
-      first = taken-first old new (lines ++ line ∷ []) (taken-line old mid new lines line went.left reads.takes);
+      taken = taken-line old mid new lines line went.left reads.takes;
       part = part;
       written = appends_then w v x (lines_report m lines) _ went.written (subst (λ (s : List ℕ). Appends v x (take part s)) told appends);
     }

@@ -1,4 +1,5 @@
 pub mod Pieces
+pub mod Wanting
 pub mod Running
 pub mod CheckedLines
 pub mod Lists

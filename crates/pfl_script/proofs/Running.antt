@@ -1,16 +1,18 @@
 -- A run of lines, line by line.
 use Rattle.std.proofs.Common.{◌≡◌, ℕ, ◌+◌, ◌≤◌, Bool, true, false, List, [], ◌∷◌, ◌++◌, length, take, refl, sym, ◌∙◌, ap, subst, arith, length-append}
-use Rattle.std.proofs.Common.{append_assoc, inl, inr, Option, Some, None}
-use Rattle.std.specs.Io.KnownBytes.{Appends, Keeps as KeepsBytes}
+use Rattle.std.proofs.Common.{append_assoc, inl, inr, Option, Some, None, Result}
+use Rattle.std.specs.Io.KnownBytes.{Appends}
 use Rattle.std.proofs.lemmas.Bool.{lt-ltb, le-ltb, cases_lt}
 use Rattle.std.proofs.lemmas.List.{append-nil, take_all}
+use Rattle.pfl_lines.specs.declared.fault.LineFault.{LineFault}
+use Rattle.pfl_lines.specs.declared.search.ScriptLine.{ScriptLine}
 use Rattle.pfl_lines.specs.Search.{parsed_script}
 use Rattle.pfl_timeline.specs.Timelines.{Timeline}
 use Rattle.pfl_reader.specs.Lines.{lines_of}
 use Rattle.pfl_reader.specs.Scans.{Kept, Keeps, ReadsLine, TakesLine, TakesLines, IsOver}
 use Rattle.pfl_reader.specs.Saids.{kept_said}
 use Rattle.pfl_script.specs.Answers.{Answer, line_answer, is_bad, is_command, kept_answer, kept_bad, kept_command, text, timeline_after, bad_lines}
-use Rattle.pfl_script.specs.Answers.{one_if, AreLines, AreFirst, Drains, RunsWhole, RunsPart, RunsLines, RunsUnanswered, RunsUntil}
+use Rattle.pfl_script.specs.Answers.{one_if, MayWant, AreLines, AreFirst, Drains, RunsWhole, RunsPart, RunsLines, RunsBroken, RunsUnanswered, RunsUntil}
 use Rattle.pfl_script.specs.inner.Answers.{Breaks}
 use Rattle.pfl_script.specs.declared.fault.EngineFault.{EngineFault}
 use Rattle.pfl_script.specs.declared.fault.EngineFault.TheVariants as engine
@@ -102,13 +104,6 @@ taken-drained (Some xs) None new lines h t = absurd h
 taken-drained (Some xs) (Some ys) None lines h t = absurd t
 taken-drained (Some xs) (Some ys) (Some zs) lines h t = t.1
 
--- nothing more was written
-pub appends-keeps : (a b c : Option (List ℕ)) (s : List ℕ) → Appends a b s → KeepsBytes b c → Appends a c s
-appends-keeps None b c s h i = tt
-appends-keeps (Some xs) None c s h i = absurd h
-appends-keeps (Some xs) (Some ys) None s h i = absurd i
-appends-keeps (Some xs) (Some ys) (Some zs) s h i = i ∙ h
-
 -- no line was taken
 pub taken-none : (known : Option (List ℕ)) → TakesLines known known []
 taken-none None = tt
@@ -170,38 +165,44 @@ Ran-part old mid t u w v n bad ran = record {
 }
 
 -- the last line's text was not written whole
-Ran-cut : (old mid new : Option (List ℕ)) (t u s : Timeline) (w v x : Option (List ℕ)) (n bad part : ℕ) (k : Kept) →
-    Ran old mid t u w v n bad → ReadsLine k mid new → s ≡ (kept_answer k u).timeline → Appends v x (take part (kept_answer k u).text) →
-    RunsPart old t s w x
-Ran-cut old mid new t u s w v x n bad part k ran reads moved appends =
+Ran-cut : (old mid new : Option (List ℕ)) (t u s : Timeline) (w v x : Option (List ℕ)) (n bad : ℕ) (k : Kept) →
+    Ran old mid t u w v n bad → ReadsLine k mid new → Breaks (kept_answer k u) s v x → RunsBroken old new t s w x
+Ran-cut old mid new t u s w v x n bad k ran reads broken =
     let line = reads.body in
     let lines = ran.lines in
     let answer : kept_answer k u ≡ line_answer line (timeline_after lines t) =
     answer-kept k line u reads.keeps ∙ ap (line_answer line) ran.timeline in
     record {
       lines = lines;
-      last = line ∷ [];
-      few = omega arith;
-      first = taken-first old new (lines ++ line ∷ []) (taken-line old mid new lines line ran.left reads.takes);
-      timeline = moved ∙ (ap (λ (a : Answer). a.timeline) answer ∙ sym (after-push lines line t));
-      part = part;
+      last = line;
+      taken = taken-line old mid new lines line ran.left reads.takes;
+      timeline = broken.0 ∙ (ap (λ (a : Answer). a.timeline) answer ∙ sym (after-push lines line t));
+      part = broken.1.0;
       written = appends_then w v x (text lines t) _ ran.written
-          (rw append-nil (subst (λ (a : Answer). Appends v x (take part a.text)) answer appends));
+          (subst (λ (a : Answer). Appends v x (take broken.1.0 a.text)) answer broken.1.1);
     }
 
+cut-part : (old new : Option (List ℕ)) (t s : Timeline) (w x : Option (List ℕ)) → RunsBroken old new t s w x → RunsPart old t s w x
+cut-part old new t s w x cut = record {
+  lines = cut.lines;
+  last = cut.last ∷ [];
+  few = omega arith;
+  first = taken-first old new (cut.lines ++ cut.last ∷ []) cut.taken;
+  timeline = cut.timeline;
+  part = cut.part;
+  written = rw append-nil cut.written;
+}
+
 -- the last line's answer failed
-pub Ran-broken : (old mid new : Option (List ℕ)) (t u s : Timeline) (w v x : Option (List ℕ)) (n bad : ℕ) (k : Kept) →
-    Ran old mid t u w v n bad → ReadsLine k mid new → Breaks (kept_answer k u) u s v x → RunsPart old t s w x
-Ran-broken old mid new t u s w v x n bad k ran reads (inl h) = Ran-cut old mid new t u s w v x n bad h.1.0 k ran reads h.0 h.1.1
-Ran-broken old mid new t u s w v x n bad k ran reads (inr h) =
-    Ran-part old mid t s w x n bad (record {
-      lines = ran.lines;
-      left = ran.left;
-      timeline = h.0 ∙ ran.timeline;
-      written = appends-keeps w v x (text ran.lines t) ran.written h.1;
-      counted = ran.counted;
-      faulty = ran.faulty;
-    })
+pub Ran-broken : (e : EngineFault) (failed : Bool) (old mid new : Option (List ℕ)) (t u s : Timeline) (w v x : Option (List ℕ)) (n bad : ℕ) (k : Kept) →
+    Ran old mid t u w v n bad → ReadsLine k mid new → IsWriteFault e failed → (e ≡ engine.Write → Breaks (kept_answer k u) s v x) →
+    (e ≡ engine.NoMemory → x ≡ v) → (e ≡ engine.NoMemory → s ≡ u) → RunsPart old t s w x
+Ran-broken engine.Write failed old mid new t u s w v x n bad k ran reads why breaks same unchanged =
+    cut-part old new t s w x (Ran-cut old mid new t u s w v x n bad k ran reads (breaks refl))
+Ran-broken engine.NoMemory failed old mid new t u s w v x n bad k ran reads why breaks same unchanged =
+    rw (unchanged refl, same refl) (Ran-part old mid t u w v n bad ran)
+Ran-broken engine.Read failed old mid new t u s w v x n bad k ran reads why breaks same unchanged = absurd why
+Ran-broken engine.TooManyTurns failed old mid new t u s w v x n bad k ran reads why breaks same unchanged = absurd why
 
 -- what was written for the lines is whole
 pub Ran-lines : (old mid : Option (List ℕ)) (t u : Timeline) (w v : Option (List ℕ)) (n bad : ℕ) →
@@ -213,15 +214,17 @@ Ran-lines old mid t u w v n bad ran = record {
   written = ran.written;
 }
 
--- the last line, a command, has no answer
+-- the last line, which may want memory, has no answer
 pub Ran-unanswered : (old mid new : Option (List ℕ)) (t u s : Timeline) (w v x : Option (List ℕ)) (n bad : ℕ) (k : Kept) →
-    Ran old mid t u w v n bad → ReadsLine k mid new → kept_command k ≡ true → x ≡ v → s ≡ u →
+    Ran old mid t u w v n bad → ReadsLine k mid new → kept_command k ≡ true → MayWant (kept_said k) u → x ≡ v → s ≡ u →
     RunsUnanswered old new t s w x
-Ran-unanswered old mid new t u s w v x n bad k ran reads command same unchanged = record {
+Ran-unanswered old mid new t u s w v x n bad k ran reads command wants same unchanged = record {
   lines = ran.lines;
   last = reads.body;
   taken = taken-line old mid new ran.lines reads.body ran.left reads.takes;
   command = sym (command-kept k reads.body reads.keeps) ∙ command;
+  wants = subst (λ (said : Result ScriptLine LineFault). MayWant said (timeline_after ran.lines t)) (said-kept k reads.body reads.keeps)
+      (subst (λ (at : Timeline). MayWant (kept_said k) at) ran.timeline wants);
   timeline = unchanged ∙ ran.timeline;
   written = rw same ran.written;
 }
@@ -239,15 +242,15 @@ run-read read.TooManyTurns new failed why = why
 
 -- the last line's answer failed, for this reason
 pub until-answer : (e : EngineFault) (failed : Bool) (old mid new : Option (List ℕ)) (t u s : Timeline) (w v x : Option (List ℕ)) (n bad : ℕ) (k : Kept) →
-    Ran old mid t u w v n bad → ReadsLine k mid new → IsWriteFault e failed → Breaks (kept_answer k u) u s v x →
-    (e ≡ engine.NoMemory → kept_command k ≡ true) → (e ≡ engine.NoMemory → x ≡ v) → (e ≡ engine.NoMemory → s ≡ u) →
-    RunsUntil e old new t s w x
-until-answer engine.Write failed old mid new t u s w v x n bad k ran reads why breaks command same unchanged =
-    Ran-broken old mid new t u s w v x n bad k ran reads breaks
-until-answer engine.NoMemory failed old mid new t u s w v x n bad k ran reads why breaks command same unchanged =
-    Ran-unanswered old mid new t u s w v x n bad k ran reads (command refl) (same refl) (unchanged refl)
-until-answer engine.Read failed old mid new t u s w v x n bad k ran reads why breaks command same unchanged = absurd why
-until-answer engine.TooManyTurns failed old mid new t u s w v x n bad k ran reads why breaks command same unchanged = absurd why
+    Ran old mid t u w v n bad → ReadsLine k mid new → IsWriteFault e failed → (e ≡ engine.Write → Breaks (kept_answer k u) s v x) →
+    (e ≡ engine.NoMemory → kept_command k ≡ true) → (e ≡ engine.NoMemory → MayWant (kept_said k) u) → (e ≡ engine.NoMemory → x ≡ v) →
+    (e ≡ engine.NoMemory → s ≡ u) → RunsUntil e old new t s w x
+until-answer engine.Write failed old mid new t u s w v x n bad k ran reads why breaks command wants same unchanged =
+    Ran-cut old mid new t u s w v x n bad k ran reads (breaks refl)
+until-answer engine.NoMemory failed old mid new t u s w v x n bad k ran reads why breaks command wants same unchanged =
+    Ran-unanswered old mid new t u s w v x n bad k ran reads (command refl) (wants refl) (same refl) (unchanged refl)
+until-answer engine.Read failed old mid new t u s w v x n bad k ran reads why breaks command wants same unchanged = absurd why
+until-answer engine.TooManyTurns failed old mid new t u s w v x n bad k ran reads why breaks command wants same unchanged = absurd why
 
 -- one line is at most one faulty line
 pub one_if-le : (b : Bool) → one_if b ≤ 1

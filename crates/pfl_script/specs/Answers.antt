@@ -1,13 +1,14 @@
 -- What lines do to a timeline, and the text of their replies.
 use Rattle.std.specs.Prelude.{◌≡◌, ◌≤◌, ℕ, ◌+◌, Bool, true, false, not, ◌&&◌, is_err, List, [], ◌∷◌, ◌++◌, length, take, if◌then◌else◌, Option, Some}
-use Rattle.std.specs.Prelude.{None, ⊤, Result, Ok, Err}
+use Rattle.std.specs.Prelude.{None, is_some, IsTrue, ⊤, Result, Ok, Err}
 use Rattle.std.specs.Io.KnownBytes.{Appends}
 use Rattle.pfl_lines.specs.declared.fault.LineFault.{LineFault}
 use Rattle.pfl_lines.specs.declared.search.ScriptLine.{ScriptLine}
 use Rattle.pfl_lines.specs.declared.search.ScriptLine.TheVariants as said
 use Rattle.pfl_lines.specs.declared.search.SearchLine.{SearchLine}
 use Rattle.pfl_lines.specs.Search.{parsed_script}
-use Rattle.pfl_timeline.specs.Timelines.{Timeline}
+use Rattle.pfl_timeline.specs.Memory.{MayWantMemory}
+use Rattle.pfl_timeline.specs.Timelines.{Timeline, branch_of}
 use Rattle.pfl_reader.specs.Lines.{lines_of}
 use Rattle.pfl_reader.specs.Saids.{kept_said}
 use Rattle.pfl_reader.specs.Scans.{Kept, head_of, has_word, TakesLines}
@@ -80,6 +81,12 @@ kept_bad k = has_word k.head && is_err (kept_said k)
 unfoldable pub kept_command : Kept → Bool
 kept_command k = has_word k.head && not (is_err (kept_said k))
 
+-- what a line says may want memory: a command that makes something and that nothing refuses, or a search from a branch that is there
+abbrev pub MayWant : Result ScriptLine LineFault → Timeline → Type 0
+MayWant (Err fault) t = ⊥
+MayWant (Ok (said.Command command)) t = MayWantMemory t command
+MayWant (Ok (said.Search s)) t = IsTrue (is_some (branch_of t s.branch))
+
 -- the lines of known bytes are these
 abbrev pub AreLines : Option (List ℕ) → List (List ℕ) → Type 0
 AreLines None lines = ⊤
@@ -123,13 +130,23 @@ pub record RunsLines (old : Option (List ℕ)) (t u : Timeline) (w v : Option (L
   pub timeline : u ≡ timeline_after lines t
   pub written : Appends w v (text lines t)
 
--- First lines were read, the last of them a command or a search: the timeline is the one that the lines before it give, and their whole text
--- was written.
+-- These lines were taken and no other: the timeline is the one that they give, and their text was written but for a part of the last one's.
+pub record RunsBroken (old new : Option (List ℕ)) (t u : Timeline) (w v : Option (List ℕ)) : Type 0 where
+  pub lines : List (List ℕ)
+  pub last : List ℕ
+  pub taken : TakesLines old new (lines ++ last ∷ [])
+  pub timeline : u ≡ timeline_after (lines ++ last ∷ []) t
+  pub part : ℕ
+  pub written : Appends w v (text lines t ++ take part (line_answer last (timeline_after lines t)).text)
+
+-- These lines were taken and no other, the last of them a command or a search that may want memory where the lines before it lead: the
+-- timeline is the one that these give, and their whole text was written.
 pub record RunsUnanswered (old new : Option (List ℕ)) (t u : Timeline) (w v : Option (List ℕ)) : Type 0 where
   pub lines : List (List ℕ)
   pub last : List ℕ
   pub taken : TakesLines old new (lines ++ last ∷ [])
   pub command : is_command last ≡ true
+  pub wants : MayWant (parsed_script last) (timeline_after lines t)
   pub timeline : u ≡ timeline_after lines t
   pub written : Appends w v (text lines t)
 
@@ -137,5 +154,5 @@ pub record RunsUnanswered (old new : Option (List ℕ)) (t u : Timeline) (w v : 
 abbrev pub RunsUntil : EngineFault → Option (List ℕ) → Option (List ℕ) → Timeline → Timeline → Option (List ℕ) → Option (List ℕ) → Type 0
 RunsUntil engine.Read old new t u w v = RunsLines old t u w v
 RunsUntil engine.TooManyTurns old new t u w v = RunsLines old t u w v
-RunsUntil engine.Write old new t u w v = RunsPart old t u w v
+RunsUntil engine.Write old new t u w v = RunsBroken old new t u w v
 RunsUntil engine.NoMemory old new t u w v = RunsUnanswered old new t u w v

@@ -6,7 +6,7 @@ use Rattle.pfl_lines.specs.declared.search.ScriptLine.{ScriptLine}
 use Rattle.pfl_lines.specs.declared.fault.LineFault.{LineFault}
 use Rattle.pfl_lines.specs.Search.{parsed_script}
 use Rattle.pfl_reader.specs.Saids.{kept_said}
-use Rattle.pfl_reader.specs.Scans.{Kept, head_of, has_word}
+use Rattle.pfl_reader.specs.Scans.{Kept, head_of, has_word, TakesLines}
 use Rattle.pfl_script.specs.Texts.{bad_text}
 use Rattle.pfl_script.specs.Answers.{is_command, one_if, bad_lines, AreLines, AreFirst, Drains}
 use Rattle.pfl_script.specs.declared.fault.EngineFault.{EngineFault}
@@ -62,11 +62,11 @@ pub record ChecksLines (old : Option (List ℕ)) (n : ℕ) (w v : Option (List �
   pub first : AreFirst old lines
   pub written : Appends w v (lines_report n lines)
 
--- First lines after line n were read, and what is reported of them was written but for a part of the last one's.
-pub record ChecksPart (old : Option (List ℕ)) (n : ℕ) (w v : Option (List ℕ)) : Type 0 where
+-- These lines after line n were taken and no other, and what is reported of them was written but for a part of the last one's.
+pub record ChecksPart (old new : Option (List ℕ)) (n : ℕ) (w v : Option (List ℕ)) : Type 0 where
   pub lines : List (List ℕ)
   pub last : List ℕ
-  pub first : AreFirst old (lines ++ last ∷ [])
+  pub taken : TakesLines old new (lines ++ last ∷ [])
   pub part : ℕ
   pub written : Appends w v (lines_report n lines ++ take part (line_report (n + length lines + 1) last))
 
@@ -82,5 +82,5 @@ pub record ChecksUncounted (old new : Option (List ℕ)) (n : ℕ) (w v : Option
 abbrev pub ChecksUntil : EngineFault → Option (List ℕ) → Option (List ℕ) → ℕ → Option (List ℕ) → Option (List ℕ) → Type 0
 ChecksUntil engine.Read old new n w v = ChecksLines old n w v
 ChecksUntil engine.TooManyTurns old new n w v = ChecksLines old n w v
-ChecksUntil engine.Write old new n w v = ChecksPart old n w v ⊎ ChecksUncounted old new n w v
+ChecksUntil engine.Write old new n w v = ChecksPart old new n w v ⊎ ChecksUncounted old new n w v
 ChecksUntil engine.NoMemory old new n w v = ⊥

@@ -1,16 +1,19 @@
 //! The answer to one line.
 
-ghost use Rattle.std.specs.Prelude.{◌≡◌, ℕ, true, take, IfOk, OnOk, OnErr, IfErr};
+ghost use Rattle.std.specs.Prelude.{◌≡◌, ℕ, true, is_some, take, IfOk, IsTrue, OnOk, OnErr, IfErr};
 ghost use Rattle.std.specs.Io.KnownBytes.{Appends};
 ghost use Rattle.pfl_lines.specs.declared.search.ScriptLine.TheVariants as script;
-ghost use Rattle.pfl_script.specs.Answers.{answer_to, kept_answer, kept_bad, kept_command, sought_by};
+ghost use Rattle.pfl_script.specs.Answers.{answer_to, kept_answer, kept_bad, kept_command, sought_by, MayWant};
 ghost use Rattle.pfl_script.specs.inner.Answers.{Breaks};
+ghost use Rattle.pfl_reader.specs.Saids.{kept_said};
 ghost use Rattle.pfl_reader.specs.Scans.{has_word};
 ghost use Rattle.pfl_script.specs.Readers.{IsWriteFault};
 ghost use Rattle.pfl_script.specs.Replies.{reply_text};
 ghost use Rattle.pfl_script.specs.Searches.{finding_text};
 ghost use Rattle.pfl_timeline.specs.Commands.{show_command};
+ghost use Rattle.pfl_timeline.specs.Memory.{MayWantMemory};
 ghost use Rattle.pfl_timeline.specs.Searches.{finding};
+ghost use Rattle.pfl_timeline.specs.Timelines.{branch_of};
 
 use crate::fault::EngineFault;
 use crate::found::write_finding;
@@ -37,6 +40,7 @@ fn answer_show<A: Allocator, B: Allocator + Copy, W: Output>(
     ensures untouched { IfErr result (λ e. e ≡ EngineFault.NoMemory → writer.new ≡ writer.old) }
     ensures part { OnErr result ((n : ℕ)
         × Appends (W.written writer.old) (W.written writer.new) (take n (reply_text (show_command timeline.now name.now).reply))) }
+    ensures memory { IfErr result (λ e. e ≡ EngineFault.NoMemory → MayWantMemory timeline.now (Command.On name.now Ask.Show)) }
     ensures fault { IfErr result (λ e. IsWriteFault e (W.has_failed writer.new)) }
 {
     match timeline.shown(name) {
@@ -58,10 +62,11 @@ fn answer_reply<A: Allocator + Copy, B: Allocator + Copy, W: Output>(
     ensures timeline { OnOk result (timeline.new ≡ (answer_to (Ok (script.Command command)) timeline.old).timeline) }
     ensures text { OnOk result (Appends (W.written writer.old) (W.written writer.new) (answer_to (Ok (script.Command command)) timeline.old).text) }
     ensures stays { OnOk result (W.has_failed writer.new ≡ W.has_failed writer.old) }
-    ensures breaks { OnErr result (Breaks (answer_to (Ok (script.Command command)) timeline.old) timeline.old timeline.new
+    ensures breaks { IfErr result (λ e. e ≡ EngineFault.Write → Breaks (answer_to (Ok (script.Command command)) timeline.old) timeline.new
         (W.written writer.old) (W.written writer.new)) }
     ensures untouched { IfErr result (λ e. e ≡ EngineFault.NoMemory → writer.new ≡ writer.old) }
     ensures unchanged { IfErr result (λ e. e ≡ EngineFault.NoMemory → timeline.new ≡ timeline.old) }
+    ensures memory { IfErr result (λ e. e ≡ EngineFault.NoMemory → MayWantMemory timeline.old command) }
     ensures fault { IfErr result (λ e. IsWriteFault e (W.has_failed writer.new)) }
 {
     let Ok(reply) = timeline.command(command) else {
@@ -81,10 +86,11 @@ fn answer_command<A: Allocator + Copy, B: Allocator + Copy, W: Output>(
     ensures timeline { OnOk result (timeline.new ≡ (answer_to (Ok (script.Command command.now)) timeline.old).timeline) }
     ensures text { OnOk result (Appends (W.written writer.old) (W.written writer.new) (answer_to (Ok (script.Command command.now)) timeline.old).text) }
     ensures stays { OnOk result (W.has_failed writer.new ≡ W.has_failed writer.old) }
-    ensures breaks { OnErr result (Breaks (answer_to (Ok (script.Command command.now)) timeline.old) timeline.old timeline.new
+    ensures breaks { IfErr result (λ e. e ≡ EngineFault.Write → Breaks (answer_to (Ok (script.Command command.now)) timeline.old) timeline.new
         (W.written writer.old) (W.written writer.new)) }
     ensures untouched { IfErr result (λ e. e ≡ EngineFault.NoMemory → writer.new ≡ writer.old) }
     ensures unchanged { IfErr result (λ e. e ≡ EngineFault.NoMemory → timeline.new ≡ timeline.old) }
+    ensures memory { IfErr result (λ e. e ≡ EngineFault.NoMemory → MayWantMemory timeline.old command.now) }
     ensures fault { IfErr result (λ e. IsWriteFault e (W.has_failed writer.new)) }
 {
     match command {
@@ -115,6 +121,7 @@ fn answer_search<A: Allocator, B: Allocator + Copy, W: Output>(
     ensures part { OnErr result ((n : ℕ)
         × Appends (W.written writer.old)
         (W.written writer.new) (take n (finding_text (finding timeline.old search.now.branch (sought_by search.now))))) }
+    ensures memory { IfErr result (λ e. e ≡ EngineFault.NoMemory → IsTrue (is_some (branch_of timeline.old search.now.branch))) }
     ensures fault { IfErr result (λ e. IsWriteFault e (W.has_failed writer.new)) }
 {
     let choices = search.choices.as_slice();
@@ -141,9 +148,11 @@ fn answer_said<A: Allocator + Copy, B: Allocator + Copy, W: Output>(
     ensures timeline { OnOk result (timeline.new ≡ (answer_to (Ok said) timeline.old).timeline) }
     ensures text { OnOk result (Appends (W.written writer.old) (W.written writer.new) (answer_to (Ok said) timeline.old).text) }
     ensures stays { OnOk result (W.has_failed writer.new ≡ W.has_failed writer.old) }
-    ensures breaks { OnErr result (Breaks (answer_to (Ok said) timeline.old) timeline.old timeline.new (W.written writer.old) (W.written writer.new)) }
+    ensures breaks { IfErr result (λ e. e ≡ EngineFault.Write → Breaks (answer_to (Ok said) timeline.old) timeline.new
+        (W.written writer.old) (W.written writer.new)) }
     ensures untouched { IfErr result (λ e. e ≡ EngineFault.NoMemory → writer.new ≡ writer.old) }
     ensures unchanged { IfErr result (λ e. e ≡ EngineFault.NoMemory → timeline.new ≡ timeline.old) }
+    ensures memory { IfErr result (λ e. e ≡ EngineFault.NoMemory → MayWant (Ok said) timeline.old) }
     ensures fault { IfErr result (λ e. IsWriteFault e (W.has_failed writer.new)) }
 {
     match said {
@@ -167,10 +176,12 @@ fn answer_searching<A: Allocator + Copy, B: Allocator + Copy, W: Output>(
     ensures timeline { OnOk result (timeline.new ≡ (kept_answer line.now timeline.old).timeline) }
     ensures text { OnOk result (Appends (W.written writer.old) (W.written writer.new) (kept_answer line.now timeline.old).text) }
     ensures stays { OnOk result (W.has_failed writer.new ≡ W.has_failed writer.old) }
-    ensures breaks { OnErr result (Breaks (kept_answer line.now timeline.old) timeline.old timeline.new (W.written writer.old) (W.written writer.new)) }
+    ensures breaks { IfErr result (λ e. e ≡ EngineFault.Write → Breaks (kept_answer line.now timeline.old) timeline.new
+        (W.written writer.old) (W.written writer.new)) }
     ensures command { IfErr result (λ e. e ≡ EngineFault.NoMemory → kept_command line.now ≡ true) }
     ensures untouched { IfErr result (λ e. e ≡ EngineFault.NoMemory → writer.new ≡ writer.old) }
     ensures unchanged { IfErr result (λ e. e ≡ EngineFault.NoMemory → timeline.new ≡ timeline.old) }
+    ensures memory { IfErr result (λ e. e ≡ EngineFault.NoMemory → MayWant (kept_said line.now) timeline.old) }
     ensures fault { IfErr result (λ e. IsWriteFault e (W.has_failed writer.new)) }
 {
     match line.parse() {
@@ -198,10 +209,12 @@ pub fn answer_line<A: Allocator + Copy, B: Allocator + Copy, W: Output>(
     ensures timeline { OnOk result (timeline.new ≡ (kept_answer line.now timeline.old).timeline) }
     ensures text { OnOk result (Appends (W.written writer.old) (W.written writer.new) (kept_answer line.now timeline.old).text) }
     ensures stays { OnOk result (W.has_failed writer.new ≡ W.has_failed writer.old) }
-    ensures breaks { OnErr result (Breaks (kept_answer line.now timeline.old) timeline.old timeline.new (W.written writer.old) (W.written writer.new)) }
+    ensures breaks { IfErr result (λ e. e ≡ EngineFault.Write → Breaks (kept_answer line.now timeline.old) timeline.new
+        (W.written writer.old) (W.written writer.new)) }
     ensures command { IfErr result (λ e. e ≡ EngineFault.NoMemory → kept_command line.now ≡ true) }
     ensures untouched { IfErr result (λ e. e ≡ EngineFault.NoMemory → writer.new ≡ writer.old) }
     ensures unchanged { IfErr result (λ e. e ≡ EngineFault.NoMemory → timeline.new ≡ timeline.old) }
+    ensures memory { IfErr result (λ e. e ≡ EngineFault.NoMemory → MayWant (kept_said line.now) timeline.old) }
     ensures fault { IfErr result (λ e. IsWriteFault e (W.has_failed writer.new)) }
 {
     if !line.has_word() {

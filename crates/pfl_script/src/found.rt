@@ -1,10 +1,11 @@
 //! The answers to searches.
 
-ghost use Rattle.std.specs.Prelude.{◌≡◌, ◌+◌, ◌≤◌, ◌++◌, ℕ, take, IfErr, IfOk, OnErr, OnOk};
+ghost use Rattle.std.specs.Prelude.{◌≡◌, ◌+◌, ◌≤◌, ◌++◌, ℕ, true, take, IfErr, IfOk, OnErr, OnOk};
 ghost use Rattle.std.specs.Io.KnownBytes.{Appends};
 ghost use Rattle.pfl_script.specs.Readers.{IsWriteFault};
 ghost use Rattle.arrayvec.specs.ArrayString.{array_string_len};
 ghost use Rattle.pfl_script.specs.Searches.{finding_text, found_line, found_text, length_text};
+ghost use Rattle.pfl_script.specs.inner.Answers.{is_run};
 ghost use Rattle.pfl_script.specs.inner.Texts.{bytes_of};
 ghost use Rattle.pfl_timeline.specs.Searches.{GaveUp, Nothing, finding_of};
 
@@ -92,7 +93,8 @@ fn text_of<'a, A: Allocator, B: Allocator>(
     alloc: A,
     finding: &Finding<B>,
 ) -> Result<ReplyText<'a, A>, NoMemory>
-    ensures { IfOk result (λ text. bytes_of text ≡ finding_text (finding_of finding.now)) }
+    ensures bytes { IfOk result (λ text. bytes_of text ≡ finding_text (finding_of finding.now)) }
+    ensures memory { OnErr result (is_run (finding_of finding.now) ≡ true) }
 {
     Ok(match finding {
         Finding::Found { name, run, tried } => {
@@ -109,7 +111,7 @@ fn text_of<'a, A: Allocator, B: Allocator>(
     })
 }
 
-/// Writes the answer to a search, or the first part of it. Without memory for it nothing is written.
+/// Writes the answer to a search, or the first part of it. Without memory for it nothing is written; none is wanted but for that of a run.
 pub(crate) fn write_finding<A: Allocator, B: Allocator, W: Output>(
     alloc: A,
     finding: &Finding<B>,
@@ -119,6 +121,7 @@ pub(crate) fn write_finding<A: Allocator, B: Allocator, W: Output>(
     ensures stays { OnOk result (W.has_failed writer.new ≡ W.has_failed writer.old) }
     ensures untouched { IfErr result (λ e. e ≡ EngineFault.NoMemory → writer.new ≡ writer.old) }
     ensures part { OnErr result ((n : ℕ) × Appends (W.written writer.old) (W.written writer.new) (take n (finding_text (finding_of finding.now)))) }
+    ensures memory { IfErr result (λ e. e ≡ EngineFault.NoMemory → is_run (finding_of finding.now) ≡ true) }
     ensures fault { IfErr result (λ e. IsWriteFault e (W.has_failed writer.new)) }
 {
     match text_of(alloc, finding) {

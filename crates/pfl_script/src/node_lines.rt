@@ -8,7 +8,7 @@ use pfl_base::NodeId;
 use pfl_bulk::{BulkClient, BulkServer};
 use pfl_edits::NoMemory;
 use pfl_queue::Kind;
-use pfl_timeline::{Counters, Node};
+use pfl_timeline::{Counters, Parts};
 use std::alloc::Allocator;
 
 /// A mark that is set or not, as 1 or 0.
@@ -55,7 +55,7 @@ fn push_client<A: Allocator>(text: &mut Vec<u8, A>, client: BulkClient) -> Resul
 #[tactic(auto, unfolding(crate::specs::Shows::numbers_text))]
 fn push_numbers<A: Allocator, B: Allocator>(
     text: &mut Vec<u8, A>,
-    node: &Node<B>,
+    node: &Parts<B>,
 ) -> Result<(), NoMemory>
     ensures { OnOk result (text.new.items ≡ text.old.items ++ numbers_text node.now.clock node.now.creator node.now.next_id node.now.queue.next) }
 {
@@ -90,7 +90,7 @@ fn push_bulk<A: Allocator>(
 pub fn push_node_line<A: Allocator, B: Allocator>(
     text: &mut Vec<u8, A>,
     id: NodeId,
-    node: &Node<B>,
+    node: &Parts<B>,
 ) -> Result<(), NoMemory>
     ensures { OnOk result (text.new.items ≡ text.old.items ++ node_line id node.now) }
 {

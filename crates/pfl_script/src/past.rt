@@ -4,7 +4,10 @@ ghost use Rattle.std.specs.Prelude.{◌≡◌, ℕ, take, OnOk, OnErr, IfErr};
 ghost use Rattle.std.specs.Io.KnownBytes.{Appends};
 ghost use Rattle.pfl_script.specs.Readers.{IsWriteFault};
 ghost use Rattle.pfl_script.specs.Replies.{reply_text};
+ghost use Rattle.pfl_language.specs.declared.ask.Ask.TheVariants as ask;
+ghost use Rattle.pfl_language.specs.declared.command.Command.TheVariants as command;
 ghost use Rattle.pfl_timeline.specs.Commands.{past_command};
+ghost use Rattle.pfl_timeline.specs.Memory.{MayWantMemory};
 
 use crate::fault::EngineFault;
 use crate::output::{write_reply, write_text};
@@ -57,6 +60,7 @@ pub(crate) fn answer_past<A: Allocator + Copy, B: Allocator + Copy, W: Output>(
     ensures untouched { IfErr result (λ e. e ≡ EngineFault.NoMemory → writer.new ≡ writer.old) }
     ensures part { OnErr result ((n : ℕ)
         × Appends (W.written writer.old) (W.written writer.new) (take n (reply_text (past_command timeline.old name.now place).reply))) }
+    ensures memory { IfErr result (λ e. e ≡ EngineFault.NoMemory → MayWantMemory timeline.old (command.On name.now (ask.Past place))) }
     ensures fault { IfErr result (λ e. IsWriteFault e (W.has_failed writer.new)) }
 {
     match timeline.past(name, place, &Writing { alloc }, writer) {

@@ -15,7 +15,7 @@ use pfl_edits::{InOrder, NoMemory};
 use pfl_link::{Link, Ticketed};
 use pfl_queue::Pending;
 use pfl_table::StateTable;
-use pfl_timeline::{Node, World};
+use pfl_timeline::{Parts, World};
 use std::alloc::Allocator;
 
 /// Appends the line of a branch to a text.
@@ -62,7 +62,7 @@ fn push_queue<A: Allocator, B: Allocator + Copy>(
 fn push_node<A: Allocator, B: Allocator + Copy>(
     text: &mut Vec<u8, A>,
     id: NodeId,
-    node: &Node<B>,
+    node: &Parts<B>,
 ) -> Result<(), NoMemory>
     ensures { OnOk result (text.new.items ≡ text.old.items ++ node_lines id node.now) }
 {
@@ -129,8 +129,8 @@ pub fn shown_text<A: Allocator, B: Allocator + Copy>(
 {
     let mut text = Vec::new(alloc);
     push_branch(&mut text, name, events, cursor)?;
-    push_node(&mut text, NodeId::A, world.node(NodeId::A))?;
-    push_node(&mut text, NodeId::B, world.node(NodeId::B))?;
+    push_node(&mut text, NodeId::A, world.node(NodeId::A).parts())?;
+    push_node(&mut text, NodeId::B, world.node(NodeId::B).parts())?;
     push_link(&mut text, world.link(), world.next_boot())?;
     text.extend_from_slice(b"end\n")?;
     Ok(text)

@@ -78,6 +78,6 @@ fn any_differs<A: Allocator>(others: &StateTable<A>, mut rows: InOrder<'_, Row>)
 pub(crate) fn are_differing<A: Allocator + Copy>(world: &World<A>) -> bool
     ensures { result ≡ are_differing world.now }
 {
-    let rows = world.node(NodeId::A).states().iter();
-    any_differs(world.node(NodeId::B).states(), rows)
+    let rows = world.node(NodeId::A).parts().states().iter();
+    any_differs(world.node(NodeId::B).parts().states(), rows)
 }

@@ -84,7 +84,7 @@ fn is_landed<A: Allocator>(world: &World<A>) -> bool
 fn is_quiet<A: Allocator>(world: &World<A>, id: NodeId) -> bool
     ensures { result ≡ is_quiet world.now id }
 {
-    let node = world.node(id);
+    let node = world.node(id).parts();
     let serves = !matches!(node.server(), BulkServer::Idle);
     node.queue().is_empty() && !serves
 }
@@ -93,7 +93,7 @@ fn is_quiet<A: Allocator>(world: &World<A>, id: NodeId) -> bool
 fn is_idle<A: Allocator>(world: &World<A>, id: NodeId) -> bool
     ensures { result ≡ is_idle world.now id }
 {
-    let waits = !matches!(world.node(id).client(), BulkClient::Idle);
+    let waits = !matches!(world.node(id).parts().client(), BulkClient::Idle);
     is_quiet(world, id) && !waits
 }
 

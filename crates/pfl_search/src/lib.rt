@@ -18,7 +18,7 @@ mod turns;
 pub use laws::searches_are_exhaustive;
 pub use order::{EventKind, Last};
 pub use pfl_language::{Choice, Goal, Move, Question, Scope};
-pub use pfl_world::{Counters, Node, World, WorldFault, WorldTape};
+pub use pfl_world::{Counters, Parts, World, WorldFault, WorldTape};
 pub use runs::{Searched, search};
 pub use shortest::search_shortest;
 pub use stopped::Stopped;

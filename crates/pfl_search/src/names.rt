@@ -30,6 +30,6 @@ fn same_names(mut rows: InOrder<'_, Row>, mut others: InOrder<'_, Row>) -> bool
 pub(crate) fn are_apart<A: Allocator + Copy>(world: &World<A>) -> bool
     ensures { result ≡ are_apart world.now }
 {
-    let names = world.node(NodeId::A).states().iter();
-    !same_names(names, world.node(NodeId::B).states().iter())
+    let names = world.node(NodeId::A).parts().states().iter();
+    !same_names(names, world.node(NodeId::B).parts().states().iter())
 }

@@ -1,9 +1,11 @@
--- The lines that only a session has as replies (this project's profile).
+-- The lines that only a session has as replies, and the messages of the faults of a service (this project's profile).
 use Rattle.std.specs.Prelude.{ℕ, ◌-◌, ◌%◌, Bool, ◌&&◌, ◌==◌, nat_le, min, List, [], ◌∷◌, ◌++◌, codes, if◌then◌else◌, Option, Some, None}
 use Rattle.std.specs.List.{flat_map}
 use Rattle.std.specs.Fmt.{decimal}
 use Rattle.pfl_language.specs.declared.command.Command.{Command}
 use Rattle.pfl_script.specs.Entries.{entry_text}
+use Rattle.pfl_serve.specs.declared.seat.ServeFault.{ServeFault}
+use Rattle.pfl_serve.specs.declared.seat.ServeFault.TheVariants as fault
 
 -- a number, after a space
 abbrev pub numbered : ℕ → List ℕ
@@ -44,3 +46,8 @@ behind_text at now = if is_behind at now then codes "behind " ++ decimal at ++ c
 -- the lines of an entry: its number, its session and its command, and what is shown after it
 abbrev pub sent_text : ℕ → ℕ → ℕ → Command → List ℕ
 sent_text at now session command = entry_text at session command ++ behind_text at now
+
+-- why no session's end is reported
+abbrev pub serve_fault_text : ServeFault → List ℕ
+serve_fault_text fault.NoThread = codes "no thread"
+serve_fault_text fault.NoMemory = codes "no memory"

@@ -4,6 +4,7 @@
 //! nobody, for the lines of the `setup`, and to `follow` the journal. Several sessions are served at the same time, one thread each.
 #![tactic(auto)]
 
+mod asked;
 mod closing;
 mod following;
 mod gate;

@@ -32,6 +32,11 @@ pub enum ServeFault {
 }
 
 impl fmt::Display for ServeFault {
+    ghost use Rattle.std.specs.Prelude.{Some};
+    ghost use Rattle.pfl_serve.specs.Texts.{serve_fault_text};
+
+    ghost output = { λ fault. Some (serve_fault_text fault) };
+
     fn fmt<W: fmt::Write>(&self, f: &mut fmt::Formatter<W>) -> fmt::Result {
         f.write_str(match self {
             ServeFault::NoThread => "no thread",

@@ -8,17 +8,17 @@ ghost use Rattle.pfl_serve.specs.Seats.{site_of};
 ghost use Rattle.pfl_serve.specs.Sessions.{asks_follow, is_fault, IsAnswer, IsBegun, IsReplied, IsViewed, Lacks, ServesUntil, ServesWhole};
 ghost use Rattle.pfl_serve.specs.inner.Answers.{kept_said, is_command, Breaks, HasCome, Nothing, Unanswered, Writes};
 
+use crate::asked::write_asked;
 use crate::gate::Gate;
 use crate::seat::Seat;
 use crate::service::Service;
-use crate::texts::{FULL, overtaken_line, view_line};
+use crate::texts::{overtaken_line, view_line};
 use pfl_base::{Input, Output};
 use pfl_language::Command;
 use pfl_script::{
-    Ended, EngineFault, Line, LineFault, SessionLine, ShortLine, fault_line, write_reply,
-    write_text,
+    Ended, EngineFault, Line, LineFault, SessionLine, ShortLine, fault_line, write_text,
 };
-use pfl_session::{AskFault, Lab, Pass, Which};
+use pfl_session::{Lab, Pass, Which};
 use std::alloc::Allocator;
 use std::sync::Wait;
 
@@ -116,11 +116,8 @@ impl<J: Which, A: Allocator + Copy, B: Allocator + Copy, G: Gate, R: Wait> Servi
         ensures stays { OnOk result (W.has_failed writer.new ≡ W.has_failed writer.old) }
         ensures fault { IfErr result (λ e. IsWriteFault e (W.has_failed writer.new)) }
     {
-        match self.lab.ask(self.service.rt, pass, command) {
-            Ok(reply) => write_reply(self.service.alloc, &reply, writer),
-            Err(AskFault::JournalFull) => write_text(writer, FULL.as_bytes()),
-            Err(AskFault::NoMemory) => Err(EngineFault::NoMemory),
-        }
+        let asked = self.lab.ask(self.service.rt, pass, command);
+        write_asked(self.service.alloc, asked, writer)
     }
 
     /// Takes the session's nth command through the gate.

@@ -1,3 +1,4 @@
+pub mod Faults
 pub mod Totals
 pub mod Journals
 pub mod Listings

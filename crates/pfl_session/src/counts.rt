@@ -45,8 +45,8 @@ impl Counts {
         branch.known();
         let world = branch.world();
         world.known();
-        let a = world.node(NodeId::A);
-        let b = world.node(NodeId::B);
+        let a = world.node(NodeId::A).parts();
+        let b = world.node(NodeId::B).parts();
         Counts {
             events: branch.events().len() as u64,
             cursors: branch.cursor() as u64,

@@ -15,6 +15,11 @@ pub enum LabFault {
 }
 
 impl fmt::Display for LabFault {
+    ghost use Rattle.std.specs.Prelude.{Some};
+    ghost use Rattle.pfl_session.specs.Faults.{lab_fault_text};
+
+    ghost output = { λ fault. Some (lab_fault_text fault) };
+
     fn fmt<W: fmt::Write>(&self, f: &mut fmt::Formatter<W>) -> fmt::Result {
         f.write_str(match self {
             LabFault::Sessions => "no such number of sessions",
@@ -58,6 +63,11 @@ pub enum AskFault {
 }
 
 impl fmt::Display for AskFault {
+    ghost use Rattle.std.specs.Prelude.{Some};
+    ghost use Rattle.pfl_session.specs.Faults.{ask_fault_text};
+
+    ghost output = { λ fault. Some (ask_fault_text fault) };
+
     fn fmt<W: fmt::Write>(&self, f: &mut fmt::Formatter<W>) -> fmt::Result {
         f.write_str(match self {
             AskFault::JournalFull => "the journal is full",

@@ -36,7 +36,7 @@ pub use opened::{MOST_ENTRIES, Opened};
 pub use pass::Pass;
 pub use pfl_publish::{Overtaken, Revision};
 pub use pfl_timeline::{
-    Against, Branch, Events, Explained, Explanation, FrameStep, FrameTrace, InFlight, Node, Reply,
+    Against, Branch, Events, Explained, Explanation, FrameStep, FrameTrace, InFlight, Parts, Reply,
     Timeline, World,
 };
 pub use which::Which;

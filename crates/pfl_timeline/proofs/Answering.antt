@@ -20,6 +20,7 @@ use Rattle.pfl_timeline.specs.Answers.{explanation, answer}
 use Rattle.pfl_timeline.specs.Commands.{replied, with_branch, with_changed, in_place, fork_reply, drop_reply, command_step}
 use Rattle.pfl_timeline.specs.Excisions.{has_event, excised, fallen_places, restored}
 use Rattle.pfl_timeline.specs.Laws.{changes}
+use Rattle.pfl_timeline.specs.Memory.{is_refusal}
 use Rattle.pfl_timeline.specs.Replies.{Reply, Replied, Stepped as StepReply, Shown, Excised, Restored, Refused as Refusing}
 use Rattle.pfl_timeline.specs.Rooted.{Rooted}
 use Rattle.pfl_timeline.specs.Sizes.{is_listing}
@@ -111,9 +112,20 @@ keeps-name opening b = each (λ a. IfSome a.changed (λ c. c.name ≡ b.name)) o
   restored = λ _ _. refl;
 })
 
--- an answer of no fixed size leaves the branch as it is
+-- an answer that may want memory for its text leaves the branch as it is
 pub listing-stays : (opening : World) (b : Branch) (q : Ask) → IsTrue (is_listing (answer opening b q).reply) → (answer opening b q).changed ≡ None
 listing-stays opening b = each (λ a. IsTrue (is_listing a.reply) → a.changed ≡ None) opening b (record {
+  said = λ _ _. refl;
+  stepped = λ _ _ _ _ _ is. absurd (both_ways false refl is);
+  back = λ _ _ is. absurd (both_ways false refl is);
+  forward = λ _ _ is. absurd (both_ways false refl is);
+  excised = λ _ _ is. absurd (both_ways false refl is);
+  restored = λ _ _ is. absurd (both_ways false refl is);
+})
+
+-- an answer that refuses leaves the branch as it is
+pub refusing-stays : (opening : World) (b : Branch) (q : Ask) → IsTrue (is_refusal (answer opening b q).reply) → (answer opening b q).changed ≡ None
+refusing-stays opening b = each (λ a. IsTrue (is_refusal a.reply) → a.changed ≡ None) opening b (record {
   said = λ _ _. refl;
   stepped = λ _ _ _ _ _ is. absurd (both_ways false refl is);
   back = λ _ _ is. absurd (both_ways false refl is);

@@ -21,6 +21,7 @@ use Rattle.pfl_reasons.specs.Explaining.{explained}
 use Rattle.pfl_timeline.specs.Commands.{replied, with_changed, step_command, show_command, past_command, why_command, why_step_command, log_command}
 use Rattle.pfl_timeline.specs.Commands.{command_step, replayed}
 use Rattle.pfl_timeline.specs.Excisions.{without, has_event}
+use Rattle.pfl_timeline.specs.Memory.{is_refusal}
 use Rattle.pfl_timeline.specs.Replies as reply
 use Rattle.pfl_timeline.specs.Replies.{Reply}
 use Rattle.pfl_timeline.specs.Timelines.{Branch, Timeline, IsTimeline, branch_of, new_timeline, standing, world_of}
@@ -70,6 +71,10 @@ changes _ = false
 -- a question that only looks at a branch changes nothing
 abbrev pub LooksChangeNothing : Type 0
 LooksChangeNothing = (t : Timeline) (name : List ℕ) (q : Ask) → IsFalse (changes q) → (command_step t (command.On name q)).timeline ≡ t
+
+-- a command that is refused changes nothing
+abbrev pub RefusedCommandsChangeNothing : Type 0
+RefusedCommandsChangeNothing = (t : Timeline) (c : Command) → IsTrue (is_refusal (command_step t c).reply) → (command_step t c).timeline ≡ t
 
 -- the command changes, makes or removes the branch of this name
 abbrev pub touches : Command → List ℕ → Bool

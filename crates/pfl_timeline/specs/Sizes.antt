@@ -1,4 +1,4 @@
--- Which replies are of no fixed size (this project's profile).
+-- Which replies may want memory for their text, or for a copy beside the places that it lists (this project's profile).
 use Rattle.std.specs.Prelude.{Bool, true, false, ◌||◌}
 use Rattle.pfl_timeline.specs.Replies.{Reply, Shown, Names, Logged, Explained, Traced}
 
@@ -15,6 +15,6 @@ tells_at_length (Traced name ticket trace) = true
 tells_at_length (Names names) = true
 tells_at_length _ = false
 
--- no number bounds the size of the reply
+-- the text of the reply may want memory, and so may its copy; that of any other reply is written without, also where it lists places
 abbrev pub is_listing : Reply → Bool
 is_listing reply = is_large reply || tells_at_length reply

@@ -3,7 +3,7 @@
 ghost use Rattle.pfl_timeline.specs.Laws.{NewTimelinesAreTimelines, CommandsKeepTimelines, BranchesShowWorlds, BranchesShowTheirRuns};
 ghost use Rattle.pfl_timeline.specs.Laws.{LooksChangeNothing, CommandsLeaveOthers, PastsAreShown, WhysAreSteps, WhysForetellSteps, ExcisionsAreRunsWithout};
 ghost use Rattle.pfl_timeline.specs.Laws.{ExcisionsLeaveStanding, ExcisionsReportTheRefused, NothingElseFallsOut, RestorationsTakeBack};
-ghost use Rattle.pfl_timeline.specs.Laws.{NoReplyReportsWantOfMemory, StepsAreRuns};
+ghost use Rattle.pfl_timeline.specs.Laws.{NoReplyReportsWantOfMemory, RefusedCommandsChangeNothing, StepsAreRuns};
 
 /// The timeline that opens over a world keeps all that is true of each timeline.
 pub fn new_timelines_are_timelines()
@@ -39,6 +39,11 @@ pub fn whys_foretell_steps()
 /// A question that only looks at a branch changes nothing.
 pub fn looks_change_nothing()
     ensures { LooksChangeNothing }
+{}
+
+/// A command that is refused changes nothing.
+pub fn refused_commands_change_nothing()
+    ensures { RefusedCommandsChangeNothing }
 {}
 
 /// A command leaves every branch but the one that it changes as it was.

@@ -48,7 +48,7 @@ impl<A: Allocator> Desk<A> {
         ensures node { self.new.node ≡ to.not_waiting self.old.node name }
         ensures writes { Writes 1 self.old self.new }
     {
-        let Some(state) = self.states().by_name(name).copied() else {
+        let Some(state) = self.parts().states().by_name(name).copied() else {
             return;
         };
         self.replace_state(Slot::UNKNOWN, state.with_ack_wanted(false));
@@ -111,7 +111,7 @@ impl<A: Allocator> Desk<A> {
         match state.proto() {
             Proto::Tcp => {
                 let updates = state.updates().saturating_add(1);
-                let many = self.limits().maxupd <= u32::from(updates);
+                let many = self.parts().limits().maxupd <= u32::from(updates);
                 self.replace_state(slot, state.with_updates(updates));
                 self.push_if(many);
             }
@@ -123,7 +123,7 @@ impl<A: Allocator> Desk<A> {
     fn is_unannounced(&self, name: StateName) -> bool
         ensures unannounced { result ≡ to.is_unannounced (kind_of self.now.node.queue name) }
     {
-        match self.queue().kind_of(name) {
+        match self.parts().queue().kind_of(name) {
             None | Some(Kind::InsertAck) => true,
             Some(_) => false,
         }
@@ -134,7 +134,7 @@ impl<A: Allocator> Desk<A> {
         ensures recent { result ≡ to.is_recent self.now.node state.now }
     {
         match state.peer_change() {
-            Some(time) => self.clock().saturating_sub(time) < 2000,
+            Some(time) => self.parts().clock().saturating_sub(time) < 2000,
             None => false,
         }
     }
@@ -195,7 +195,7 @@ impl<A: Allocator> Desk<A> {
         ensures parts { AreParts self.now.node }
     {
         self.known();
-        !is_insert(self.queue().kind_of(state.name())) && !state.no_sync()
+        !is_insert(self.parts().queue().kind_of(state.name())) && !state.no_sync()
     }
 }
 

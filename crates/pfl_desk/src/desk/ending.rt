@@ -13,6 +13,14 @@ use pfl_edits::{NoMemory, OfPart, Recorder, take_back};
 use std::alloc::Allocator;
 
 impl<A: Allocator> Desk<A> {
+    /// The next id, the next queueing number or a counter is past the greatest.
+    pub fn is_overcounted(&self) -> bool
+        ensures counted { result ≡ is_overcounted self.now.node }
+        ensures room { is_overfull self.now.node ≡ false }
+    {
+        self.parts.is_overcounted()
+    }
+
     /// Judges an event that was carried out and that goes through no point before its end: `tried` is its answer, or that it stopped
     /// where too much was pending.
     pub fn judge<T: Copy>(&self, tried: Result<T, Overfull>) -> Result<T, Refusal>

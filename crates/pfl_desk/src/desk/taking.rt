@@ -41,7 +41,7 @@ impl<A: Allocator> Desk<A> {
             (maps.get self.old.node.states name) self.old.node }
         ensures writes { Writes 1 self.old self.new }
     {
-        let Some(state) = self.states().by_name(name).copied() else {
+        let Some(state) = self.parts().states().by_name(name).copied() else {
             return;
         };
         self.replace_state(Slot::UNKNOWN, state.with_updates(0));

@@ -32,7 +32,7 @@ impl<A: Allocator> Parts<A> {
         ensures node { self.new ≡ to.put_state self.old state }
         ensures makes { Makes (result ∷ []) self.old self.new }
     {
-        let timeout = self.timeout(&state);
+        let timeout = self.rule_timeout(&state);
         self.table.add(&state, timeout);
         NodeEdit::OfState(StateEdit {
             name: state.name(),
@@ -131,13 +131,13 @@ impl<A: Allocator> Parts<A> {
         ensures timeout { IfSome at.now (λ s. result ≡ timeout_by self.now.rules s) }
     {
         match at {
-            Some(state) => self.timeout(state),
+            Some(state) => self.rule_timeout(state),
             None => 0,
         }
     }
 
     /// The timeout of a state under the node's rules, in seconds.
-    fn timeout(&self, state: &State) -> u32
+    fn rule_timeout(&self, state: &State) -> u32
         ensures timeout { result ≡ timeout_by self.now.rules state.now }
     {
         self.rules.timeout(state.rule(), state.class())

@@ -10,16 +10,16 @@ ghost use Rattle.pfl_node.specs.Starting as starting;
 
 use pfl_base::{Dir, Packet};
 use pfl_language::Fate;
-use pfl_receive::{Desk, Slot};
+use pfl_receive::{Desk, Parts, Slot};
 use pfl_track::State;
 use std::alloc::Allocator;
 
 /// A packet is held on its way out, where deferring is on.
-pub(crate) fn is_deferred<A: Allocator>(desk: &Desk<A>, dir: Dir) -> bool
-    ensures deferred { result ≡ starting.is_deferred desk.now.node dir }
+pub(crate) fn is_deferred<A: Allocator>(parts: &Parts<A>, dir: Dir) -> bool
+    ensures deferred { result ≡ starting.is_deferred parts.now dir }
 {
     match dir {
-        Dir::Outbound => desk.limits().defer,
+        Dir::Outbound => parts.limits().defer,
         Dir::Inbound => false,
     }
 }
@@ -44,7 +44,7 @@ fn make_room<A: Allocator>(desk: &mut Desk<A>)
     ensures node { desk.new.node ≡ starting.with_room desk.old.node }
     ensures writes { Writes 3 desk.old desk.new }
 {
-    let Some(held) = desk.held().pushed_out() else {
+    let Some(held) = desk.parts().held().pushed_out() else {
         return;
     };
     desk.release(held.name);

@@ -14,7 +14,7 @@ ghost use Rattle.pfl_receive.specs.table.Translating.{fits_translation};
 use crate::packet::hold::{hold_back, is_deferred};
 use pfl_base::{Dir, Packet, StateName};
 use pfl_language::{Fate, Reason};
-use pfl_receive::{Counter, Desk, Kind, Overfull};
+use pfl_receive::{Counter, Desk, Kind, Overfull, Parts};
 use pfl_rules::Rule;
 use pfl_track::{State, start_state, started_by};
 use std::alloc::Allocator;
@@ -29,14 +29,15 @@ pub(crate) fn judge<A: Allocator>(
     requires room { 9 ≤ desk.old.edits.spare }
     ensures done { Tried 9 result desk.old desk.new (starting.judged desk.old.node dir packet.now) }
 {
-    let verdict = desk.rules().verdict(packet, dir);
+    let rules = desk.parts().rules();
+    let verdict = rules.verdict(packet, dir);
     if !verdict.pass {
         return Ok(drop_packet(desk, Reason::Block));
     }
     let Some(number) = verdict.rule else {
         return Ok(pass(desk, None));
     };
-    let Some(rule) = desk.rules().rule(number) else {
+    let Some(rule) = rules.rule(number) else {
         return Ok(pass(desk, None));
     };
     start(desk, dir, packet, number, &rule)
@@ -56,17 +57,19 @@ fn start<A: Allocator>(
     requires room { 9 ≤ desk.old.edits.spare }
     ensures done { Tried 9 result desk.old desk.new (starting.started desk.old.node dir packet.now number rule.now) }
 {
-    if is_at_max(desk, number, rule) {
+    let parts = desk.parts();
+    if is_at_max(parts, number, rule) {
         return Ok(drop_packet(desk, Reason::Max));
     }
-    if desk.states().is_full() {
+    let states = parts.states();
+    if states.is_full() {
         return Ok(drop_packet(desk, Reason::Full));
     }
-    let keys = desk.states().new_keys(rule, packet, dir);
-    if desk.states().has_either(&keys) {
+    let keys = states.new_keys(rule, packet, dir);
+    if states.has_either(&keys) {
         return Ok(drop_packet(desk, Reason::Key));
     }
-    let name = next_name(desk);
+    let name = next_name(parts);
     let started = start_state(
         name,
         keys,
@@ -74,29 +77,29 @@ fn start<A: Allocator>(
         packet,
         Some(number),
         rule.no_sync,
-        desk.clock(),
+        parts.clock(),
     );
-    let state = started_by(desk.kernel(), started);
+    let state = started_by(parts.kernel(), started);
     announce(desk, state, dir, packet)
 }
 
 /// The rule has as many states as it may.
-fn is_at_max<A: Allocator>(desk: &Desk<A>, number: u16, rule: &Rule) -> bool
-    ensures most { result ≡ starting.is_at_max desk.now.node number rule.now }
+fn is_at_max<A: Allocator>(parts: &Parts<A>, number: u16, rule: &Rule) -> bool
+    ensures most { result ≡ starting.is_at_max parts.now number rule.now }
 {
     match rule.max {
-        Some(max) => max as usize <= desk.states().count_of_rule(number),
+        Some(max) => max as usize <= parts.states().count_of_rule(number),
         None => false,
     }
 }
 
 /// The name of its next state.
-fn next_name<A: Allocator>(desk: &Desk<A>) -> StateName
-    ensures name { result ≡ starting.next_name desk.now.node }
+fn next_name<A: Allocator>(parts: &Parts<A>) -> StateName
+    ensures name { result ≡ starting.next_name parts.now }
 {
     StateName {
-        creator: desk.creator(),
-        id: desk.next_id(),
+        creator: parts.creator(),
+        id: parts.next_id(),
     }
 }
 
@@ -118,7 +121,7 @@ fn announce<A: Allocator>(
         return Ok(pass(desk, Some(name)));
     }
     desk.mark(name, Kind::Insert)?;
-    if is_deferred(desk, dir) {
+    if is_deferred(desk.parts(), dir) {
         return Ok(hold_back(desk, state, packet));
     }
     Ok(pass(desk, Some(name)))

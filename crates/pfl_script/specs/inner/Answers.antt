@@ -1,6 +1,7 @@
 -- Answers that are written in part.
-use Rattle.std.specs.Prelude.{◌≡◌, ℕ, Bool, List, length, take, Option, Result, OnOk, OnErr, IfErr, ◌⊎◌}
-use Rattle.std.specs.Io.KnownBytes.{Appends, Keeps as KeepsBytes}
+use Rattle.std.specs.Prelude.{◌≡◌, ℕ, Bool, true, false, List, length, take, Option, Result, OnOk, OnErr, IfErr}
+use Rattle.std.specs.Io.KnownBytes.{Appends}
+use Rattle.pfl_timeline.specs.Searches.{Finding, Found}
 use Rattle.pfl_timeline.specs.Timelines.{Branch, Timeline}
 use Rattle.pfl_timeline.specs.world.Worlds.{World}
 use Rattle.pfl_script.specs.Shows.{show_text}
@@ -11,9 +12,14 @@ use Rattle.pfl_script.specs.Replies.{reply_text}
 use Rattle.pfl_timeline.specs.Replies.{Reply}
 use Rattle.pfl_script.specs.Answers.{Answer}
 
--- the answer stands and its text was written in part, or nothing was done
-abbrev pub Breaks : Answer → Timeline → Timeline → Option (List ℕ) → Option (List ℕ) → Type 0
-Breaks answer t u w v = ((u ≡ answer.timeline) × ((n : ℕ) × Appends w v (take n answer.text))) ⊎ ((u ≡ t) × KeepsBytes w v)
+-- the answer stands, and its text was written in part
+abbrev pub Breaks : Answer → Timeline → Option (List ℕ) → Option (List ℕ) → Type 0
+Breaks answer u w v = (u ≡ answer.timeline) × ((n : ℕ) × Appends w v (take n answer.text))
+
+-- the answer to a search is a run
+abbrev pub is_run : Finding → Bool
+is_run (Found name run tried) = true
+is_run _ = false
 
 -- the lines that show a branch with its world
 abbrev pub branch_text : Branch → World → List ℕ

@@ -1,3 +1,4 @@
+use Rattle.pfl_receive.specs.desk.Nodes.{Node}
 use Rattle.std.proofs.Common.{◌≡◌, true, false, Some, None, ◌∙◌, ap, sym, arith}
 use Rattle.std.specs.Prelude.{◌==◌, if◌then◌else◌}
 use Rattle.pfl_base.specs.declared.refusal.Refusal.TheVariants.{NothingPending}
@@ -11,7 +12,7 @@ use Rattle.pfl_node.proofs.flush.send_next.Goals as goal
 pub returns-then-is_empty : goal.returns-then-is_empty
 returns-then-is_empty g c =
     let n = c.args.desk.now.node in
-    let none : (pending n.queue == 0) ≡ true = ap (λ (q : Queue). pending q == 0) (sym c.queue.ensures.queue)
+    let none : (pending n.queue == 0) ≡ true = ap (λ (q : Queue). pending q == 0) (sym (c.queue.ensures.queue ∙ ap (λ (k : Node). k.queue) c.parts.ensures.parts))
     ∙ (sym c.is_empty.ensures.empty ∙ c.if-is_empty.true) in
     record {
       does = at-once _ _ _ _ c.args.desk.now NothingPending (ap (λ b. if b then Some NothingPending else None) none);
@@ -30,7 +31,7 @@ pub returns : goal.returns
 returns g c =
     let a = c.args.desk.now in
     let d = c.send.ensures in
-    let some : (pending a.node.queue == 0) ≡ false = ap (λ (q : Queue). pending q == 0) (sym c.queue.ensures.queue)
+    let some : (pending a.node.queue == 0) ≡ false = ap (λ (q : Queue). pending q == 0) (sym (c.queue.ensures.queue ∙ ap (λ (k : Node). k.queue) c.parts.ensures.parts))
     ∙ (sym c.is_empty.ensures.empty ∙ c.if-is_empty.false) in
     let free : send_refusal a.node ≡ None = ap (λ b. if b then Some NothingPending else None) some in
     record {

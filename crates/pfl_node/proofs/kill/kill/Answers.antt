@@ -8,7 +8,7 @@ use Rattle.pfl_language.specs.declared.node_event.NodeOutcome.TheVariants.{Kille
 use Rattle.pfl_track.specs.declared.state.State.{State}
 use Rattle.pfl_receive.specs.table.Tables.{States}
 use Rattle.pfl_receive.specs.desk.Changes.{deleted}
-use Rattle.pfl_receive.specs.desk.Nodes.{points_refusal, refused_by, full_tests}
+use Rattle.pfl_receive.specs.desk.Nodes.{points_refusal, refused_by, full_tests, Node}
 use Rattle.pfl_node.specs.Killing.{kill_refusal, killed}
 use Rattle.pfl_node.proofs.Judged.{at-once, by-end, moved-to}
 use Rattle.pfl_node.proofs.Ready.{begins}
@@ -17,7 +17,7 @@ use Rattle.pfl_node.proofs.kill.kill.Goals as goal
 pub returns-in_default : goal.returns-in_default
 returns-in_default g c =
     let n = c.args.desk.now.node in
-    let at : maps.get n.states c.args.name ≡ None = ap (λ (m : States). maps.get m c.args.name) (sym c.states.ensures.states)
+    let at : maps.get n.states c.args.name ≡ None = ap (λ (m : States). maps.get m c.args.name) (sym (c.states.ensures.states ∙ ap (λ (k : Node). k.states) c.parts.ensures.parts))
     ∙ (sym c.by_name.ensures.state ∙ (sym c.copied.ensures ∙ c.in_default.is)) in
     at-once _ _ _ _ c.args.desk.now NoSuchState
     (ap (λ (o : Option State). refused_by ((is_none o, NoSuchState) ∷ full_tests (option_map_or (deleted n) o n ∷ []))) at)
@@ -26,7 +26,7 @@ pub delete-tried-requires : goal.delete-tried-requires
 delete-tried-requires g c =
     let n = c.args.desk.now.node in
     let room = (begins c.args.desk.now c.requires.idle.ready).room in
-    let at : maps.get n.states c.args.name ≡ Some c.in-Some.state = ap (λ (m : States). maps.get m c.args.name) (sym c.states.ensures.states)
+    let at : maps.get n.states c.args.name ≡ Some c.in-Some.state = ap (λ (m : States). maps.get m c.args.name) (sym (c.states.ensures.states ∙ ap (λ (k : Node). k.states) c.parts.ensures.parts))
     ∙ (sym c.by_name.ensures.state ∙ (sym c.copied.ensures ∙ c.in-Some.is)) in
     record { room = omega (arith, room); stands = ap (maps.get n.states) (c.requires.idle.node.parts.states.filed c.args.name c.in-Some.state at) ∙ at }
 
@@ -36,7 +36,7 @@ returns g c =
     let d = c.delete-tried.ensures in
     let j = c.judge.ensures in
     let s = c.in-Some.state in
-    let at : maps.get n.states c.args.name ≡ Some s = ap (λ (m : States). maps.get m c.args.name) (sym c.states.ensures.states)
+    let at : maps.get n.states c.args.name ≡ Some s = ap (λ (m : States). maps.get m c.args.name) (sym (c.states.ensures.states ∙ ap (λ (k : Node). k.states) c.parts.ensures.parts))
     ∙ (sym c.by_name.ensures.state ∙ (sym c.copied.ensures ∙ c.in-Some.is)) in
     let why : kill_refusal n c.args.name ≡ points_refusal (deleted n s ∷ []) =
     ap (λ (o : Option State). refused_by ((is_none o, NoSuchState) ∷ full_tests (option_map_or (deleted n) o n ∷ []))) at in

@@ -1,4 +1,5 @@
-use Rattle.std.proofs.Common.{◌≡◌, ◌∙◌, arith}
+use Rattle.pfl_receive.specs.desk.Nodes.{Node}
+use Rattle.std.proofs.Common.{◌≡◌, ◌∙◌, arith, ap}
 use Rattle.std.proofs.lemmas.Result.{err_from_is_err_and}
 use Rattle.pfl_base.specs.Keys.{key}
 use Rattle.pfl_track.specs.declared.tracked.Tracked.TheVariants.{Moved, OutOfWindow, Reused}
@@ -14,7 +15,7 @@ accept-requires-clause-known g c =
     let p = c.args.packet.now in
     let s = c.args.state.now in
     let moved : tracked_at n s p c.args.dir ≡ Moved c.in-Moved.state =
-    tracks-at n s p c.args.dir _ _ _ c.kernel.ensures.kernel c.clock.ensures.clock c.track_by.ensures ∙ c.in-Moved.is in
+    tracks-at n s p c.args.dir _ _ _ (c.kernel.ensures.kernel ∙ ap (λ (k : Node). k.limits.kernel) c.parts-parts.ensures.parts) (c.clock.ensures.clock ∙ ap (λ (k : Node). k.clock) c.parts-parts.ensures.parts) c.track_by.ensures ∙ c.in-Moved.is in
     found-replaces n c.args.dir p s c.in-Moved.state c.requires.parts c.requires.packet c.requires.found moved
 
 pub returns-in_err-fate-in-Moved : goal.returns-in_err-fate-in-Moved
@@ -24,7 +25,7 @@ returns-in_err-fate-in-Moved g c =
     let p = c.args.packet.now in
     let s = c.args.state.now in
     let moved : tracked_at n s p c.args.dir ≡ Moved c.in-Moved.state =
-    tracks-at n s p c.args.dir _ _ _ c.kernel.ensures.kernel c.clock.ensures.clock c.track_by.ensures ∙ c.in-Moved.is in
+    tracks-at n s p c.args.dir _ _ _ (c.kernel.ensures.kernel ∙ ap (λ (k : Node). k.limits.kernel) c.parts-parts.ensures.parts) (c.clock.ensures.clock ∙ ap (λ (k : Node). k.clock) c.parts-parts.ensures.parts) c.track_by.ensures ∙ c.in-Moved.is in
     let tried = c.in_err-fate-in-Moved.ensures.done in
     record {
       done = rw q.1 (handles-tracked _ _ _ n c.args.dir p s _ _ moved
@@ -37,7 +38,7 @@ returns-in_ok-fate-in-Moved g c =
     let p = c.args.packet.now in
     let s = c.args.state.now in
     let moved : tracked_at n s p c.args.dir ≡ Moved c.in-Moved.state =
-    tracks-at n s p c.args.dir _ _ _ c.kernel.ensures.kernel c.clock.ensures.clock c.track_by.ensures ∙ c.in-Moved.is in
+    tracks-at n s p c.args.dir _ _ _ (c.kernel.ensures.kernel ∙ ap (λ (k : Node). k.limits.kernel) c.parts-parts.ensures.parts) (c.clock.ensures.clock ∙ ap (λ (k : Node). k.clock) c.parts-parts.ensures.parts) c.track_by.ensures ∙ c.in-Moved.is in
     let tried = c.in_ok-fate-in-Moved.ensures.done in
     record {
       done = handles-tracked _ _ _ n c.args.dir p s _ _ moved
@@ -51,7 +52,7 @@ returns-in-OutOfWindow g c =
     let p = c.args.packet.now in
     let s = c.args.state.now in
     let out : tracked_at n s p c.args.dir ≡ OutOfWindow =
-    tracks-at n s p c.args.dir _ _ _ c.kernel.ensures.kernel c.clock.ensures.clock c.track_by.ensures ∙ c.in-OutOfWindow.is in
+    tracks-at n s p c.args.dir _ _ _ (c.kernel.ensures.kernel ∙ ap (λ (k : Node). k.limits.kernel) c.parts-parts.ensures.parts) (c.clock.ensures.clock ∙ ap (λ (k : Node). k.clock) c.parts-parts.ensures.parts) c.track_by.ensures ∙ c.in-OutOfWindow.is in
     let e = c.drop_packet-fate.ensures in
     record {
       done = handles-tracked _ _ _ n c.args.dir p s _ _ out
@@ -70,5 +71,5 @@ returns-in-Reused g c =
     let p = c.args.packet.now in
     let s = c.args.state.now in
     let reused : tracked_at n s p c.args.dir ≡ Reused =
-    tracks-at n s p c.args.dir _ _ _ c.kernel.ensures.kernel c.clock.ensures.clock c.track_by.ensures ∙ c.in-Reused.is in
+    tracks-at n s p c.args.dir _ _ _ (c.kernel.ensures.kernel ∙ ap (λ (k : Node). k.limits.kernel) c.parts-parts.ensures.parts) (c.clock.ensures.clock ∙ ap (λ (k : Node). k.clock) c.parts-parts.ensures.parts) c.track_by.ensures ∙ c.in-Reused.is in
     record { done = handles-tracked _ _ _ n c.args.dir p s _ _ reused c.reuse.ensures.done }

@@ -1,3 +1,4 @@
+use Rattle.pfl_receive.specs.desk.Nodes.{Node}
 use Rattle.std.proofs.Common.{◌≡◌, Some, None, ◌∙◌, ap, sym, arith}
 use Rattle.std.specs.Option.{option_map}
 use Rattle.std.proofs.lemmas.Result.{err_from_is_err_and}
@@ -14,7 +15,7 @@ returns-in_err-fate g c =
     let n = c.args.desk.now.node in
     let p = c.args.packet.now in
     let at : found n.states (key p c.args.dir) c.args.dir ≡ None =
-    ap (λ (t : States). found t (key p c.args.dir) c.args.dir) (sym c.states.ensures.states)
+    ap (λ (t : States). found t (key p c.args.dir) c.args.dir) (sym (c.states.ensures.states ∙ ap (λ (k : Node). k.states) c.parts.ensures.parts))
     ∙ (ap (λ k. found (states_of c.states.result.now) k c.args.dir) (sym c.key.ensures.key)
     ∙ (sym c.find.ensures.state ∙ ap (option_map (λ r. r.1.now)) c.in_default.is)) in
     let tried = c.in_err-fate.ensures.done in
@@ -28,7 +29,7 @@ returns-in_default g c =
     let n = c.args.desk.now.node in
     let p = c.args.packet.now in
     let at : found n.states (key p c.args.dir) c.args.dir ≡ None =
-    ap (λ (t : States). found t (key p c.args.dir) c.args.dir) (sym c.states.ensures.states)
+    ap (λ (t : States). found t (key p c.args.dir) c.args.dir) (sym (c.states.ensures.states ∙ ap (λ (k : Node). k.states) c.parts.ensures.parts))
     ∙ (ap (λ k. found (states_of c.states.result.now) k c.args.dir) (sym c.key.ensures.key)
     ∙ (sym c.find.ensures.state ∙ ap (option_map (λ r. r.1.now)) c.in_default.is)) in
     let tried = c.in_ok-fate.ensures.done in
@@ -42,7 +43,7 @@ pub follow-requires-clause-found : goal.follow-requires-clause-found
 follow-requires-clause-found g c =
     let n = c.args.desk.now.node in
     let p = c.args.packet.now in
-    ap (λ (t : States). found t (key p c.args.dir) c.args.dir) (sym c.states.ensures.states)
+    ap (λ (t : States). found t (key p c.args.dir) c.args.dir) (sym (c.states.ensures.states ∙ ap (λ (k : Node). k.states) c.parts.ensures.parts))
     ∙ (ap (λ k. found (states_of c.states.result.now) k c.args.dir) (sym c.key.ensures.key)
     ∙ (sym c.find.ensures.state ∙ ap (option_map (λ r. r.1.now)) c.in-Some.is))
 
@@ -52,7 +53,7 @@ returns g c =
     let p = c.args.packet.now in
     let s = c.in-Some.state.now in
     let at : found n.states (key p c.args.dir) c.args.dir ≡ Some s =
-    ap (λ (t : States). found t (key p c.args.dir) c.args.dir) (sym c.states.ensures.states)
+    ap (λ (t : States). found t (key p c.args.dir) c.args.dir) (sym (c.states.ensures.states ∙ ap (λ (k : Node). k.states) c.parts.ensures.parts))
     ∙ (ap (λ k. found (states_of c.states.result.now) k c.args.dir) (sym c.key.ensures.key)
     ∙ (sym c.find.ensures.state ∙ ap (option_map (λ r. r.1.now)) c.in-Some.is)) in
     record { done = handles-as _ _ _ _ _ _ _ (handled-some n c.args.dir p s at) (points-some n c.args.dir p s at) c.follow.ensures.done }

@@ -34,24 +34,24 @@ due-is a k clock seconds now r has left at is = ap (λ b. if b then Some r.state
 pub returns-in_err-row-clause-first : goal.returns-in_err-row-clause-first
 returns-in_err-row-clause-first g c =
     c.from_residual.ensures
-    ∙ first-due c.args.desk.now.node c.limits.result c.adaptive-adaptive.result c.args.states c.states-table.result.now None
+    ∙ first-due c.args.parts.now c.limits.result c.adaptive-adaptive.result c.args.states c.states-table.result.now None
     (record { each = c.states-table.ensures.timeouts }) c.states-table.ensures.states c.limits.ensures.limits
     c.adaptive-adaptive.ensures c.in_err-row.ensures.row
 
 pub returns-then-expired-clause-first : goal.returns-then-expired-clause-first
 returns-then-expired-clause-first g c =
-    due-is c.adaptive-adaptive.result c.args.states c.args.desk.now.node.clock c.scaled-timeout.result c.clock.result c.in_ok-row.row.now
+    due-is c.adaptive-adaptive.result c.args.states c.args.parts.now.clock c.scaled-timeout.result c.clock.result c.in_ok-row.row.now
     true c.scaled-timeout.ensures c.clock.ensures.clock (sym c.if-expired.true ∙ c.expired.ensures)
-    ∙ first-due c.args.desk.now.node c.limits.result c.adaptive-adaptive.result c.args.states c.states-table.result.now
+    ∙ first-due c.args.parts.now c.limits.result c.adaptive-adaptive.result c.args.states c.states-table.result.now
     (Some c.in_ok-row.row.now)
     (record { each = c.states-table.ensures.timeouts }) c.states-table.ensures.states c.limits.ensures.limits
     c.adaptive-adaptive.ensures c.in_ok-row.ensures.row
 
 pub returns-else-expired-clause-first : goal.returns-else-expired-clause-first
 returns-else-expired-clause-first g c =
-    due-is c.adaptive-adaptive.result c.args.states c.args.desk.now.node.clock c.scaled-timeout.result c.clock.result c.in_ok-row.row.now
+    due-is c.adaptive-adaptive.result c.args.states c.args.parts.now.clock c.scaled-timeout.result c.clock.result c.in_ok-row.row.now
     false c.scaled-timeout.ensures c.clock.ensures.clock (sym c.if-expired.false ∙ c.expired.ensures)
-    ∙ first-due c.args.desk.now.node c.limits.result c.adaptive-adaptive.result c.args.states c.states-table.result.now
+    ∙ first-due c.args.parts.now c.limits.result c.adaptive-adaptive.result c.args.states c.states-table.result.now
     (Some c.in_ok-row.row.now)
     (record { each = c.states-table.ensures.timeouts }) c.states-table.ensures.states c.limits.ensures.limits
     c.adaptive-adaptive.ensures c.in_ok-row.ensures.row

@@ -5,7 +5,7 @@ use Rattle.pfl_base.specs.declared.refusal.Refusal.TheVariants.{NothingPending, 
 use Rattle.pfl_language.specs.declared.node_event.NodeOutcome.TheVariants.{Released}
 use Rattle.pfl_receive.specs.defer.Deferring.{Deferrals}
 use Rattle.pfl_receive.specs.desk.inner.Judging.{judged_as}
-use Rattle.pfl_receive.specs.desk.Nodes.{is_overcounted, refused_by}
+use Rattle.pfl_receive.specs.desk.Nodes.{is_overcounted, refused_by, Node}
 use Rattle.pfl_node.specs.Releasing.{release_refusal, released_due, due_names}
 use Rattle.pfl_node.proofs.Judged.{at-once, by-judgement}
 use Rattle.pfl_node.proofs.Ready.{begins}
@@ -15,7 +15,7 @@ use Rattle.pfl_node.proofs.release.release.Goals as goal
 pub returns-then-is_empty : goal.returns-then-is_empty
 returns-then-is_empty g c =
     let n = c.args.desk.now.node in
-    let none : (length n.held.list == 0) ≡ true = ap (λ (d : Deferrals). length d.list == 0) (sym c.held.ensures.held)
+    let none : (length n.held.list == 0) ≡ true = ap (λ (d : Deferrals). length d.list == 0) (sym (c.held.ensures.held ∙ ap (λ (k : Node). k.held) c.parts.ensures.parts))
     ∙ (sym c.is_empty.ensures.none ∙ c.if-is_empty.true) in
     at-once _ _ _ _ c.args.desk.now NothingPending
     (ap (λ t. refused_by ((t, NothingPending) ∷ (length (due_names n) == 0, TooEarly) ∷ (is_overcounted (released_due n), CountFull) ∷ [])) none)
@@ -35,7 +35,7 @@ returns g c =
     let d = c.release_due-count.ensures in
     let j = c.judge.ensures in
     let count = length (due_names n) in
-    let some : (length n.held.list == 0) ≡ false = ap (λ (l : Deferrals). length l.list == 0) (sym c.held.ensures.held)
+    let some : (length n.held.list == 0) ≡ false = ap (λ (l : Deferrals). length l.list == 0) (sym (c.held.ensures.held ∙ ap (λ (k : Node). k.held) c.parts.ensures.parts))
     ∙ (sym c.is_empty.ensures.none ∙ c.if-is_empty.false) in
     let why : release_refusal n ≡ judged_as c.judge.result =
     ap (λ t. refused_by ((t, NothingPending) ∷ (count == 0, TooEarly) ∷ (is_overcounted (released_due n), CountFull) ∷ [])) some

@@ -3,7 +3,7 @@ use Rattle.std.specs.Prelude.{nat_lt, if◌then◌else◌}
 use Rattle.std.proofs.lemmas.Bool.Decides.{nat_tests}
 use Rattle.pfl_base.specs.declared.refusal.Refusal.TheVariants.{ClockFull}
 use Rattle.pfl_language.specs.declared.node_event.NodeOutcome.TheVariants.{Clock}
-use Rattle.pfl_receive.specs.desk.Nodes.{is_overcounted, last_millisecond}
+use Rattle.pfl_receive.specs.desk.Nodes.{is_overcounted, last_millisecond, Node}
 use Rattle.pfl_node.proofs.Judged.{at-once}
 use Rattle.pfl_node.proofs.tick.tick.Goals as goal
 
@@ -16,14 +16,14 @@ early last clock ms within h = grind (arith, nat_tests)
 pub returns-then-now-ms : goal.returns-then-now-ms
 returns-then-now-ms g c =
     let n = c.args.desk.now.node in
-    let clock = c.clock-now.ensures.clock in
+    let clock = (c.clock-now.ensures.clock ∙ ap (λ (k : Node). k.clock) c.parts.ensures.parts) in
     at-once _ _ _ _ c.args.desk.now ClockFull
     (ap (λ b. if b then Some ClockFull else None) (late last_millisecond n.clock c.args.ms (omega (arith, clock))))
 
 pub returns : goal.returns
 returns g c =
     let n = c.args.desk.now.node in
-    let clock : c.clock-now.result ≡ n.clock = c.clock-now.ensures.clock in
+    let clock : c.clock-now.result ≡ n.clock = (c.clock-now.ensures.clock ∙ ap (λ (k : Node). k.clock) c.parts.ensures.parts) in
     let within = c.requires.idle.node.parts.clock in
     record {
       refused = tt;

@@ -13,7 +13,7 @@ loop-count-init g c = gathered-first _ c.in-Serving.cursor c.args.names.now c.ar
 
 pub returns-in_default-after : goal.returns-in_default-after
 returns-in_default-after g c =
-    let n = c.args.desk.now.node in
+    let n = c.args.parts.now in
     let so = c.loop-count.invariant in
     let within = so.within in
     let room = so.room in
@@ -28,7 +28,7 @@ returns-in_default-after g c =
 
 pub loop-count-preserved-then-is_eligible : goal.loop-count-preserved-then-is_eligible
 loop-count-preserved-then-is_eligible g c =
-    let n = c.args.desk.now.node in
+    let n = c.args.parts.now in
     let found : state_after n.states c.loop-count.at ≡ Some c.in-Some.row.now.state =
     ap (λ (m : States). state_after m c.loop-count.at) (sym c.states.ensures.states) ∙ sym c.in-Some.ensures.state in
     let next = next-passes n.states c.requires.parts.states
@@ -38,7 +38,7 @@ loop-count-preserved-then-is_eligible g c =
 
 pub loop-count-preserved : goal.loop-count-preserved
 loop-count-preserved g c =
-    let n = c.args.desk.now.node in
+    let n = c.args.parts.now in
     let found : state_after n.states c.loop-count.at ≡ Some c.in-Some.row.now.state =
     ap (λ (m : States). state_after m c.loop-count.at) (sym c.states.ensures.states) ∙ sym c.in-Some.ensures.state in
     let next = next-skipped n.states c.requires.parts.states
@@ -48,21 +48,21 @@ loop-count-preserved g c =
 
 pub loop-count-smaller-then-is_eligible : goal.loop-count-smaller-then-is_eligible
 loop-count-smaller-then-is_eligible g c =
-    let n = c.args.desk.now.node in
+    let n = c.args.parts.now in
     let found : state_after n.states c.loop-count.at ≡ Some c.in-Some.row.now.state =
     ap (λ (m : States). state_after m c.loop-count.at) (sym c.states.ensures.states) ∙ sym c.in-Some.ensures.state in
     fewer-behind n.states c.requires.parts.states c.loop-count.at c.in-Some.row.now.state c.name-at.result found c.name-at.ensures
 
 pub loop-count-smaller : goal.loop-count-smaller
 loop-count-smaller g c =
-    let n = c.args.desk.now.node in
+    let n = c.args.parts.now in
     let found : state_after n.states c.loop-count.at ≡ Some c.in-Some.row.now.state =
     ap (λ (m : States). state_after m c.loop-count.at) (sym c.states.ensures.states) ∙ sym c.in-Some.ensures.state in
     fewer-behind n.states c.requires.parts.states c.loop-count.at c.in-Some.row.now.state c.name-at.result found c.name-at.ensures
 
 pub returns : goal.returns
 returns g c =
-    let n = c.args.desk.now.node in
+    let n = c.args.parts.now in
     let so = c.loop-count.invariant in
     let within = so.within in
     let room = so.room in

@@ -10,8 +10,8 @@ use Rattle.pfl_node.proofs.turn.next_names.Given as goal
 -- the names of the states that may be sent
 abbrev pub invariant-loop-count : goal.invariant-loop-count
 invariant-loop-count g l = IsGathered
-    (names (filter (is_eligible l.desk.node l.since) (maps.values l.desk.node.states))) l.initial.at l.at l.names l.count l.most
+    (names (filter (is_eligible l.parts l.since) (maps.values l.parts.states))) l.initial.at l.at l.names l.count l.most
 
 -- how many states are after the cursor
 abbrev pub decreases-loop-count : goal.decreases-loop-count
-decreases-loop-count g l = length (names_after l.at (names (filter (λ (s : State). true) (maps.values l.desk.node.states))))
+decreases-loop-count g l = length (names_after l.at (names (filter (λ (s : State). true) (maps.values l.parts.states))))

@@ -1,3 +1,4 @@
+use Rattle.pfl_receive.specs.desk.Nodes.{Node}
 use Rattle.std.proofs.Common.{◌≡◌, ◌+◌, length, List, ◌∙◌, ap, sym, subst, arith}
 use Rattle.std.proofs.lemmas.Result.{err_from_is_err_and}
 use Rattle.std.specs.List.{AllByRecursion}
@@ -14,14 +15,14 @@ use Rattle.pfl_node.proofs.turn.queue_next.Goals as goal
 pub turn-turn-requires : goal.turn-turn-requires
 turn-turn-requires g c =
     let n = c.args.desk.now.node in
-    let first = c.next_names-count.ensures.names ∙ ap (λ (l : Limits). first_names n.server (all_eligible n) (l.batch + 1)) c.limits-batch.ensures.limits in
+    let first = (c.next_names-count.ensures.names ∙ ap (λ (k : Node). first_names k.server (all_eligible k) (c.limits-batch.result.batch + 1)) c.parts-parts.ensures.parts) ∙ ap (λ (l : Limits). first_names n.server (all_eligible n) (l.batch + 1)) (c.limits-batch.ensures.limits ∙ ap (λ (k : Node). k.limits) c.parts-parts.ensures.parts) in
     record { rising = first-rising n _ first c.requires.parts }
 
 pub queue_all-requires : goal.queue_all-requires
 queue_all-requires g c =
     let n = c.args.desk.now.node in
     let told = c.turn-turn.ensures in
-    let turn = turn-by n _ _ _ c.next_names-count.ensures.names c.server.ensures.server c.limits-batch.ensures.limits _ _ _ told.names told.server told.last in
+    let turn = turn-by n _ _ _ (c.next_names-count.ensures.names ∙ ap (λ (k : Node). first_names k.server (all_eligible k) (c.limits-batch.result.batch + 1)) c.parts-parts.ensures.parts) (c.server.ensures.server ∙ ap (λ (k : Node). k.server) c.parts-parts.ensures.parts) (c.limits-batch.ensures.limits ∙ ap (λ (k : Node). k.limits) c.parts-parts.ensures.parts) _ _ _ told.names told.server told.last in
     let long = ap (λ (ns : List StateName). length ns) turn.names in
     let room = c.requires.room in
     record {
@@ -34,7 +35,7 @@ returns-in_err-queue_all g c =
     let p = err_from_is_err_and c.from_residual.result c.from_residual.ensures.1 in
     let n = c.args.desk.now.node in
     let told = c.turn-turn.ensures in
-    let turn = turn-by n _ _ _ c.next_names-count.ensures.names c.server.ensures.server c.limits-batch.ensures.limits _ _ _ told.names told.server told.last in
+    let turn = turn-by n _ _ _ (c.next_names-count.ensures.names ∙ ap (λ (k : Node). first_names k.server (all_eligible k) (c.limits-batch.result.batch + 1)) c.parts-parts.ensures.parts) (c.server.ensures.server ∙ ap (λ (k : Node). k.server) c.parts-parts.ensures.parts) (c.limits-batch.ensures.limits ∙ ap (λ (k : Node). k.limits) c.parts-parts.ensures.parts) _ _ _ told.names told.server told.last in
     let long = ap (λ (ns : List StateName). length ns) turn.names in
     record {
       full = rw p.1 (turned-full n _ _ _ turn c.in_err-queue_all.ensures.full);
@@ -47,7 +48,7 @@ pub announce_end-requires : goal.announce_end-requires
 announce_end-requires g c =
     let n = c.args.desk.now.node in
     let told = c.turn-turn.ensures in
-    let turn = turn-by n _ _ _ c.next_names-count.ensures.names c.server.ensures.server c.limits-batch.ensures.limits _ _ _ told.names told.server told.last in
+    let turn = turn-by n _ _ _ (c.next_names-count.ensures.names ∙ ap (λ (k : Node). first_names k.server (all_eligible k) (c.limits-batch.result.batch + 1)) c.parts-parts.ensures.parts) (c.server.ensures.server ∙ ap (λ (k : Node). k.server) c.parts-parts.ensures.parts) (c.limits-batch.ensures.limits ∙ ap (λ (k : Node). k.limits) c.parts-parts.ensures.parts) _ _ _ told.names told.server told.last in
     let long = ap (λ (ns : List StateName). length ns) turn.names in
     let room = c.requires.room in
     let spare = c.queue_all.ensures.writes.spare in
@@ -58,7 +59,7 @@ returns-in_err-announce_end g c =
     let p = err_from_is_err_and c.from_residual-in_err-announce_end.result c.from_residual-in_err-announce_end.ensures.1 in
     let n = c.args.desk.now.node in
     let told = c.turn-turn.ensures in
-    let turn = turn-by n _ _ _ c.next_names-count.ensures.names c.server.ensures.server c.limits-batch.ensures.limits _ _ _ told.names told.server told.last in
+    let turn = turn-by n _ _ _ (c.next_names-count.ensures.names ∙ ap (λ (k : Node). first_names k.server (all_eligible k) (c.limits-batch.result.batch + 1)) c.parts-parts.ensures.parts) (c.server.ensures.server ∙ ap (λ (k : Node). k.server) c.parts-parts.ensures.parts) (c.limits-batch.ensures.limits ∙ ap (λ (k : Node). k.limits) c.parts-parts.ensures.parts) _ _ _ told.names told.server told.last in
     let long = ap (λ (ns : List StateName). length ns) turn.names in
     record {
       full = rw p.1
@@ -73,7 +74,7 @@ pub set_server-requires : goal.set_server-requires
 set_server-requires g c =
     let n = c.args.desk.now.node in
     let told = c.turn-turn.ensures in
-    let turn = turn-by n _ _ _ c.next_names-count.ensures.names c.server.ensures.server c.limits-batch.ensures.limits _ _ _ told.names told.server told.last in
+    let turn = turn-by n _ _ _ (c.next_names-count.ensures.names ∙ ap (λ (k : Node). first_names k.server (all_eligible k) (c.limits-batch.result.batch + 1)) c.parts-parts.ensures.parts) (c.server.ensures.server ∙ ap (λ (k : Node). k.server) c.parts-parts.ensures.parts) (c.limits-batch.ensures.limits ∙ ap (λ (k : Node). k.limits) c.parts-parts.ensures.parts) _ _ _ told.names told.server told.last in
     let long = ap (λ (ns : List StateName). length ns) turn.names in
     let room = c.requires.room in
     let spare = c.queue_all.ensures.writes.spare in
@@ -88,7 +89,7 @@ pub returns : goal.returns
 returns g c =
     let n = c.args.desk.now.node in
     let told = c.turn-turn.ensures in
-    let turn = turn-by n _ _ _ c.next_names-count.ensures.names c.server.ensures.server c.limits-batch.ensures.limits _ _ _ told.names told.server told.last in
+    let turn = turn-by n _ _ _ (c.next_names-count.ensures.names ∙ ap (λ (k : Node). first_names k.server (all_eligible k) (c.limits-batch.result.batch + 1)) c.parts-parts.ensures.parts) (c.server.ensures.server ∙ ap (λ (k : Node). k.server) c.parts-parts.ensures.parts) (c.limits-batch.ensures.limits ∙ ap (λ (k : Node). k.limits) c.parts-parts.ensures.parts) _ _ _ told.names told.server told.last in
     let long = ap (λ (ns : List StateName). length ns) turn.names in
     let node : c.set_server.new.self.node ≡ turned n = c.set_server.ensures.node
     ∙ turned-is n _ _ _ turn c.queue_all.new.desk.node c.announce_end.new.desk.node c.in_ok-queue_all.ensures.node

@@ -4,7 +4,7 @@ use Rattle.std.specs.Prelude.{not}
 use Rattle.pfl_base.specs.declared.refusal.Refusal.TheVariants.{NotSyncing}
 use Rattle.pfl_bulk.specs.Bulk.{is_serving}
 use Rattle.pfl_language.specs.declared.node_event.NodeOutcome.TheVariants.{Queued}
-use Rattle.pfl_receive.specs.desk.Nodes.{full_tests, refused_by, points_refusal}
+use Rattle.pfl_receive.specs.desk.Nodes.{full_tests, refused_by, points_refusal, Node}
 use Rattle.pfl_node.specs.Turning.{turn_of, turned, turn_refusal}
 use Rattle.pfl_node.proofs.Judged.{at-once, by-end}
 use Rattle.pfl_node.proofs.Ready.{begins}
@@ -14,7 +14,7 @@ use Rattle.pfl_node.proofs.turn.turn.Goals as goal
 pub returns-then-not-is_serving : goal.returns-then-not-is_serving
 returns-then-not-is_serving g c =
     let n = c.args.desk.now.node in
-    let idle : is_serving n.server ≡ false = ap is_serving (sym c.server.ensures.server) ∙ (sym c.is_serving.ensures.serving ∙ c.if-not-is_serving.true) in
+    let idle : is_serving n.server ≡ false = ap is_serving (sym (c.server.ensures.server ∙ ap (λ (k : Node). k.server) c.parts.ensures.parts)) ∙ (sym c.is_serving.ensures.serving ∙ c.if-not-is_serving.true) in
     at-once _ _ _ _ c.args.desk.now NotSyncing (ap (λ b. refused_by ((not b, NotSyncing) ∷ full_tests (turned n ∷ []))) idle)
 
 pub queue_next-tried-requires : goal.queue_next-tried-requires
@@ -31,7 +31,7 @@ returns g c =
     let d = c.queue_next-tried.ensures in
     let j = c.judge.ensures in
     let count = length (turn_of n) in
-    let serves : is_serving n.server ≡ true = ap is_serving (sym c.server.ensures.server) ∙ (sym c.is_serving.ensures.serving ∙ c.if-not-is_serving.false) in
+    let serves : is_serving n.server ≡ true = ap is_serving (sym (c.server.ensures.server ∙ ap (λ (k : Node). k.server) c.parts.ensures.parts)) ∙ (sym c.is_serving.ensures.serving ∙ c.if-not-is_serving.false) in
     let why : turn_refusal n ≡ points_refusal (turned n ∷ []) = ap (λ b. refused_by ((not b, NotSyncing) ∷ full_tests (turned n ∷ []))) serves in
     by-end _ (turn_refusal n) (turned n) (λ k. Queued k ≡ Queued count) a c.queue_next-tried.new.desk c.queue_next-tried.result c.judge.result
     j.refused j.answer j.fits why d.full d.node

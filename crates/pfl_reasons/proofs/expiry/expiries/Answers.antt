@@ -10,7 +10,7 @@ loop-row-init g c =
     let rows = c.iter-rows.result in
     record {
       listed = ap (λ es. es ++ rows_expiries c.len-states.result n rows) c.in_ok-list.ensures.items;
-      reckoned = listed-reckoned n rows c.known.ensures.node.parts (c.iter-rows.ensures.states ∙ ap (λ (m : States). maps.values m) c.states-2.ensures.states);
+      reckoned = listed-reckoned n rows c.known.ensures.parts (c.iter-rows.ensures.states ∙ ap (λ (m : States). maps.values m) c.states-2.ensures.states);
     }
 
 pub returns : goal.returns

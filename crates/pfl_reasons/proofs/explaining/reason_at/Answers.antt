@@ -7,7 +7,7 @@ use Rattle.pfl_reasons.proofs.explaining.reason_at.Goals as goal
 pub returns-in-Purge : goal.returns-in-Purge
 returns-in-Purge g c = record {
   explained = as_same c.purge_reason.result _ _
-      (λ i. explained_at (c.node.ensures.node i) (sym c.in-Purge.is i)) c.purge_reason.ensures.explained;
+      (λ i. explained_at ((c.parts.ensures.parts ∙ c.node.ensures.node) i) (sym c.in-Purge.is i)) c.purge_reason.ensures.explained;
   still = refl;
 }
 

@@ -15,7 +15,7 @@ pub returns : goal.returns
 returns g c =
     let w = c.args.world.now in
     let gone = killed-node w c.args.id c.name-name.result c.args.closed.now _ c.requires.stands c.name-name.ensures c.in-Ok.ensures.step in
-    let made = c.judged-judged.ensures ∙ ap (λ (n : Node). judged_reason n c.args.dir c.args.packet.now) (c.node.ensures.node ∙ gone) in
+    let made = c.judged-judged.ensures ∙ ap (λ (n : Node). judged_reason n c.args.dir c.args.packet.now) (c.parts.ensures.parts ∙ (c.node.ensures.node ∙ gone)) in
     record {
       reason = λ i. ByRules (Some (c.name-name.ensures i)) (made i);
       still = c.revert.ensures.reverted ∙ c.in-Ok.ensures.back;

@@ -45,14 +45,15 @@ pub returns-in_err-bad-clause-part : goal.returns-in_err-bad-clause-part
 returns-in_err-bad-clause-part g c =
     let reads = gave-line _ _ _ _ _ c.in_ok-advance.ensures.line c.if-branch.true c.line.ensures in
     let p = err_from_is_err_and c.from_residual-in_err-bad.result c.from_residual-in_err-bad.ensures.1 in
-    rw p.1 (Ran-broken _ _ _ _ _ _ _ _ _ _ _ _ c.loop-reader.invariant.ran reads c.in_err-bad.ensures.breaks)
+    rw p.1 (Ran-broken _ _ _ _ _ _ _ _ _ _ _ _ _ _ c.loop-reader.invariant.ran reads c.in_err-bad.ensures.fault c.in_err-bad.ensures.breaks
+    (λ none. ap g.W.Output.written (c.in_err-bad.ensures.untouched none)) c.in_err-bad.ensures.unchanged)
 
 pub returns-in_err-bad-clause-until : goal.returns-in_err-bad-clause-until
 returns-in_err-bad-clause-until g c =
     let reads = gave-line _ _ _ _ _ c.in_ok-advance.ensures.line c.if-branch.true c.line.ensures in
     let p = err_from_is_err_and c.from_residual-in_err-bad.result c.from_residual-in_err-bad.ensures.1 in
     rw (p.1, p.2) (until-answer _ _ _ _ _ _ _ _ _ _ _ _ _ _ c.loop-reader.invariant.ran reads c.in_err-bad.ensures.fault c.in_err-bad.ensures.breaks
-    c.in_err-bad.ensures.command (λ none. ap g.W.Output.written (c.in_err-bad.ensures.untouched none)) c.in_err-bad.ensures.unchanged)
+    c.in_err-bad.ensures.command c.in_err-bad.ensures.memory (λ none. ap g.W.Output.written (c.in_err-bad.ensures.untouched none)) c.in_err-bad.ensures.unchanged)
 
 pub returns-in_err-bad-clause-reads : goal.returns-in_err-bad-clause-reads
 returns-in_err-bad-clause-reads g c =

@@ -7,8 +7,8 @@ use Rattle.pfl_script.proofs.shown.shown_text.Goals as goal
 pub returns : goal.returns
 unfolding show_text
 returns g c =
-    let a = c.in_ok-push_node.ensures ∙ ap (λ n. c.push_branch.new.text.items ++ node_lines A n) c.node.ensures.node in
-    let b = c.in_ok-push_node-2.ensures ∙ ap (λ n. c.push_node.new.text.items ++ node_lines B n) c.node-2.ensures.node in
+    let a = c.in_ok-push_node.ensures ∙ ap (λ n. c.push_branch.new.text.items ++ node_lines A n) (c.parts.ensures.parts ∙ c.node.ensures.node) in
+    let b = c.in_ok-push_node-2.ensures ∙ ap (λ n. c.push_node.new.text.items ++ node_lines B n) (c.parts-2.ensures.parts ∙ c.node-2.ensures.node) in
     let link = c.in_ok-push_link.ensures ∙ (ap (λ l. c.push_node-2.new.text.items ++ link_lines l c.next_boot.result) c.link.ensures.link
     ∙ ap (λ (n : ℕ). c.push_node-2.new.text.items ++ link_lines c.args.world.now.link n) c.next_boot.ensures.boot) in
     let w = c.args.world.now in

@@ -8,5 +8,5 @@ pub returns : goal.returns
 returns g c =
     c.any_differs.ensures
     ∙ differing-rows c.args.world.now (states_of c.states.result.now) (states_of c.states-2.result.now) c.iter-rows.result c.iter-rows.ensures.states
-    (c.states.ensures.states ∙ ap (λ (n : Node). n.states) c.node.ensures.node)
-    (c.states-2.ensures.states ∙ ap (λ (n : Node). n.states) c.node-2.ensures.node)
+    (c.states.ensures.states ∙ ap (λ (n : Node). n.states) (c.parts.ensures.parts ∙ c.node.ensures.node))
+    (c.states-2.ensures.states ∙ ap (λ (n : Node). n.states) (c.parts-2.ensures.parts ∙ c.node-2.ensures.node))

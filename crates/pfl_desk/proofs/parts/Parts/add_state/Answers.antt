@@ -21,10 +21,10 @@ invariant_of-self g c =
     let n = c.args.self.now in
     let s = c.args.state in
     let t = c.self.inside.table in
-    let now = written-states t c.add.new.self s.name (Some s) c.timeout-timeout.result c.add.ensures.added
+    let now = written-states t c.add.new.self s.name (Some s) c.rule_timeout-timeout.result c.add.ensures.added
     ∙ ap (λ (m : Node). set_at m.states s.name (Some s)) c.self.view_is in (
-      written-timely c.self.inside.limits c.self.inside.rules t c.add.new.self s.name (Some s) c.timeout-timeout.result c.self.invariant.0
-          (c.timeout-timeout.ensures.timeout ∙ ap (λ (m : Node). timeout_by m.rules s) (sym c.self.view_is)) c.add.ensures.added,
+      written-timely c.self.inside.limits c.self.inside.rules t c.add.new.self s.name (Some s) c.rule_timeout-timeout.result c.self.invariant.0
+          (c.rule_timeout-timeout.ensures.timeout ∙ ap (λ (m : Node). timeout_by m.rules s) (sym c.self.view_is)) c.add.ensures.added,
       subst AreParts (sym (whole-with _ n (states_of c.add.new.self) (set_at n.states s.name (Some s)) c.self.view_is now)) c.requires.parts,
     )
 
@@ -32,7 +32,7 @@ pub returns-clause-node : goal.returns-clause-node
 returns-clause-node g c =
     let n = c.args.self.now in
     let s = c.args.state in
-    let now = written-states c.self.inside.table c.add.new.self s.name (Some s) c.timeout-timeout.result c.add.ensures.added
+    let now = written-states c.self.inside.table c.add.new.self s.name (Some s) c.rule_timeout-timeout.result c.add.ensures.added
     ∙ ap (λ (m : Node). set_at m.states s.name (Some s)) c.self.view_is in
     whole-with _ n (states_of c.add.new.self) (set_at n.states s.name (Some s)) c.self.view_is now
 
@@ -40,7 +40,7 @@ pub returns-clause-makes : goal.returns-clause-makes
 returns-clause-makes g c =
     let n = c.args.self.now in
     let s = c.args.state in
-    let now = written-states c.self.inside.table c.add.new.self s.name (Some s) c.timeout-timeout.result c.add.ensures.added
+    let now = written-states c.self.inside.table c.add.new.self s.name (Some s) c.rule_timeout-timeout.result c.add.ensures.added
     ∙ ap (λ (m : Node). set_at m.states s.name (Some s)) c.self.view_is in
     let whole = whole-with _ n (states_of c.add.new.self) (set_at n.states s.name (Some s)) c.self.view_is now in
     let edit = λ (name : StateName). OfState (record { name = name; before = None; after = Some s }) in

@@ -13,7 +13,7 @@ split_at-requires g c = omega (arith, c.run_of.ensures, prefix_len-le-length (λ
 
 pub loop-first-preserved : goal.loop-first-preserved
 loop-first-preserved g c =
-    let n = c.args.desk.now.node in
+    let n = c.args.parts.now in
     let left = c.loop-first.left.now in
     let next = lists c.push.new.self.items in
     let is = c.requires.parts in

@@ -4,7 +4,7 @@ use Rattle.pfl_node.proofs.Grouped.{IsGrouped}
 use Rattle.pfl_node.proofs.flush.frame.groups_of.Given as goal
 
 abbrev pub invariant-loop-first : goal.invariant-loop-first
-invariant-loop-first g l = IsGrouped l.desk.node l.entries l.left (lists l.groups.items)
+invariant-loop-first g l = IsGrouped l.parts l.entries l.left (lists l.groups.items)
 
 abbrev pub decreases-loop-first : goal.decreases-loop-first
 decreases-loop-first g l = length l.left

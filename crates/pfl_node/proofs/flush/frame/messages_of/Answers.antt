@@ -10,16 +10,16 @@ use Rattle.pfl_node.proofs.flush.frame.messages_of.Goals as goal
 pub message_of-requires : goal.message_of-requires
 message_of-requires g c = record {
   told = each-get_or
-      (IsTold c.args.desk.now.node) c.args.entries.now c.loop-entry.entry-index _ c.requires.told c.loop-entry-test.true;
+      (IsTold c.args.parts.now) c.args.entries.now c.loop-entry.entry-index _ c.requires.told c.loop-entry-test.true;
 }
 
 pub loop-entry-preserved : goal.loop-entry-preserved
 loop-entry-preserved g c =
-    messages-more c.args.desk.now.node c.args.entries.now c.loop-entry.entry-index _ c.loop-entry.messages.items _ c.message_of.result
+    messages-more c.args.parts.now c.args.entries.now c.loop-entry.entry-index _ c.loop-entry.messages.items _ c.message_of.result
     c.loop-entry-test.true c.loop-entry.invariant c.message_of.ensures.message c.in_ok-push.ensures.items
 
 pub returns : goal.returns
 returns g c = record {
   messages = c.loop-entry.invariant
-      ∙ ap (flat_map (messages_of c.args.desk.now.node)) (take_all c.loop-entry.entry-index c.args.entries.now c.loop-entry-test.false);
+      ∙ ap (flat_map (messages_of c.args.parts.now)) (take_all c.loop-entry.entry-index c.args.entries.now c.loop-entry-test.false);
 }

@@ -4,4 +4,4 @@ use Rattle.pfl_node.specs.Flushing.{messages_of}
 use Rattle.pfl_node.proofs.flush.frame.messages_of.Given as goal
 
 abbrev pub invariant-loop-entry : goal.invariant-loop-entry
-invariant-loop-entry g l = l.messages.items ≡ flat_map (messages_of l.desk.node) (take l.entry-index l.entries)
+invariant-loop-entry g l = l.messages.items ≡ flat_map (messages_of l.parts) (take l.entry-index l.entries)

@@ -68,7 +68,7 @@ returns-then-is_deferred g c =
     let same : mark c.put_new.new.desk.node c.name-name.result Insert ≡ mark m s.name Insert =
     λ i. mark (c.put_new.ensures.node i) (c.name-name.ensures i) Insert in
     let marked = c.in_ok-mark.ensures.node ∙ same in
-    let on = ap (λ (k : Node). is_deferred k c.args.dir) (sym marked) ∙ (sym c.is_deferred.ensures.deferred ∙ c.if-is_deferred.true) in
+    let on = ap (λ (k : Node). is_deferred k c.args.dir) (sym marked) ∙ (sym (c.is_deferred.ensures.deferred ∙ ap (λ (k : Node). is_deferred k c.args.dir) c.parts.ensures.parts) ∙ c.if-is_deferred.true) in
     record {
       done = record {
         full = tt;
@@ -86,7 +86,7 @@ returns g c =
     let same : mark c.put_new.new.desk.node c.name-name.result Insert ≡ mark m s.name Insert =
     λ i. mark (c.put_new.ensures.node i) (c.name-name.ensures i) Insert in
     let marked = c.in_ok-mark.ensures.node ∙ same in
-    let off = ap (λ (k : Node). is_deferred k c.args.dir) (sym marked) ∙ (sym c.is_deferred.ensures.deferred ∙ c.if-is_deferred.false) in
+    let off = ap (λ (k : Node). is_deferred k c.args.dir) (sym marked) ∙ (sym (c.is_deferred.ensures.deferred ∙ ap (λ (k : Node). is_deferred k c.args.dir) c.parts.ensures.parts) ∙ c.if-is_deferred.false) in
     let step : pass c.mark.new.self.node (Some c.name-name.result) ≡ pass (mark m s.name Insert) (Some s.name) =
     λ i. pass (marked i) (Some (c.name-name.ensures i)) in
     record {

@@ -2,7 +2,7 @@
 use Rattle.std.proofs.Common.{ap, ◌∙◌, arith}
 use Rattle.pfl_rules.specs.Rules.{Rules, timeout as rule_timeout}
 use Rattle.pfl_desk.proofs.Shrinking.{scaled-less}
-use Rattle.pfl_desk.proofs.desk.Desk.timeout.Goals as goal
+use Rattle.pfl_desk.proofs.parts.Parts.timeout.Goals as goal
 
 pub returns-clause-shrinks : goal.returns-clause-shrinks
 returns-clause-shrinks g c =
