@@ -12,7 +12,7 @@ from contextlib import suppress
 from dataclasses import dataclass
 from typing import Dict, List, Optional, Set
 
-from .costs import checks_at_once, files_of, jobs_of_check
+from .costs import checks_at_once, files_of
 from .crates import PARTS, TOP, Crate, Crates, below, chains
 
 LOGS = f"{TOP}/out/lab"
@@ -158,7 +158,6 @@ class Check:
 
     lane: Lane
     process: subprocess.Popen[bytes]
-    jobs: int
 
 
 class Build:
@@ -190,15 +189,15 @@ class Build:
         return not any(library in self.left or library in self.running for library in self.crates[name].libraries)
 
     def begin(self) -> None:
-        """Begins checks while there are lanes for them, the one with the most expensive chain above it first."""
+        """Begins checks while there are lanes for them, the one with the most expensive chain above it first. Each has one job, since every
+        job states anew what the crate is stated over."""
         ready = [it for it in self.left if self.is_ready(it)][: len(self.idle)]
-        for place, name in enumerate(ready):
+        for name in ready:
             is_first = self.length[name] >= max(self.length[it] for it in (*self.running, *ready))
-            jobs = jobs_of_check(sum(it.jobs for it in self.running.values()), len(ready) - place, is_first)
-            words = ["run", "--jobs", f"{jobs}", "--", "--help"] if name == self.program else ["lib", "--jobs", f"{jobs}"]
+            words = ["run", "--jobs", "1", "--", "--help"] if name == self.program else ["lib", "--jobs", "1"]
             self.left.remove(name)
             lane = self.idle.pop()
-            self.running[name] = Check(lane, lane.prove(name, words, is_first), jobs)
+            self.running[name] = Check(lane, lane.prove(name, words, is_first))
 
     def take_done(self) -> Optional[str]:
         """Keeps what the checks that have ended have made; returns the name of one that failed, if any."""

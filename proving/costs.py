@@ -13,10 +13,8 @@ KNOWN = f"{TOP}/proving/seconds.txt"
 HEAD = "# Processor seconds of each crate in a first ./lab build, where one processor packs the text of proving/costs.py in {:.3f} s"
 MACHINE = re.compile(r"in (\d+\.\d+) s$", re.MULTILINE)
 ROW = re.compile(r"^(\w+) (\d+)$", re.MULTILINE)
-# The most memory that a check of a large crate takes with one job, and what each further job takes.
-MEMORY, MEMORY_OF_JOB = 3_000_000_000, 1_000_000_000
-# The share of a check that one processor does alone: reading the libraries, and joining the parts.
-ALONE = 0.3
+# The most memory that a check of a large crate takes.
+MEMORY = 3_000_000_000
 # Processor seconds for a kilobyte of sources, for a crate without a row.
 SECONDS_OF_KILOBYTE = 1.2
 
@@ -73,28 +71,18 @@ def checks_at_once() -> int:
     return max(1, min(processors(), memory() // MEMORY))
 
 
-def jobs_of_check(given: int, ready: int, is_first: bool) -> int:
-    """How many jobs the next of the checks that are ready gets, where those that run have been given some: its share of the processors
-    that are left, and half of all if it is on the dearest chain, as far as memory goes. Each job states anew what the crate is stated
-    over, so that a job more costs processor seconds."""
-    share = max(-(-(processors() - given) // ready), processors() // 2 if is_first else 1)
-    return max(1, min(share, memory() // ready // MEMORY_OF_JOB - 1))
-
-
 class Estimate:
-    """The course of a build, second by second, if the checks under way took equal shares of the processors, and none of them more than
-    it has jobs."""
+    """The course of a build, second by second, if the checks under way took equal shares of the processors, and none more than one."""
 
     def __init__(self, crates: Crates, seconds: Dict[str, float], at_once: int):
         self.crates, self.at_once = crates, at_once
-        self.jobs: Dict[str, int] = {}
         self.chains = chains(crates, seconds)
-        self.alone = {name: ALONE * seconds[name] for name in crates}
-        self.shared = {name: seconds[name] - self.alone[name] for name in crates}
+        self.left = dict(seconds)
+        self.running: Set[str] = set()
 
     def minutes(self) -> float:
         seconds = 0
-        while self.alone:
+        while self.left:
             self.go_on()
             seconds += 1
         return seconds / 60
@@ -102,19 +90,14 @@ class Estimate:
     def go_on(self) -> None:
         """A second passes."""
         self.begin()
-        share = processors() / len(self.jobs)
-        for name in list(self.jobs):
-            if self.alone[name] > 0:
-                self.alone[name] -= min(1.0, share)
-            else:
-                self.shared[name] -= min(share, self.jobs[name])
-            if self.alone[name] <= 0 and self.shared[name] <= 0:
-                del self.alone[name], self.jobs[name]
+        share = min(1.0, processors() / len(self.running))
+        for name in list(self.running):
+            self.left[name] -= share
+            if self.left[name] <= 0:
+                del self.left[name]
+                self.running.remove(name)
 
     def begin(self) -> None:
-        """Gives jobs to the checks that begin, as a build does."""
-        ready = [it for it in self.alone if it not in self.jobs and not any(lib in self.alone for lib in self.crates[it].libraries)]
-        begun = sorted(ready, key=lambda it: -self.chains[it])[: self.at_once - len(self.jobs)]
-        for place, name in enumerate(begun):
-            is_first = self.chains[name] >= max(self.chains[it] for it in (*self.jobs, *begun))
-            self.jobs[name] = jobs_of_check(sum(self.jobs.values()), len(begun) - place, is_first)
+        """Begins checks, as a build does."""
+        ready = [it for it in self.left if it not in self.running and not any(lib in self.left for lib in self.crates[it].libraries)]
+        self.running.update(sorted(ready, key=lambda it: -self.chains[it])[: self.at_once - len(self.running)])

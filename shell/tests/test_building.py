@@ -12,16 +12,13 @@ from typing import Dict, List
 from unittest import mock
 
 from proving.build import Progress
-from proving.costs import Estimate, jobs_of_check
+from proving.costs import Estimate
 from proving.crates import Crate, Crates, chains, paths
 
 from .trees import QUICK, SmallTree
 
 # A checker that proves nothing of one crate.
 FAILING = QUICK + 'if [ "$crate" = pfl_low ]; then echo no proof of it; exit 1; fi\n'
-# Jobs that were given, checks that are ready, and whether the next of these is on the dearest chain: alone; two at a time; the first and the
-# last of three; beside checks that have all processors, as another one, as the dearest, and as one of many.
-FOUR = ((0, 1, True), (0, 2, True), (0, 3, True), (3, 1, False), (4, 1, False), (4, 1, True), (2, 3, False))
 # A checker that waits, with a process of its own.
 SLOW = """#!/bin/sh
 echo $$ > "$NOTES/checker-$$"
@@ -46,23 +43,19 @@ class Lists(unittest.TestCase):
         crates = small({"a": [], "b": ["a"], "c": ["a"], "d": ["b"]})
         self.assertEqual(chains(crates, {"a": 1, "b": 2, "c": 5, "d": 4}), {"a": 7, "b": 6, "c": 5, "d": 4})
 
-    def test_an_estimate_is_no_less_than_what_is_done_alone(self) -> None:
-        crates = small({"a": [], "b": ["a"], "c": ["b"]})
-        self.assertGreaterEqual(Estimate(crates, {"a": 100.0, "b": 100.0, "c": 100.0}, 4).minutes(), 90 / 60)
+    def test_an_estimate_is_no_less_than_the_dearest_chain(self) -> None:
+        crates = small({"a": [], "b": ["a"], "c": ["b"], "d": []})
+        with mock.patch("proving.costs.processors", return_value=4):
+            minutes = Estimate(crates, {"a": 100.0, "b": 100.0, "c": 100.0, "d": 50.0}, 4).minutes()
+        self.assertEqual(minutes, 300 / 60)
 
-    def test_an_estimate_goes_by_the_jobs_that_memory_allows(self) -> None:
-        # 30 s alone, and 70 s that are shared among jobs.
-        crates = small({"a": []})
+    def test_an_estimate_goes_by_the_processors(self) -> None:
+        crates = small({"a": [], "b": [], "c": [], "d": []})
         minutes = []
-        for gigabytes in (2, 3, 8):
-            with mock.patch("proving.costs.processors", return_value=8), mock.patch("proving.costs.memory", return_value=gigabytes * 10**9):
-                minutes.append(Estimate(crates, {"a": 100.0}, 1).minutes())
-        self.assertEqual(minutes, [100 / 60, 65 / 60, 40 / 60])
-
-    def test_checks_share_the_processors_and_the_dearest_chain_has_half(self) -> None:
-        with mock.patch("proving.costs.processors", return_value=4), mock.patch("proving.costs.memory", return_value=24 * 10**9):
-            jobs = [jobs_of_check(given, ready, is_first) for given, ready, is_first in FOUR]
-        self.assertEqual(jobs, [4, 2, 2, 1, 1, 2, 1])
+        for many in (1, 2, 4):
+            with mock.patch("proving.costs.processors", return_value=many):
+                minutes.append(Estimate(crates, dict.fromkeys("abcd", 60.0), 4).minutes())
+        self.assertEqual(minutes, [4, 2, 1])
 
 
 class Said(unittest.TestCase):

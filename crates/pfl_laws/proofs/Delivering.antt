@@ -1,5 +1,5 @@
 -- What the records of a frame do to a node, one after another, and what a frame does that cannot be read.
-use Rattle.std.specs.Prelude.{◌≡◌, ◌≤◌, ◌⊎◌, ◌==◌, ℕ, Bool, true, false, not, ◌&&◌, ◌||◌, nat_le, List, [], ◌∷◌, All, filter, Option, Some, None}
+use Rattle.std.specs.Prelude.{◌≡◌, ◌≤◌, ◌⊎◌, ◌==◌, ℕ, Bool, true, false, ◌&&◌, ◌||◌, nat_le, List, [], ◌∷◌, All, filter, Option, Some, None}
 use Rattle.std.specs.Prelude.{is_some, IsOkAnd, Result, Ok, Err, refl}
 use Rattle.std.specs.List.{fold}
 use Rattle.std.specs.Option.{option_map_or}
@@ -10,7 +10,6 @@ use Rattle.pfl_base.specs.Lists.{folds}
 use Rattle.pfl_base.specs.declared.kernel.Kernel.{Kernel}
 use Rattle.pfl_base.specs.declared.state_name.StateName.{StateName}
 use Rattle.pfl_base.proofs.ForCallers.{names_total, names_exact}
-use Rattle.pfl_base.specs.Names.{is_name}
 use Rattle.pfl_base.specs.Packets.{is_tcp}
 use Rattle.pfl_edits.specs.Maps as maps
 use Rattle.pfl_edits.proofs.ForCallers.{key_cases}
@@ -20,32 +19,31 @@ use Rattle.pfl_world.specs.table.Tables.{AreStates}
 use Rattle.pfl_world.specs.wire.declared.fault.BadFrame.{BadFrame}
 use Rattle.pfl_world.specs.wire.declared.message.Message.{Message}
 use Rattle.pfl_world.specs.wire.declared.message.Message.TheVariants as message
-use Rattle.pfl_world.specs.wire.declared.message.StateRecord.{StateRecord}
 use Rattle.pfl_world.specs.wire.Frames.{Frame, records_of}
 use Rattle.pfl_world.specs.wire.Reading.{reading}
-use Rattle.pfl_world.specs.merge.declared.received.Received.{Received}
 use Rattle.pfl_world.specs.merge.declared.merged.Merged.{Merged}
-use Rattle.pfl_world.specs.merge.Merging.{merged}
-use Rattle.pfl_world.specs.queue.declared.Kind.TheVariants.{Update}
 use Rattle.pfl_world.specs.queue.Queues.{kind_of}
-use Rattle.pfl_world.specs.bulk.Bulk.{no_name}
 use Rattle.pfl_world.specs.defer.declared.Held.{Held}
 use Rattle.pfl_world.specs.desk.Nodes.{Node, timeout_at}
-use Rattle.pfl_world.specs.desk.Changes.{put_state, mark, push_if, count_bad, count_broken, count_stale, count_freed, count_lost, without_held}
-use Rattle.pfl_world.specs.desk.Changes.{is_held, is_unannounced, freed, lost, released, changed, forgotten, ask}
-use Rattle.pfl_world.specs.receive.Receiving.{taken, insert_taken, can_import, merge_taken, merged_into, bulk_taken, state_answered}
-use Rattle.pfl_world.specs.receive.Receiving.{is_partly_announced, ack_taken, delete_taken, is_known, cleared_names, of_state, of_update}
+use Rattle.pfl_world.specs.desk.Changes.{put_state, push_if, count_broken, count_stale, count_freed, count_lost, without_held}
+use Rattle.pfl_world.specs.desk.Changes.{is_held, is_unannounced, freed, lost, released, changed, forgotten}
+use Rattle.pfl_world.specs.receive.declared.decision.Decision.{Decision}
+use Rattle.pfl_world.specs.receive.declared.decision.Decision.TheVariants.{Bad, Import, Merge, Ask, Queue, Serve, Release, Delete, Clear, Hear, Nothing}
+use Rattle.pfl_world.specs.merge.declared.received.Received.{Received}
+use Rattle.pfl_world.specs.receive.Bringing.{name_in, received_in}
+use Rattle.pfl_world.specs.receive.Receiving.{clear_taken, cleared_names, decided, does, merged_into, taken}
 use Rattle.pfl_world.proofs.ForCallers.node.{taken-apart}
+use Rattle.pfl_world.proofs.ForCallers.receive.{RestsOn, deletes, rests}
 use Rattle.pfl_world.specs.receive.Delivering.{same_rules}
 use Rattle.pfl_laws.specs.Laws.{HasState, IsTied, Holds, LetsOut, OneLetsOut, RecordsLetGoOnlySo}
 use Rattle.pfl_world.specs.Delivering.{frame_points}
-use Rattle.pfl_laws.proofs.Following.{inner}
+use Rattle.pfl_laws.proofs.Following.{Filed, inner}
 use Rattle.pfl_laws.proofs.Holding.{other-holds, released-held}
 use Rattle.pfl_laws.proofs.Reading.{AreRecords, frame-is}
-use Rattle.pfl_laws.proofs.Merged.{RisesBy}
+use Rattle.pfl_laws.proofs.Merged.{RisesBy, merged-name}
 use Rattle.pfl_laws.proofs.Records.{risen-itself, risen-then, levels-by}
 use Rattle.pfl_laws.proofs.Removing.{forgotten-removes, removed-holds}
-use Rattle.pfl_laws.proofs.Tied.{tied-same, changed-puts, Puts, lost-held, forgotten-held, without}
+use Rattle.pfl_laws.proofs.Tied.{tied-same, PutsCalm, merged-puts, lost-held, forgotten-held, without}
 use Rattle.pfl_laws.proofs.Waiting.{AreGiven, tied-record}
 use Rattle.pfl_laws.proofs.Each.{StandsRightly, taken-rightly, taken-given}
 
@@ -94,31 +92,23 @@ merged-ids n x =
     let calm : State = record x.state { ack_wanted = false } in
     ids-either (ids n) (x.stale_src || x.stale_dst) (push_if true (changed (count_stale n) calm)) (put_state n calm) (changed-ids (count_stale n) calm) refl
 
-merge-ids : (n : Node) (s : State) (r : Received) → ids (merge_taken n s r) ≡ ids n
-merge-ids n s r = merged-ids (lost n s.name) (merged n.limits.kernel s r (timeout_at n s.rule r.class) n.clock) ∙ lost-ids n s.name
-
-insert-ids : (n : Node) (b : Bool) (r : StateRecord) (ack : Bool) → ids (insert_taken n b r ack) ≡ ids n
-insert-ids n b r ack = ids-either (ids n) (not (can_import n r)) _ _ refl (ids-either (ids n) ack _ _ refl refl)
+does-ids : (n : Node) (d : Decision) → ids (does n d) ≡ ids n
+unfolding does
+does-ids n (Bad why) = refl
+does-ids n (Import s ack) = ids-either (ids n) ack _ _ refl refl
+does-ids n (Merge x) = merged-ids (lost n x.state.name) x ∙ lost-ids n x.state.name
+does-ids n (Ask name) = refl
+does-ids n (Queue name) = refl
+does-ids n (Serve begins) = refl
+does-ids n (Release name) = released-ids n name
+does-ids n (Delete name) = forgotten-ids n name
+does-ids n (Clear creator bound) = all-ids (cleared_names n creator bound) n
+does-ids n (Hear status) = refl
+does-ids n Nothing = refl
 
 pub taken-ids : (n : Node) (b : Bool) (m : Message) → ids (taken n b m) ≡ ids n
 unfolding taken
-taken-ids n b (message.Clear creator bound) = all-ids (cleared_names n creator bound) n
-taken-ids n b (message.Insert r) = insert-ids n b r r.ack_wanted
-taken-ids n b (message.InsertAck name) =
-    ids-some (ids n) (maps.get n.states name) (ack_taken n) n
-    (λ s. ids-either (ids n) s.ack_wanted (released n s.name) n (released-ids n s.name) refl) refl
-taken-ids n b (message.Update r) =
-    ids-some (ids n) (maps.get n.states r.name) (λ s. merge_taken n s (of_state r)) (insert_taken n b r false)
-    (λ s. merge-ids n s (of_state r)) (insert-ids n b r false)
-taken-ids n b (message.UpdateShort u) = ids-some (ids n) (maps.get n.states u.name) (λ s. merge_taken n s (of_update u)) (ask n u.name)
-    (λ s. merge-ids n s (of_update u)) refl
-taken-ids n b (message.UpdateRequest name) =
-    ids-either (ids n) (is_name no_name name) (bulk_taken n) (option_map_or (state_answered n) (maps.get n.states name) (count_bad n)) refl
-    (ids-some (ids n) (maps.get n.states name) (state_answered n) (count_bad n)
-    (λ s. ids-either (ids n) (not s.no_sync && is_partly_announced (kind_of n.queue s.name)) (push_if true (mark n s.name Update)) n refl refl) refl)
-taken-ids n b (message.Delete r) = ids-either (ids n) (is_known n r.name) (forgotten n r.name) (count_bad n) (forgotten-ids n r.name) refl
-taken-ids n b (message.DeleteShort name) = ids-either (ids n) (is_known n name) (forgotten n name) (count_bad n) (forgotten-ids n name) refl
-taken-ids n b (message.Bulk creator status) = refl
+taken-ids n b m = does-ids n (decided n b m)
 
 -- ---- which held packets a record leaves
 
@@ -130,36 +120,12 @@ stays-either : (n : Node) (m : Message) (h : Held) (b : Bool) (x y : Node) → S
 stays-either n m h true x y k l = k
 stays-either n m h false x y k l = l
 
-stays-some : {X : Type 0} (n : Node) (m : Message) (h : Held) (o : Option X) (f : X → Node) (d : Node)
-    → ((x : X) → o ≡ Some x → Stays n m h (f x)) → Stays n m h d → Stays n m h (option_map_or f o d)
-stays-some n m h None f d k l = l
-stays-some n m h (Some x) f d k l = k x refl
-
 -- a packet of another name stays, and one of this name goes for a reason
-out : (n k : Node) (m : Message) (name : StateName) (h : Held) → k.held ≡ without n.held name → (h.name ≡ name → LetsOut m h.name) → Holds n h → Stays n m h k
+out : (n k : Node) (m : Message) (name : StateName) (h : Held) → k.held ≡ without n.held name → LetsOut m name → Holds n h → Stays n m h k
 out n k m name h held reason holds = elim (key_cases names_total names_exact h.name name) [
-  | inl same ↦ inr (reason same)
+  | inl same ↦ inr (subst (LetsOut m) (sym same) reason)
   | inr other ↦ inl (other-holds h n k name held other holds)
 ]
-
-merge-stays : (n : Node) (m : Message) (s : State) (r : Received) (h : Held) → (h.name ≡ s.name → LetsOut m h.name) → Holds n h
-    → Stays n m h (merge_taken n s r)
-merge-stays n m s r h reason holds =
-    let x = merged n.limits.kernel s r (timeout_at n s.rule r.class) n.clock in
-    let l = lost n s.name in
-    let calm : State = record x.state { ack_wanted = false } in
-    let puts : Puts (count_stale l) calm (changed (count_stale l) calm) = changed-puts (count_stale l) calm in
-    stays-either n m h (x.stale_src || x.stale_dst) (push_if true (changed (count_stale l) calm)) (put_state l calm)
-    (out n (push_if true (changed (count_stale l) calm)) m s.name h (puts.held ∙ lost-held n s.name) reason holds)
-    (out n (put_state l calm) m s.name h (lost-held n s.name) reason holds)
-
-insert-stays : (n : Node) (m : Message) (b : Bool) (r : StateRecord) (ack : Bool) (h : Held) → Holds n h → Stays n m h (insert_taken n b r ack)
-insert-stays n m b r ack h holds = stays-either n m h (not (can_import n r)) _ _ (inl holds) (stays-either n m h ack _ _ (inl holds) (inl holds))
-
-delete-stays : (n : Node) (m : Message) (name : StateName) (h : Held) → (h.name ≡ name → LetsOut m h.name) → Holds n h → Stays n m h (delete_taken n name)
-delete-stays n m name h reason holds =
-    stays-either n m h (is_known n name) (forgotten n name) (count_bad n)
-    (out n (forgotten n name) m name h (forgotten-held n name ∙ lost-held n name) reason holds) (inl holds)
 
 -- a clear takes out states of its creator up to its bound
 passes : (name : StateName) (creator bound : ℕ) → ((name.creator == creator) && nat_le name.id bound) ≡ true → (name.creator ≡ creator) × (name.id ≤ bound)
@@ -188,31 +154,57 @@ clear-stays creator bound (name ∷ names) n h holds =
     ]
     by false e rest = rest n holds
 
+-- a record that brings something of a known state lets its packet go, and so does one that deletes it
+received-lets : (m : Message) (r : Received) → received_in m ≡ Some r → LetsOut m (name_in m)
+received-lets (message.Clear creator bound) r e = absurd (cc)
+received-lets (message.Insert s) r e = absurd (cc)
+received-lets (message.InsertAck name) r e = absurd (cc)
+received-lets (message.Update s) r e = refl
+received-lets (message.UpdateShort u) r e = refl
+received-lets (message.UpdateRequest name) r e = absurd (cc)
+received-lets (message.Delete s) r e = absurd (cc)
+received-lets (message.DeleteShort name) r e = absurd (cc)
+received-lets (message.Bulk creator status) r e = absurd (cc)
+
+deleted-lets : (m : Message) → deletes m ≡ true → LetsOut m (name_in m)
+deleted-lets (message.Clear creator bound) e = absurd (cc)
+deleted-lets (message.Insert s) e = absurd (cc)
+deleted-lets (message.InsertAck name) e = absurd (cc)
+deleted-lets (message.Update s) e = absurd (cc)
+deleted-lets (message.UpdateShort u) e = absurd (cc)
+deleted-lets (message.UpdateRequest name) e = absurd (cc)
+deleted-lets (message.Delete s) e = refl
+deleted-lets (message.DeleteShort name) e = refl
+deleted-lets (message.Bulk creator status) e = absurd (cc)
+
+-- by the decision
+does-stays : (n : Node) (b : Bool) (m : Message) (d : Decision) (h : Held) → Filed n.states → RestsOn n b m d → Holds n h → Stays n m h (does n d)
+unfolding does RestsOn
+does-stays n b m (Bad why) h filed so holds = inl holds
+does-stays n b m (Import s ack) h filed so holds = stays-either n m h ack _ _ (inl holds) (inl holds)
+does-stays n b m (Merge x) h filed so holds =
+    let puts : PutsCalm n x.state (merged_into (lost n x.state.name) x) = merged-puts n x in
+    let own = merged-name n.limits.kernel so.held so.received (timeout_at n so.held.rule so.received.class) n.clock in
+    let name : x.state.name ≡ name_in m = ap (λ (y : Merged). y.state.name) so.is ∙ own ∙ filed (name_in m) so.held so.found in
+    let lets : LetsOut m x.state.name = subst (LetsOut m) (sym name) (received-lets m so.received so.brought) in
+    out n (merged_into (lost n x.state.name) x) m x.state.name h puts.held lets holds
+does-stays n b m (Ask name) h filed so holds = inl holds
+does-stays n b m (Queue name) h filed so holds = inl holds
+does-stays n b m (Serve begins) h filed so holds = inl holds
+does-stays n b m (Release name) h filed so holds =
+    let own : name_in m ≡ name = sym (filed (name_in m) so.0 so.1.0) ∙ sym so.1.1 in
+    let lets = subst (λ (c : Message). LetsOut c name) (sym so.1.3) own in
+    out n (released n name) m name h (released-held n name) lets holds
+does-stays n b m (Delete name) h filed so holds =
+    out n (forgotten n name) m name h (forgotten-held n name ∙ lost-held n name) (subst (LetsOut m) (sym so.1) (deleted-lets m so.2)) holds
+does-stays n b m (Clear creator bound) h filed so holds =
+    subst (λ (c : Message). Stays n c h (clear_taken n creator bound)) (sym so) (clear-stays creator bound (maps.keys n.states) n h holds)
+does-stays n b m (Hear status) h filed so holds = inl holds
+does-stays n b m Nothing h filed so holds = inl holds
+
 pub record-stays : RecordsLetGoOnlySo
 unfolding taken
-record-stays n b (message.Clear creator bound) are h holds = clear-stays creator bound (maps.keys n.states) n h holds
-record-stays n b (message.Insert r) are h holds = insert-stays n (message.Insert r) b r r.ack_wanted h holds
-record-stays n b (message.InsertAck name) are h holds =
-    stays-some n (message.InsertAck name) h (maps.get n.states name) (ack_taken n) n
-    (λ s at. stays-either n (message.InsertAck name) h s.ack_wanted (released n s.name) n
-    (out n (released n s.name) (message.InsertAck name) s.name h (released-held n s.name) (λ same. sym (same ∙ are.filed name s at)) holds)
-    (inl holds)) (inl holds)
-record-stays n b (message.Update r) are h holds =
-    stays-some n (message.Update r) h (maps.get n.states r.name) (λ s. merge_taken n s (of_state r)) (insert_taken n b r false)
-    (λ s at. merge-stays n (message.Update r) s (of_state r) h (λ same. sym (same ∙ are.filed r.name s at)) holds)
-    (insert-stays n (message.Update r) b r false h holds)
-record-stays n b (message.UpdateShort u) are h holds =
-    stays-some n (message.UpdateShort u) h (maps.get n.states u.name) (λ s. merge_taken n s (of_update u)) (ask n u.name)
-    (λ s at. merge-stays n (message.UpdateShort u) s (of_update u) h (λ same. sym (same ∙ are.filed u.name s at)) holds) (inl holds)
-record-stays n b (message.UpdateRequest name) are h holds =
-    let m = message.UpdateRequest name in
-    stays-either n m h (is_name no_name name) (bulk_taken n) (option_map_or (state_answered n) (maps.get n.states name) (count_bad n)) (inl holds)
-    (stays-some n m h (maps.get n.states name) (state_answered n) (count_bad n)
-    (λ s at. stays-either n m h (not s.no_sync && is_partly_announced (kind_of n.queue s.name)) (push_if true (mark n s.name Update)) n
-    (inl holds) (inl holds)) (inl holds))
-record-stays n b (message.Delete r) are h holds = delete-stays n (message.Delete r) r.name h (λ same. sym same) holds
-record-stays n b (message.DeleteShort name) are h holds = delete-stays n (message.DeleteShort name) name h (λ same. sym same) holds
-record-stays n b (message.Bulk creator status) are h holds = inl holds
+record-stays n b m are h holds = does-stays n b m (decided n b m) h are.filed (rests n b m) holds
 
 -- ---- all records of a frame
 

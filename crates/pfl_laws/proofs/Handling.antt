@@ -1,7 +1,6 @@
 -- What a packet keeps under one name that a node may not give any more: a new state has another name, a reused connection
 -- is deleted, and what stays is followed by what tracking made of it.
-use Rattle.std.specs.Prelude.{◌≡◌, ◌≢◌, ◌<◌, ℕ, Bool, true, false, nat_le, Option, Some, None, refl}
-use Rattle.std.specs.Option.{option_map_or}
+use Rattle.std.specs.Prelude.{◌≡◌, ◌≢◌, ◌<◌, Bool, true, false, Option, Some, None, refl}
 use Rattle.std.proofs.Common.{◌∙◌, ap, cond, sym, arith}
 use Rattle.pfl_base.specs.declared.direction.Dir.{Dir}
 use Rattle.pfl_base.specs.declared.packet.Packet.{Packet}
@@ -9,20 +8,18 @@ use Rattle.pfl_base.specs.declared.state_name.StateName.{StateName}
 use Rattle.pfl_base.specs.Keys.{key}
 use Rattle.pfl_base.specs.Packets.{IsPacket}
 use Rattle.pfl_edits.specs.Maps as maps
-use Rattle.pfl_world.specs.rules.declared.rule.Rule.{Rule}
-use Rattle.pfl_world.specs.rules.Rules.{verdict, rule_at}
 use Rattle.pfl_world.specs.track.declared.state.State.{State}
 use Rattle.pfl_world.specs.track.declared.tracked.Tracked.{Tracked}
 use Rattle.pfl_world.specs.track.declared.tracked.Tracked.TheVariants.{Moved, OutOfWindow, Reused}
+use Rattle.pfl_world.proofs.ForCallers.node.{judged-by}
 use Rattle.pfl_world.proofs.ForCallers.track.{Stays, tracked_by-stays}
 use Rattle.pfl_world.specs.table.Tables.{States, AreStates, found}
-use Rattle.pfl_world.specs.table.Translating.{is_taken, new_keys}
 use Rattle.pfl_world.proofs.ForCallers.table.{found-stands}
 use Rattle.pfl_world.specs.queue.declared.Kind.TheVariants.{Insert}
 use Rattle.pfl_world.specs.defer.Deferring.{pushed_out}
 use Rattle.pfl_world.specs.desk.Nodes.{Node, IsGiven}
 use Rattle.pfl_world.specs.desk.Changes.{mark, freed, changed, deleted}
-use Rattle.pfl_world.specs.node.Starting.{Handled, started, judged, by_rule, announced, hold, with_room, with_new, new_state, next_name, is_at_max, is_deferred}
+use Rattle.pfl_world.specs.node.Starting.{Handled, announced, hold, is_deferred, judged, next_name, with_new, with_room}
 use Rattle.pfl_world.specs.node.Packets.{handled, handled_by, followed, accepted, tracked_at}
 use Rattle.pfl_laws.proofs.Following.{Alike, Alike-itself, Follows, alike-follows, alike-follows-then, moved-follows, comes-removed, Filed, filed-put}
 use Rattle.pfl_laws.proofs.Keeping.{Keeps, keeps-then, alike-then, keeps-as, keeps-itself, keeps-given, on_some, put_other-keeps, freed-states}
@@ -34,11 +31,6 @@ one_of : (R : State → State → Type 0) (q : StateName) (n : Node) (b : Bool) 
     → Keeps R q n (cond b x y).node
 one_of R q n true x y k l = k
 one_of R q n false x y k l = l
-
-of_some : {X : Type 0} (R : State → State → Type 0) (q : StateName) (n : Node) (o : Option X) (f : X → Handled) (d : Handled)
-    → ((x : X) → Keeps R q n (f x).node) → Keeps R q n d.node → Keeps R q n (option_map_or f o d).node
-of_some R q n None f d k l = l
-of_some R q n (Some x) f d k l = k x
 
 -- ---- a packet that no state takes
 
@@ -71,30 +63,13 @@ announced-keeps q n s dir p filed other =
     (hold-keeps q (with_room (mark n s.name Insert)) s p other))
     still)
 
-started-keeps : (q : StateName) (n : Node) (dir : Dir) (p : Packet) (number : ℕ) (r : Rule) → Filed n.states → IsGiven n q
-    → Keeps Alike q n (started n dir p number r).node
-unfolding started
-started-keeps q n dir p number r filed given =
-    let still : Keeps Alike q n n = keeps-itself Alike q n Alike-itself in
-    let new = new_state n dir p number r in
-    let other : q ≢ new.name = not_next n q given in
-    one_of Alike q n (is_at_max n number r) _ _ still
-    (one_of Alike q n (nat_le n.limits.states (maps.len n.states)) _ _ still
-    (one_of Alike q n (is_taken n.states (new_keys n.states r (key p dir))) _ _ still
-    (alike-then q n (with_new n new) (announced (with_new n new) new dir p).node
-    (new-keeps q n new other) (announced-keeps q (with_new n new) new dir p (filed-put n.states new filed) other))))
-
 pub judged-keeps : (q : StateName) (n : Node) (dir : Dir) (p : Packet) → Filed n.states → IsGiven n q → Keeps Alike q n (judged n dir p).node
-unfolding judged
-judged-keeps q n dir p filed given = one_of Alike q n (verdict n.rules.list p dir).pass _ _ (by_number (verdict n.rules.list p dir).rule) still
-  where
-    still : Keeps Alike q n n
-    still = keeps-itself Alike q n Alike-itself
-
-    by_number : (rule : Option ℕ) → Keeps Alike q n (by_rule n dir p rule).node
-    by_number None = still
-    by_number (Some number) = of_some Alike q n (rule_at n.rules.list (Some number)) (started n dir p number) _
-        (λ r. started-keeps q n dir p number r filed given) still
+judged-keeps q n dir p filed given =
+    let still : Keeps Alike q n n = keeps-itself Alike q n Alike-itself in
+    judged-by (λ (h : Handled). Keeps Alike q n h.node) n dir p still (λ why. still) (λ s new.
+    let other : q ≢ s.name = λ e. not_next n q given (e ∙ ap (λ (t : State). t.name) new.is) in
+    alike-then q n (with_new n s) (announced (with_new n s) s dir p).node
+    (new-keeps q n s other) (announced-keeps q (with_new n s) s dir p (filed-put n.states s filed) other))
 
 -- ---- a packet of a state
 

@@ -10,7 +10,8 @@ use Rattle.pfl_world.specs.track.declared.state.State.{State}
 use Rattle.pfl_world.specs.table.Tables.{States}
 use Rattle.pfl_world.specs.queue.Queues.{kind_of}
 use Rattle.pfl_world.specs.desk.Nodes.{Node, IsGiven}
-use Rattle.pfl_world.specs.desk.Changes.{put_state, is_held, is_unannounced, freed, not_waiting, released, changed, deleted, count_freed, without_held}
+use Rattle.pfl_world.specs.desk.Changes.{put_state, is_held, is_unannounced, freed, lost, not_waiting, released, changed, deleted, forgotten}
+use Rattle.pfl_world.specs.desk.Changes.{count_freed, count_lost, without_held}
 use Rattle.pfl_world.proofs.ForCallers.desk.{Rest, deleted-rest}
 use Rattle.pfl_laws.proofs.Following.{Alike, Alike-itself, Alike-then, From, Comes, comes-then, comes-same, comes-put, comes-removed, Filed}
 
@@ -122,6 +123,17 @@ changed-keeps R q n t itself here =
     (either R q n (is_tcp t.wire.proto) _ _
     (put-keeps R q n (record t { updates = min 255 (t.updates + 1) }) itself (λ same. here same (min 255 (t.updates + 1))))
     own))
+
+pub lost-states : (n : Node) (name : StateName) → (lost n name).states ≡ n.states
+lost-states n name = by (is_held n name)
+  where
+    by : (b : Bool) → (cond b (count_lost (without_held n name)) n).states ≡ n.states
+    by true = refl
+    by false = refl
+
+pub forgotten-states : (n : Node) (name : StateName) → (forgotten n name).states ≡ maps.remove n.states name
+unfolding forgotten
+forgotten-states n name = ap (λ (l : States). maps.remove l name) (lost-states n name)
 
 pub deleted-states : (n : Node) (s : State) → (deleted n s).states ≡ maps.remove n.states s.name
 deleted-states n s = ap (λ (r : Rest). r.1.1.0) (deleted-rest n s)

@@ -1,5 +1,5 @@
 -- Why a held packet leaves: no event lets one go but those that the law names.
-use Rattle.std.specs.Prelude.{◌≡◌, ◌⊎◌, ℕ, Bool, true, false, nat_le, List, [], ◌∷◌, Option, Some, None, IsSomeAnd, IsOkAnd, Result, refl}
+use Rattle.std.specs.Prelude.{◌≡◌, ◌⊎◌, Bool, true, false, List, [], ◌∷◌, Option, Some, None, IsSomeAnd, IsOkAnd, Result, refl}
 use Rattle.std.specs.List.{fold}
 use Rattle.std.specs.Option.{option_map_or}
 use Rattle.std.proofs.Common.{◌∙◌, cond, ap, sym, subst, inl, inr}
@@ -12,13 +12,11 @@ use Rattle.pfl_base.specs.Keys.{key}
 use Rattle.pfl_base.proofs.ForCallers.{names_total, names_exact}
 use Rattle.pfl_edits.specs.Maps as maps
 use Rattle.pfl_edits.proofs.ForCallers.{key_cases}
-use Rattle.pfl_world.specs.rules.declared.rule.Rule.{Rule}
-use Rattle.pfl_world.specs.rules.Rules.{verdict, rule_at}
 use Rattle.pfl_world.specs.track.declared.state.State.{State}
 use Rattle.pfl_world.specs.track.declared.tracked.Tracked.{Tracked}
 use Rattle.pfl_world.specs.track.declared.tracked.Tracked.TheVariants.{Moved, OutOfWindow, Reused}
 use Rattle.pfl_world.specs.table.Tables.{found}
-use Rattle.pfl_world.specs.table.Translating.{is_taken, new_keys}
+use Rattle.pfl_world.proofs.ForCallers.node.{judged-by}
 use Rattle.pfl_world.proofs.ForCallers.table.{found-stands}
 use Rattle.pfl_world.specs.wire.declared.fault.BadFrame.{BadFrame}
 use Rattle.pfl_world.specs.wire.Frames.{Frame, records_of}
@@ -44,7 +42,7 @@ use Rattle.pfl_world.specs.node.Turning as turning
 use Rattle.pfl_world.specs.node.Retrying.{retried_client}
 use Rattle.pfl_world.specs.node.Flushing.{flushed, update_count_cleared}
 use Rattle.pfl_world.specs.node.Packets.{handled, handled_by, followed, accepted, before_rules, on_the_way, tracked_at}
-use Rattle.pfl_world.specs.node.Starting.{Handled, pass, hold, started, judged, by_rule, announced, with_room, with_new, new_state, is_at_max, is_deferred}
+use Rattle.pfl_world.specs.node.Starting.{Handled, announced, hold, is_deferred, judged, pass, with_new, with_room}
 use Rattle.pfl_world.specs.Worlds.{World, node_at, with_node}
 use Rattle.pfl_laws.specs.Laws.{FrameLetsOut, HeldPacketsLeaveOnlySo, Holds, LetsGo, NodeLetsGo, LetsOldestGo, OneLetsOut, asked_at}
 use Rattle.pfl_laws.proofs.Following.{Alike, Filed}
@@ -69,11 +67,6 @@ Stays n h x = Holds x.node h ⊎ LetsOldestGo x.fate n.held h.name
 stays_test : (n : Node) (h : Held) (b : Bool) (x y : Handled) → Stays n h x → Stays n h y → Stays n h (cond b x y)
 stays_test n h true x y k l = k
 stays_test n h false x y k l = l
-
-stays_some : {X : Type 0} (n : Node) (h : Held) (o : Option X) (f : X → Handled) (d : Handled) → ((x : X) → Stays n h (f x)) → Stays n h d
-    → Stays n h (option_map_or f o d)
-stays_some n h None f d k l = l
-stays_some n h (Some x) f d k l = k x
 
 room-stays : (n : Node) (h : Held) → Holds n h → Holds (with_room n) h ⊎ IsSomeAnd (pushed_out n.held) (λ k. k.name ≡ h.name)
 room-stays n h holds = by (pushed_out n.held)
@@ -100,23 +93,8 @@ announced-stays n h new s dir p same holds =
     (held-stays n h s p (with_room marked) (subst (λ (d : Deferrals). Holds (with_room marked) h ⊎ IsSomeAnd (pushed_out d) (λ k. k.name ≡ h.name)) same room))
     (inl here))
 
-started-stays : (n : Node) (h : Held) (dir : Dir) (p : Packet) (number : ℕ) (r : Rule) → Holds n h → Stays n h (started n dir p number r)
-unfolding started
-started-stays n h dir p number r holds =
-    let s = new_state n dir p number r in
-    stays_test n h (is_at_max n number r) _ _ (inl holds)
-    (stays_test n h (nat_le n.limits.states (maps.len n.states)) _ _ (inl holds)
-    (stays_test n h (is_taken n.states (new_keys n.states r (key p dir))) _ _ (inl holds)
-    (announced-stays n h (with_new n s) s dir p refl holds)))
-
 judged-stays : (n : Node) (h : Held) (dir : Dir) (p : Packet) → Holds n h → Stays n h (judged n dir p)
-unfolding judged
-judged-stays n h dir p holds = stays_test n h (verdict n.rules.list p dir).pass _ _ (by_number (verdict n.rules.list p dir).rule) (inl holds)
-  where
-    by_number : (rule : Option ℕ) → Stays n h (by_rule n dir p rule)
-    by_number None = inl holds
-    by_number (Some number) = stays_some n h (rule_at n.rules.list (Some number)) (started n dir p number) _
-        (λ r. started-stays n h dir p number r holds) (inl holds)
+judged-stays n h dir p holds = judged-by (Stays n h) n dir p (inl holds) (λ why. inl holds) (λ s new. announced-stays n h (with_new n s) s dir p refl holds)
 
 -- ---- a packet
 

@@ -15,8 +15,7 @@ use Rattle.pfl_world.specs.desk.Changes.{is_held, count_lost, without_held, dele
 use Rattle.pfl_world.proofs.ForCallers.desk.{Rest, deleted-rest}
 use Rattle.pfl_laws.specs.Laws.{IsTied, Holds}
 use Rattle.pfl_laws.proofs.Following.{Alike, Alike-itself, comes-removed}
-use Rattle.pfl_laws.proofs.Keeping.{Keeps, alike-then, keeps-itself, deleted-states}
-use Rattle.pfl_laws.proofs.Records.{forgotten-states}
+use Rattle.pfl_laws.proofs.Keeping.{Keeps, alike-then, keeps-itself, deleted-states, forgotten-states}
 use Rattle.pfl_laws.proofs.Tied.{without, tied-out, lost-held, deleted-held, forgotten-held}
 use Rattle.pfl_laws.proofs.Holding.{other-holds}
 
@@ -61,7 +60,7 @@ forgotten-removes n name = record {
 
 -- ---- one
 
-removed-keeps : (q : StateName) (n m : Node) (name : StateName) → Removes n name m → Keeps Alike q n m
+pub removed-keeps : (q : StateName) (n m : Node) (name : StateName) → Removes n name m → Keeps Alike q n m
 removed-keeps q n m name out =
     let next = out.next in
     record {

@@ -1,5 +1,5 @@
 -- What a node's changes do to held packets and to the states that wait for them: at one name both come or both go.
-use Rattle.std.specs.Prelude.{◌≡◌, ◌≢◌, ◌+◌, ℕ, Bool, true, false, not, nat_le, min, List, [], ◌∷◌, ◌++◌, filter, find, Option, Some, None, is_some, refl}
+use Rattle.std.specs.Prelude.{◌≡◌, ◌≢◌, ◌+◌, ◌||◌, ℕ, Bool, true, false, not, nat_le, min, List, [], ◌∷◌, ◌++◌, filter, find, Option, Some, None, is_some, refl}
 use Rattle.std.specs.Option.{option_map_or}
 use Rattle.std.proofs.Common.{◌∙◌, cond, ap, sym, subst, inl, inr}
 use Rattle.pfl_base.specs.declared.packet.Packet.{Packet}
@@ -12,17 +12,18 @@ use Rattle.pfl_edits.specs.Maps.{set_at}
 use Rattle.pfl_edits.proofs.ForCallers.{get-set_at_same, get-set_at_other, set_at-same, key_cases}
 use Rattle.pfl_world.specs.track.declared.state.State.{State}
 use Rattle.pfl_world.specs.table.Tables.{States}
+use Rattle.pfl_world.specs.merge.declared.merged.Merged.{Merged}
 use Rattle.pfl_world.specs.queue.declared.Kind.TheVariants.{UpdateShort}
 use Rattle.pfl_world.specs.queue.Queues.{kind_of}
 use Rattle.pfl_world.specs.defer.declared.Held.{Held}
 use Rattle.pfl_world.specs.defer.Deferring.{Deferrals, held_of, let_go, with_held}
 use Rattle.pfl_world.specs.desk.Nodes.{Node}
 use Rattle.pfl_world.specs.desk.Changes.{put_state, mark, push_if, counted, told, is_recent, is_held, is_unannounced, is_insert, freed, lost}
-use Rattle.pfl_world.specs.desk.Changes.{not_waiting, released, changed, deleted, forgotten, count_freed, count_lost, without_held}
+use Rattle.pfl_world.specs.desk.Changes.{not_waiting, released, changed, deleted, forgotten, count_freed, count_lost, count_stale, without_held}
+use Rattle.pfl_world.specs.receive.Receiving.{merged_into}
 use Rattle.pfl_laws.specs.Laws.{IsTied}
 use Rattle.pfl_laws.proofs.Following.{Filed}
-use Rattle.pfl_laws.proofs.Keeping.{freed-states, deleted-states}
-use Rattle.pfl_laws.proofs.Records.{forgotten-states}
+use Rattle.pfl_laws.proofs.Keeping.{freed-states, lost-states, deleted-states, forgotten-states}
 
 -- ---- the list of held packets
 
@@ -163,10 +164,6 @@ pub tied-either : (b : Bool) (x y : Node) → IsTied x → IsTied y → IsTied (
 tied-either true x y k l = k
 tied-either false x y k l = l
 
-pub tied-by_test : (b : Bool) (x y : Node) → (b ≡ true → IsTied x) → (b ≡ false → IsTied y) → IsTied (cond b x y)
-tied-by_test true x y k l = k refl
-tied-by_test false x y k l = l refl
-
 pub tied-some : {X : Type 0} (o : Option X) (f : X → Node) (d : Node) → ((x : X) → o ≡ Some x → IsTied (f x)) → IsTied d → IsTied (option_map_or f o d)
 tied-some None f d k l = l
 tied-some (Some x) f d k l = k x refl
@@ -239,6 +236,28 @@ changed-puts n s =
     puts-either n s s.no_sync (put_state n s) (push_if (is_recent n s) (told n s))
     (record { updates = s.updates; states = refl; held = refl })
     (puts-pushed n s (is_recent n s) (told n s) (told-puts n s))
+
+-- a state is put that does not wait, however its updates are counted, and its packet goes
+pub record PutsCalm (n : Node) (s : State) (m : Node) : Type 0 where
+  pub updates : ℕ
+  pub states : m.states ≡ maps.insert n.states s.name (record s { ack_wanted = false; updates = updates })
+  pub held : m.held ≡ without n.held s.name
+
+-- so is what a merge gave
+pub merged-puts : (n : Node) (x : Merged) → PutsCalm n x.state (merged_into (lost n x.state.name) x)
+merged-puts n x =
+    let m = lost n x.state.name in
+    let calm : State = record x.state { ack_wanted = false } in
+    let told : Puts (count_stale m) calm (changed (count_stale m) calm) = changed-puts (count_stale m) calm in
+    let puts : Puts m calm (merged_into m x) =
+    puts-either m calm (x.stale_src || x.stale_dst) (push_if true (changed (count_stale m) calm)) (put_state m calm)
+    (record { updates = told.updates; states = told.states; held = told.held })
+    (record { updates = calm.updates; states = refl; held = refl }) in
+    record {
+      updates = puts.updates;
+      states = puts.states ∙ ap (λ (l : States). maps.insert l x.state.name (record calm { updates = puts.updates })) (lost-states n x.state.name);
+      held = puts.held ∙ lost-held n x.state.name;
+    }
 
 held-either : (d : Deferrals) (b : Bool) (x y : Node) → x.held ≡ d → y.held ≡ d → (cond b x y).held ≡ d
 held-either d true x y k l = k

@@ -1,5 +1,5 @@
 -- What a record from the peer leaves alone: limits, rules, clock, creator and the next id.
-use Rattle.std.specs.Prelude.{◌≡◌, ℕ, Bool, true, false, not, ◌||◌, List, [], ◌∷◌, Option, Some, None, refl}
+use Rattle.std.specs.Prelude.{◌≡◌, ℕ, Bool, true, false, ◌||◌, List, [], ◌∷◌, Option, Some, None, refl}
 use Rattle.std.specs.List.{fold}
 use Rattle.std.specs.Option.{option_map_or}
 use Rattle.std.proofs.Common.{ap, cond, ◌∙◌}
@@ -7,21 +7,16 @@ use Rattle.pfl_base.specs.declared.state_name.StateName.{StateName}
 use Rattle.pfl_base.specs.Packets.{is_tcp}
 use Rattle.pfl_edits.specs.Maps as maps
 use Rattle.pfl_rules.specs.Rules.{Rules}
-use Rattle.pfl_receive.specs.merge.Merging.{merged}
 use Rattle.pfl_track.specs.declared.state.State.{State}
-use Rattle.pfl_wire.specs.declared.message.BulkStatus.{BulkStatus}
-use Rattle.pfl_wire.specs.declared.message.StateRecord.{StateRecord}
 use Rattle.pfl_wire.specs.declared.message.Message.{Message}
-use Rattle.pfl_wire.specs.declared.message.Message.TheVariants as message
 use Rattle.pfl_receive.specs.queue.Queues.{kind_of}
-use Rattle.pfl_receive.specs.merge.declared.received.Received.{Received}
-use Rattle.pfl_receive.specs.merge.declared.merged.Merged.{Merged}
 use Rattle.pfl_language.specs.declared.limits.Limits.{Limits}
 use Rattle.pfl_node.specs.Laws.{RecordsLeaveTheRest}
-use Rattle.pfl_receive.specs.desk.Nodes.{Node, timeout_at}
+use Rattle.pfl_receive.specs.desk.Nodes.{Node}
 use Rattle.pfl_receive.specs.desk.Changes.{is_held, lost, freed, released, is_unannounced, changed, forgotten}
-use Rattle.pfl_receive.specs.Receiving.{taken, insert_taken, can_import, merge_taken, merged_into, bulk_taken, state_answered, request_taken}
-use Rattle.pfl_receive.specs.Receiving.{ack_taken, is_known, cleared_names, status_taken}
+use Rattle.pfl_receive.specs.declared.decision.Decision.{Decision}
+use Rattle.pfl_receive.specs.declared.decision.Decision.TheVariants.{Bad, Import, Merge, Ask, Queue, Serve, Release, Delete, Clear, Hear, Nothing}
+use Rattle.pfl_receive.specs.Receiving.{cleared_names, decided, does, taken}
 
 -- what stays: as one value
 abbrev pub Still : Type 0
@@ -61,33 +56,26 @@ forgotten-keeps : (n : Node) (name : StateName) → Keeps n (forgotten n name)
 unfolding forgotten
 forgotten-keeps n name = lost-keeps n name
 
-insert-keeps : (n : Node) (b : Bool) (r : StateRecord) (ack : Bool) → Keeps n (insert_taken n b r ack)
-insert-keeps n b r ack = either (not (can_import n r)) n _ _ refl (either ack n _ _ refl refl)
-
-merge-keeps : (n : Node) (s : State) (r : Received) → Keeps n (merge_taken n s r)
-merge-keeps n s r = go (lost n s.name) (merged n.limits.kernel s r (timeout_at n s.rule r.class) n.clock) ∙ lost-keeps n s.name
-  where
-    go : (m : Node) (x : Merged) → Keeps m (merged_into m x)
-    go m x = either (x.stale_src || x.stale_dst) m _ _ (changed-keeps _ _) refl
-
-request-keeps : (n : Node) (name : StateName) → Keeps n (request_taken n name)
-request-keeps n name = either _ n (bulk_taken n) _ refl (on_some (maps.get n.states name) (state_answered n) n _ (λ s. either _ n _ n refl refl) refl)
-
-status-keeps : (n : Node) (status : BulkStatus) → Keeps n (status_taken n status)
-status-keeps n status = refl
+-- whatever was decided, doing it
+done-keeps : (n : Node) (d : Decision) → Keeps n (does n d)
+unfolding does
+done-keeps n (Bad why) = refl
+done-keeps n (Import s ack) = either ack n _ _ refl refl
+done-keeps n (Merge x) =
+    let l = lost n x.state.name in
+    either (x.stale_src || x.stale_dst) l _ _ (changed-keeps _ _) refl ∙ lost-keeps n x.state.name
+done-keeps n (Ask name) = refl
+done-keeps n (Queue name) = refl
+done-keeps n (Serve begins) = refl
+done-keeps n (Release name) = released-keeps n name
+done-keeps n (Delete name) = forgotten-keeps n name
+done-keeps n (Clear creator bound) = over_all forgotten (cleared_names n creator bound) n forgotten-keeps
+done-keeps n (Hear status) = refl
+done-keeps n Nothing = refl
 
 taken-keeps : (n : Node) (same_rules : Bool) (m : Message) → Keeps n (taken n same_rules m)
 unfolding taken
-taken-keeps n b (message.Clear creator bound) = over_all forgotten (cleared_names n creator bound) n forgotten-keeps
-taken-keeps n b (message.Insert r) = insert-keeps n b r r.ack_wanted
-taken-keeps n b (message.InsertAck name) =
-    on_some (maps.get n.states name) (ack_taken n) n n (λ s. either s.ack_wanted n _ n (released-keeps n s.name) refl) refl
-taken-keeps n b (message.Update r) = on_some (maps.get n.states r.name) _ n _ (λ s. merge-keeps n s _) (insert-keeps n b r false)
-taken-keeps n b (message.UpdateShort u) = on_some (maps.get n.states u.name) _ n _ (λ s. merge-keeps n s _) refl
-taken-keeps n b (message.UpdateRequest name) = request-keeps n name
-taken-keeps n b (message.Delete r) = either (is_known n r.name) n _ _ (forgotten-keeps n r.name) refl
-taken-keeps n b (message.DeleteShort name) = either (is_known n name) n _ _ (forgotten-keeps n name) refl
-taken-keeps n b (message.Bulk creator status) = status-keeps n status
+taken-keeps n b m = done-keeps n (decided n b m)
 
 -- no record changes limits, rules, clock, creator or next id
 pub records-leave : RecordsLeaveTheRest

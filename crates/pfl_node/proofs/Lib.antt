@@ -7,7 +7,7 @@ pub mod Beginning
 pub mod Expired
 pub mod Points
 pub mod Purged
-pub mod Started
+pub mod Ruled
 pub mod Grouped
 pub mod Sent
 pub mod Ready

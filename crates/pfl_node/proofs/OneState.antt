@@ -1,8 +1,8 @@
 -- No record and no packet gives two states of a node one wire key or one stack key (pf.c).
-use Rattle.std.specs.Prelude.{◌≡◌, ℕ, Bool, true, false, not, ◌&&◌, ◌||◌, List, [], ◌∷◌, Option, Some, None, nat_le, refl}
+use Rattle.std.specs.Prelude.{◌≡◌, ℕ, Bool, true, false, not, ◌&&◌, ◌||◌, List, [], ◌∷◌, Option, Some, None, is_some, refl}
 use Rattle.std.specs.List.{fold}
 use Rattle.std.specs.Option.{option_map_or}
-use Rattle.std.proofs.Common.{T, cond, ◌∙◌, ap, sym, subst, inl, inr}
+use Rattle.std.proofs.Common.{cond, ◌∙◌, ap, sym, subst, inl, inr}
 use Rattle.pfl_base.specs.declared.direction.Dir.{Dir}
 use Rattle.pfl_base.specs.declared.kernel.Kernel.{Kernel}
 use Rattle.pfl_base.specs.declared.packet.Packet.{Packet}
@@ -12,19 +12,13 @@ use Rattle.pfl_base.proofs.ForCallers.{names_total, names_exact}
 use Rattle.pfl_base.specs.Packets.{is_tcp}
 use Rattle.pfl_edits.specs.Maps as maps
 use Rattle.pfl_edits.proofs.ForCallers.{get-set_at_same, get-set_at_other, key_cases}
-use Rattle.pfl_rules.specs.declared.rule.Rule.{Rule}
-use Rattle.pfl_rules.specs.Rules.{verdict, rule_at}
 use Rattle.pfl_track.specs.declared.state.State.{State}
 use Rattle.pfl_track.specs.declared.tracked.Tracked.{Tracked}
 use Rattle.pfl_track.specs.declared.tracked.Tracked.TheVariants.{Moved, OutOfWindow, Reused}
 use Rattle.pfl_track.proofs.ForCallers.{Stays, tracked_by-stays}
 use Rattle.pfl_receive.specs.table.Tables.{AreStates, found, key_in_use}
-use Rattle.pfl_receive.specs.table.Translating.{is_taken, new_keys}
 use Rattle.pfl_receive.proofs.ForCallers.table.{OwnsKeys-unused, OwnsKeys-known, SameKeys, SameKeys-itself, AreStates-with, AreStates-without, found-stands}
-use Rattle.pfl_wire.specs.declared.message.BulkStatus.{BulkStatus}
-use Rattle.pfl_wire.specs.declared.message.StateRecord.{StateRecord}
 use Rattle.pfl_wire.specs.declared.message.Message.{Message}
-use Rattle.pfl_wire.specs.declared.message.Message.TheVariants as message
 use Rattle.pfl_receive.specs.queue.declared.Kind.TheVariants.{Insert}
 use Rattle.pfl_receive.specs.queue.Queues.{kind_of}
 use Rattle.pfl_receive.specs.merge.declared.received.Received.{Received}
@@ -32,13 +26,17 @@ use Rattle.pfl_receive.specs.merge.declared.merged.Merged.{Merged}
 use Rattle.pfl_receive.specs.merge.Merging.{merged, stale_src, stale_dst}
 use Rattle.pfl_receive.specs.defer.declared.Held.{Held}
 use Rattle.pfl_receive.specs.defer.Deferring.{pushed_out}
-use Rattle.pfl_receive.specs.desk.Nodes.{Node, timeout_at}
+use Rattle.pfl_receive.specs.desk.Nodes.{Node}
 use Rattle.pfl_receive.specs.desk.Changes.{put_state, mark, is_unannounced, is_insert, is_held, freed, lost, not_waiting, released, changed, deleted}
 use Rattle.pfl_receive.specs.desk.Changes.{forgotten, count_stale, count_freed, count_lost, without_held}
-use Rattle.pfl_node.specs.Starting.{Handled, started, judged, by_rule, announced, hold, with_room, with_new, new_state, is_at_max, is_deferred}
+use Rattle.pfl_node.specs.Starting.{Handled, announced, hold, is_deferred, judged, with_new, with_room}
 use Rattle.pfl_node.specs.Packets.{handled, handled_by, followed, accepted, tracked_at}
-use Rattle.pfl_receive.specs.Receiving.{taken, insert_taken, can_import, imported, merge_taken, merged_into, bulk_taken, state_answered}
-use Rattle.pfl_receive.specs.Receiving.{request_taken, ack_taken, is_known, cleared_names, status_taken}
+use Rattle.pfl_receive.specs.declared.decision.Decision.{Decision}
+use Rattle.pfl_receive.specs.declared.decision.Decision.TheVariants.{Bad, Import, Merge, Ask, Queue, Serve, Release, Delete, Clear, Hear, Nothing}
+use Rattle.pfl_receive.specs.Bringing.{name_in}
+use Rattle.pfl_receive.specs.Receiving.{cleared_names, decided, does, merged_into, taken}
+use Rattle.pfl_receive.proofs.ForCallers.{RestsOn, may-import, rests}
+use Rattle.pfl_node.proofs.Ruled.{judged-by}
 
 -- the states of the node are named and keyed rightly
 abbrev Apart : Node → Type 0
@@ -47,11 +45,6 @@ Apart n = AreStates n.states
 either : (b : Bool) (x y : Node) → Apart x → Apart y → Apart (cond b x y)
 either true x y k l = k
 either false x y k l = l
-
--- which of the two is known
-either_by : (b : Bool) (x y : Node) → (b ≡ true → Apart x) → (b ≡ false → Apart y) → Apart (cond b x y)
-either_by true x y k l = k refl
-either_by false x y k l = l refl
 
 on_some : {X : Type 0} (o : Option X) (f : X → Node) (d : Node) → ((x : X) → o ≡ Some x → Apart (f x)) → Apart d → Apart (option_map_or f o d)
 on_some None f d k l = l
@@ -159,25 +152,6 @@ forgotten-apart n name k = AreStates-without (lost n name).states name (lost-apa
 
 -- ---- records
 
-or_false : (a b : Bool) → (a || b) ≡ false → (a ≡ false) × (b ≡ false)
-or_false true b e = absurd (subst T e tt)
-or_false false b e = (refl, e)
-
-not_not : (b : Bool) → not (not b) ≡ false → b ≡ false
-not_not true e = absurd (subst T e tt)
-not_not false e = refl
-
--- what may be taken over has keys that are not in use
-can_import-unused : (n : Node) (r : StateRecord) → not (can_import n r) ≡ false → key_in_use n.states r.keys.wire r.keys.stack ≡ false
-can_import-unused n r e =
-    let all = not_not _ e in
-    (or_false _ _ (or_false _ _ all).0).1
-
-insert-apart : (n : Node) (b : Bool) (r : StateRecord) (ack : Bool) → Apart n → Apart (insert_taken n b r ack)
-insert-apart n b r ack k = either_by (not (can_import n r)) _ _ (λ e. k) (λ e.
-    let put = put-unused n (imported n b r) k (can_import-unused n r e) in
-    either ack _ _ put put)
-
 same_of : (b : Bool) (held x y : State) → SameKeys held x → SameKeys held y → SameKeys held (cond b x y)
 same_of true held x y f g = f
 same_of false held x y f g = g
@@ -188,50 +162,46 @@ merged-same k held r seconds now =
     same_of (not (stale_src held r && stale_dst held r)) held _ _
     (record { name = refl; wire = refl; stack = refl }) (record { name = refl; wire = refl; stack = refl })
 
-merge-apart : (n : Node) (s : State) (r : Received) → Apart n → maps.get n.states s.name ≡ Some s → Apart (merge_taken n s r)
-merge-apart n s r k at = go (lost n s.name) (merged n.limits.kernel s r (timeout_at n s.rule r.class) n.clock)
-    (lost-apart n s.name k) (ap (λ m. maps.get m s.name) (lost-states n s.name) ∙ at) (merged-same n.limits.kernel s r _ _)
-  where
-    go : (m : Node) (x : Merged) → Apart m → maps.get m.states s.name ≡ Some s → SameKeys s x.state → Apart (merged_into m x)
-    go m x k at same =
-        let calm : SameKeys s (record x.state { ack_wanted = false }) = record { name = same.name; wire = same.wire; stack = same.stack } in
-        either (x.stale_src || x.stale_dst) _ _ (changed-apart (count_stale m) s (record x.state { ack_wanted = false }) k at calm)
-        (put-known m s (record x.state { ack_wanted = false }) k at calm)
+merge-apart : (n : Node) (s : State) (x : Merged) → Apart n → maps.get n.states s.name ≡ Some s → SameKeys s x.state
+    → Apart (merged_into (lost n x.state.name) x)
+merge-apart n s x k at same =
+    let m = lost n x.state.name in
+    let calm : SameKeys s (record x.state { ack_wanted = false }) = record { name = same.name; wire = same.wire; stack = same.stack } in
+    let there = ap (λ l. maps.get l s.name) (lost-states n x.state.name) ∙ at in
+    either (x.stale_src || x.stale_dst) _ _
+    (changed-apart (count_stale m) s (record x.state { ack_wanted = false }) (lost-apart n x.state.name k) there calm)
+    (put-known m s (record x.state { ack_wanted = false }) (lost-apart n x.state.name k) there calm)
 
-request-apart : (n : Node) (name : StateName) → Apart n → Apart (request_taken n name)
-request-apart n name k = either _ (bulk_taken n) _ k (on_some (maps.get n.states name) (state_answered n) _ (λ s at. either _ _ n k k) k)
-
-status-apart : (n : Node) (status : BulkStatus) → Apart n → Apart (status_taken n status)
-status-apart n status k = k
+-- what was decided of a record, done
+done-apart : (n : Node) (b : Bool) (m : Message) (d : Decision) → RestsOn n b m d → Apart n → Apart (does n d)
+unfolding does RestsOn
+done-apart n b m (Bad why) so k = k
+done-apart n b m (Import s ack) so k =
+    let free = (may-import n so.sent so.free).unused in
+    let put = put-unused n s k (subst (λ (t : State). key_in_use n.states t.wire t.stack ≡ false) (sym so.is) free) in
+    either ack _ _ put put
+done-apart n b m (Merge x) so k =
+    merge-apart n so.held x k (under_its_name n (name_in m) so.held k so.found)
+    (subst (λ (y : Merged). SameKeys so.held y.state) (sym so.is) (merged-same n.limits.kernel so.held so.received _ n.clock))
+done-apart n b m (Ask name) so k = k
+done-apart n b m (Queue name) so k = k
+done-apart n b m (Serve begins) so k = k
+done-apart n b m (Release name) so k = released-apart n name k
+done-apart n b m (Delete name) so k = forgotten-apart n name k
+done-apart n b m (Clear creator bound) so k = over_all forgotten (cleared_names n creator bound) n (λ l name t. forgotten-apart l name t) k
+done-apart n b m (Hear status) so k = k
+done-apart n b m Nothing so k = k
 
 -- no record brings two states under one key
 pub taken-apart : (n : Node) (same_rules : Bool) (m : Message) → AreStates n.states → AreStates (taken n same_rules m).states
 unfolding taken
-taken-apart n b (message.Clear creator bound) k = over_all forgotten (cleared_names n creator bound) n (λ m name l. forgotten-apart m name l) k
-taken-apart n b (message.Insert r) k = insert-apart n b r r.ack_wanted k
-taken-apart n b (message.InsertAck name) k = on_some (maps.get n.states name) (ack_taken n) n (λ s at. either s.ack_wanted _ n (released-apart n s.name k) k) k
-taken-apart n b (message.Update r) k =
-    on_some (maps.get n.states r.name) _ _ (λ s at. merge-apart n s _ k (under_its_name n r.name s k at)) (insert-apart n b r false k)
-taken-apart n b (message.UpdateShort u) k = on_some (maps.get n.states u.name) _ _ (λ s at. merge-apart n s _ k (under_its_name n u.name s k at)) k
-taken-apart n b (message.UpdateRequest name) k = request-apart n name k
-taken-apart n b (message.Delete r) k = either (is_known n r.name) _ _ (forgotten-apart n r.name k) k
-taken-apart n b (message.DeleteShort name) k = either (is_known n name) _ _ (forgotten-apart n name k) k
-taken-apart n b (message.Bulk creator status) k = status-apart n status k
+taken-apart n b m k = done-apart n b m (decided n b m) (rests n b m) k
 
 -- ---- packets
 
 one_of : (b : Bool) (x y : Handled) → Apart x.node → Apart y.node → Apart (cond b x y).node
 one_of true x y k l = k
 one_of false x y k l = l
-
-one_by : (b : Bool) (x y : Handled) → (b ≡ true → Apart x.node) → (b ≡ false → Apart y.node) → Apart (cond b x y).node
-one_by true x y k l = k refl
-one_by false x y k l = l refl
-
-of_some : {X : Type 0} (o : Option X) (f : X → Handled) (d : Handled) → ((x : X) → o ≡ Some x → Apart (f x).node) → Apart d.node
-    → Apart (option_map_or f o d).node
-of_some None f d k l = l
-of_some (Some x) f d k l = k x refl
 
 room-has : (n : Node) (s : State) → Apart n → maps.get n.states s.name ≡ Some s → Has (with_room n) s
 room-has n s k at = by (pushed_out n.held)
@@ -255,23 +225,10 @@ announced-apart n s dir p k at =
     (one_of (is_deferred n dir) _ _
     (hold-apart (with_room (mark n s.name Insert)) s p (room-apart (mark n s.name Insert) k) (room-has (mark n s.name Insert) s k at)) k)
 
-started-apart : (n : Node) (dir : Dir) (p : Packet) (number : ℕ) (r : Rule) → Apart n → Apart (started n dir p number r).node
-unfolding started
-started-apart n dir p number r k =
-    one_of (is_at_max n number r) _ _ k
-    (one_of (nat_le n.limits.states (maps.len n.states)) _ _ k
-    (one_by (is_taken n.states (new_keys n.states r (key p dir))) _ _ (λ e. k) (λ e.
-    announced-apart (with_new n (new_state n dir p number r)) (new_state n dir p number r) dir p
-    (put-unused n (new_state n dir p number r) k e)
-    (get-set_at_same names_total names_exact n.states (new_state n dir p number r).name (Some (new_state n dir p number r))))))
-
 judged-apart : (n : Node) (dir : Dir) (p : Packet) → Apart n → Apart (judged n dir p).node
-unfolding judged
-judged-apart n dir p k = one_of (verdict n.rules.list p dir).pass _ _ (by_number (verdict n.rules.list p dir).rule) k
-  where
-    by_number : (rule : Option ℕ) → Apart (by_rule n dir p rule).node
-    by_number None = k
-    by_number (Some number) = of_some (rule_at n.rules.list (Some number)) (started n dir p number) _ (λ r e. started-apart n dir p number r k) k
+judged-apart n dir p k = judged-by (λ (h : Handled). Apart h.node) n dir p k (λ why. k) (λ s new.
+    announced-apart (with_new n s) s dir p (put-unused n s k (λ i. is_some (new.wire i) || is_some (new.stack i)))
+    (get-set_at_same names_total names_exact n.states s.name (Some s)))
 
 accepted-apart : (n : Node) (s t : State) → Apart n → maps.get n.states s.name ≡ Some s → SameKeys s t → Apart (accepted n t).node
 accepted-apart n s t k at same =

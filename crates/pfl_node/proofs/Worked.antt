@@ -51,7 +51,7 @@ insertion of = Insert (record {
 })
 
 unfoldable computing : ℕ
-unfolding map_lemmas.computing receiving.taken
+unfolding map_lemmas.computing receiving.decided receiving.does receiving.taken
 computing = 0
 
 -- the first name that the node would give: the record is bad, and no more happens

@@ -1,6 +1,6 @@
 -- Packets that no state takes: rules, translation and new states (pf.c, pf.conf(5); what a new state is refused for is this
 -- project's profile).
-use Rattle.std.specs.Prelude.{ℕ, ◌+◌, Bool, true, false, ◌&&◌, nat_le, Option, Some, None, if◌then◌else◌}
+use Rattle.std.specs.Prelude.{ℕ, ◌+◌, Bool, true, false, ◌&&◌, nat_le, Option, Some, None, if◌then◌else◌, unwrap_or}
 use Rattle.std.specs.Option.{option_map_or}
 use Rattle.pfl_base.specs.declared.direction.Dir.{Dir}
 use Rattle.pfl_base.specs.declared.direction.Dir.TheVariants.{Outbound}
@@ -9,12 +9,13 @@ use Rattle.pfl_base.specs.declared.state_name.StateName.{StateName}
 use Rattle.pfl_base.specs.Keys.{key, is_dir}
 use Rattle.pfl_edits.specs.Maps as maps
 use Rattle.pfl_rules.specs.declared.rule.Rule.{Rule}
+use Rattle.pfl_rules.specs.declared.verdict.Verdict.{Verdict}
 use Rattle.pfl_rules.specs.Rules.{verdict, rule_at}
 use Rattle.pfl_track.specs.declared.state.State.{State}
 use Rattle.pfl_track.specs.Rules.{started_by}
 use Rattle.pfl_track.specs.Tracking.{start_state}
-use Rattle.pfl_receive.specs.table.Tables.{count_of_rule}
-use Rattle.pfl_receive.specs.table.Translating.{is_taken, new_keys}
+use Rattle.pfl_receive.specs.table.Tables.{by_stack, by_wire, count_of_rule}
+use Rattle.pfl_receive.specs.table.Translating.{new_keys}
 use Rattle.pfl_receive.specs.queue.declared.Kind.TheVariants.{Insert}
 use Rattle.pfl_receive.specs.defer.Deferring.{pushed_out, with_held}
 use Rattle.pfl_language.specs.declared.fate.Fate.{Fate}
@@ -23,6 +24,8 @@ use Rattle.pfl_language.specs.declared.fate.Reason.{Reason}
 use Rattle.pfl_language.specs.declared.fate.Reason.TheVariants as reason
 use Rattle.pfl_receive.specs.desk.Nodes.{Node}
 use Rattle.pfl_receive.specs.desk.Changes.{put_state, mark, push_if, count_passed, count_blocked, released}
+use Rattle.pfl_node.specs.declared.packet.ruling.Ruling.{Ruling}
+use Rattle.pfl_node.specs.declared.packet.ruling.Ruling.TheVariants as ruling
 
 -- what a packet gives: its fate, and the node after it
 pub record Handled : Type 0 where
@@ -36,10 +39,6 @@ pass n name = record { fate = fate.Pass name; node = count_passed n }
 -- the packet is dropped
 abbrev pub drop : Node → Reason → Handled
 drop n why = record { fate = fate.Dropped why; node = count_blocked n }
-
--- the rule has as many states as it may
-abbrev pub is_at_max : Node → ℕ → Rule → Bool
-is_at_max n number r = option_map_or (λ m. nat_le m (count_of_rule n.states number)) r.max false
 
 -- the node's next name
 abbrev pub next_name : Node → StateName
@@ -70,27 +69,54 @@ announced n s dir p =
     if s.no_sync then pass n (Some s.name) else
     if is_deferred n dir then hold (with_room (mark n s.name Insert)) s p else pass (mark n s.name Insert) (Some s.name)
 
+-- ---- what the rules make of it
+
+-- the rule has as many states as it may
+abbrev pub is_at_max : Node → ℕ → Rule → Bool
+is_at_max n number r = option_map_or (λ m. nat_le m (count_of_rule n.states number)) r.max false
+
 -- the state that the packet makes, under the keys that its rule gives it
 abbrev pub new_state : Node → Dir → Packet → ℕ → Rule → State
 new_state n dir p number r =
     let keys = new_keys n.states r (key p dir) in
     started_by n.limits.kernel (start_state (next_name n) keys.wire keys.stack dir p (Some number) r.no_sync n.clock)
 
--- a packet that a rule passes: the first of these lines that applies
-unfoldable pub started : Node → Dir → Packet → ℕ → Rule → Handled
-started n dir p number r =
-    if is_at_max n number r then drop n reason.Max else
-    if nat_le n.limits.states (maps.len n.states) then drop n reason.Full else
-    if is_taken n.states (new_keys n.states r (key p dir)) then drop n reason.Key else
-    announced (with_new n (new_state n dir p number r)) (new_state n dir p number r) dir p
+-- a state that has a key of the new one stands against it, the one with the wire key first; where a rule has several ports, this is about
+-- the last of them
+abbrev pub by_keys : ℕ → Option State → Option State → State → Ruling
+by_keys rule (Some s) on_stack new = ruling.WireInUse rule s.name
+by_keys rule None (Some s) new = ruling.StackInUse rule s.name
+by_keys rule None None new = ruling.Starts rule new
 
--- the rule that decided, with its number
-abbrev pub by_rule : Node → Dir → Packet → Option ℕ → Handled
-by_rule n dir p None = pass n None
-by_rule n dir p (Some number) = option_map_or (started n dir p number) (rule_at n.rules.list (Some number)) (pass n None)
+-- a packet that the rule of this number passes: the first of these lines that applies
+abbrev pub starting : Node → Dir → Packet → ℕ → Rule → Ruling
+starting n dir p number r =
+    if is_at_max n number r then ruling.AtMax number (unwrap_or r.max 0) (count_of_rule n.states number) else
+    if nat_le n.limits.states (maps.len n.states) then ruling.Full number n.limits.states (maps.len n.states) else
+    let keys = new_keys n.states r (key p dir) in
+    by_keys number (by_wire n.states keys.wire) (by_stack n.states keys.stack) (new_state n dir p number r)
+
+-- the rule that decided, by its number
+abbrev pub by_rule : Node → Dir → Packet → Verdict → ℕ → Ruling
+by_rule n dir p v number =
+    if v.pass then option_map_or (starting n dir p number) (rule_at n.rules.list (Some number)) ruling.Unmatched else ruling.Blocked number
+
+-- what the rules make of a packet that no state takes
+unfoldable pub ruled : Node → Dir → Packet → Ruling
+ruled n dir p = let v = verdict n.rules.list p dir in option_map_or (by_rule n dir p v) v.rule ruling.Unmatched
+
+-- ---- what that does
+
+-- the packet after it: without a rule it goes on, and what keeps it from a state drops it
+abbrev pub carried : Node → Dir → Packet → Ruling → Handled
+carried n dir p ruling.Unmatched = pass n None
+carried n dir p (ruling.Blocked rule) = drop n reason.Block
+carried n dir p (ruling.AtMax rule most states) = drop n reason.Max
+carried n dir p (ruling.Full rule limit states) = drop n reason.Full
+carried n dir p (ruling.WireInUse rule name) = drop n reason.Key
+carried n dir p (ruling.StackInUse rule name) = drop n reason.Key
+carried n dir p (ruling.Starts rule s) = announced (with_new n s) s dir p
 
 -- a packet that no state takes
 unfoldable pub judged : Node → Dir → Packet → Handled
-judged n dir p =
-    let v = verdict n.rules.list p dir in
-    if v.pass then by_rule n dir p v.rule else drop n reason.Block
+judged n dir p = carried n dir p (ruled n dir p)

@@ -20,5 +20,9 @@ mod turn;
 
 pub use laws::{one_state_per_key, records_leave_the_rest};
 pub use node::Node;
+pub use packet::ruling::Ruling;
+pub use packet::start::ask_rules;
 pub use pfl_bulk::BulkClient;
-pub use pfl_receive::{Counter, Counters, MotionEdit, NodeEdit, Parts, QueueEdit};
+pub use pfl_receive::{
+    BadRecord, Counter, Counters, Decision, MotionEdit, NodeEdit, Parts, QueueEdit, decide,
+};

@@ -1,7 +1,8 @@
 //! A packet at a node (pf.c).
 
 mod hold;
-mod start;
+pub(crate) mod ruling;
+pub(crate) mod start;
 
 ghost use Rattle.std.specs.Prelude.{◌≡◌, ◌≤◌, ◌<◌, ◌+◌, [], ◌∷◌, None, Some, false, IfOk, IfErr, OnOk, OnErr, length};
 ghost use Rattle.pfl_base.specs.Keys.{key as flow_of};

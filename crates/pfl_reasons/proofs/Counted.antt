@@ -1,10 +1,11 @@
--- Each record counts as its fate says.
-use Rattle.std.specs.Prelude.{◌≡◌, ◌≤◌, ◌+◌, ◌++◌, ℕ, Bool, true, false, not, ◌&&◌, ◌||◌, ◌==◌, List, [], ◌∷◌, length, Option}
-use Rattle.std.specs.Prelude.{Some, None, is_some, nat_le, refl}
+-- Each record counts as its fate says: what is shown of a decision is so of what that does.
+use Rattle.std.specs.Prelude.{◌≡◌, ◌≤◌, ◌+◌, ◌++◌, ℕ, Bool, true, false, not, ◌&&◌, ◌||◌, ◌==◌, List, [], ◌∷◌, Option}
+use Rattle.std.specs.Prelude.{Some, None, IfSome, is_some, nat_le, refl}
 use Rattle.std.specs.List.{fold, list_any}
 use Rattle.std.specs.Option.{option_map, option_map_or, option_or}
-use Rattle.std.proofs.Common.{cond, ◌∙◌, ap, arith, inl, inr, sym}
-use Rattle.std.proofs.lemmas.Bool.{eqb-true, leb-true, ltb-false, ltb-true}
+use Rattle.std.proofs.Common.{cond, ◌∙◌, ap, arith, inl, inr, subst, sym}
+use Rattle.std.proofs.lemmas.Bool.{leb-true, ltb-false, ltb-true}
+use Rattle.std.proofs.lemmas.Bool.Decides.{nat_tests}
 use Rattle.std.proofs.lemmas.List.Folds.{list_any-append}
 use Rattle.std.proofs.Math.Bool.{or-true}
 use Rattle.pfl_base.specs.declared.state_name.StateName.{StateName}
@@ -12,45 +13,36 @@ use Rattle.pfl_base.specs.Keys.{is_key}
 use Rattle.pfl_base.specs.Names.{is_name}
 use Rattle.pfl_base.specs.Packets.{is_tcp}
 use Rattle.pfl_base.proofs.ForCallers.{is_name-itself, names_exact, names_total}
-use Rattle.pfl_bulk.specs.Bulk.{after_status, heard, is_waiting, no_name, server_started}
-use Rattle.pfl_bulk.specs.declared.BulkClient.{BulkClient}
-use Rattle.pfl_bulk.specs.declared.BulkClient.TheVariants as client
+use Rattle.pfl_bulk.specs.Bulk.{is_waiting, no_name}
 use Rattle.pfl_edits.proofs.ForCallers.{get-set_at_same}
 use Rattle.pfl_edits.specs.Maps as maps
-use Rattle.pfl_track.specs.declared.key_pair.KeyFields.{KeyFields}
 use Rattle.pfl_track.specs.declared.state.State.{State}
 use Rattle.pfl_wire.specs.declared.message.StateRecord.{StateRecord}
-use Rattle.pfl_wire.specs.declared.message.UpdateRecord.{UpdateRecord}
-use Rattle.pfl_wire.specs.declared.message.BulkStatus.{BulkStatus}
 use Rattle.pfl_wire.specs.declared.message.BulkStatus.TheVariants.{Start, End as Finish}
 use Rattle.pfl_wire.specs.declared.message.Message.{Message}
 use Rattle.pfl_wire.specs.declared.message.Message.TheVariants as message
 use Rattle.pfl_merge.specs.declared.merged.Merged.{Merged}
-use Rattle.pfl_merge.specs.declared.received.Received.{Received}
-use Rattle.pfl_merge.specs.Merging.{merged}
 use Rattle.pfl_queue.specs.declared.Kind.{Kind}
-use Rattle.pfl_queue.specs.declared.Kind.TheVariants.{Delete, Insert, InsertAck, Update, UpdateShort}
+use Rattle.pfl_queue.specs.declared.Kind.TheVariants.{Delete, Update}
 use Rattle.pfl_queue.specs.declared.Mark.{Mark}
 use Rattle.pfl_queue.specs.Queues.{Queue, is_requested, kind_of, marked, requested}
-use Rattle.pfl_world.specs.desk.Changes.{announce_status, ask, changed, count_bad, count_freed, count_lost, count_stale, forgotten, freed, is_held}
-use Rattle.pfl_world.specs.desk.Changes.{is_unannounced, lost, mark, not_waiting, push_if, put_state, released, without_held}
+use Rattle.pfl_world.proofs.ForCallers.receive.{RestsOn, may-import, rests}
+use Rattle.pfl_world.specs.desk.Changes.{changed, count_freed, count_lost, count_stale, forgotten, freed, is_held, is_unannounced, lost, not_waiting}
+use Rattle.pfl_world.specs.desk.Changes.{push_if, put_state, released, without_held}
 use Rattle.pfl_world.specs.desk.declared.counters.Counters.{Counters}
-use Rattle.pfl_world.specs.desk.Nodes.{Node, timeout_at}
-use Rattle.pfl_world.specs.receive.Receiving.{ack_taken, bulk_taken, clear_taken, cleared_names, delete_taken, has_states, imported, insert_taken, is_delete}
-use Rattle.pfl_world.specs.receive.Receiving.{is_known, is_not_given, is_partly_announced, merge_taken, merged_into, of_state, of_update}
-use Rattle.pfl_world.specs.receive.Receiving.{request_taken, state_answered, status_taken, taken}
+use Rattle.pfl_world.specs.desk.Nodes.{Node}
+use Rattle.pfl_world.specs.receive.Bringing.{name_in, received_in, whole_in}
+use Rattle.pfl_world.specs.receive.declared.decision.BadRecord.{BadRecord}
+use Rattle.pfl_world.specs.receive.declared.decision.BadRecord.TheVariants as bad
+use Rattle.pfl_world.specs.receive.declared.decision.Decision.{Decision}
+use Rattle.pfl_world.specs.receive.declared.decision.Decision.TheVariants as decision
+use Rattle.pfl_world.specs.receive.Receiving.{acknowledging, answering, cleared_names, decided, does, import_fault, imported, importing, is_delete}
+use Rattle.pfl_world.specs.receive.Receiving.{is_known, is_not_given, is_partly_announced, merged_into, merging, of_state, of_update, taken, taken_over}
 use Rattle.pfl_world.specs.table.Tables.{by_stack, by_wire}
 use Rattle.pfl_reasons.specs.Laws.{RecordsAreCountedSo}
-use Rattle.pfl_reasons.specs.Records.{BulkBegins, CountedAsMany, CountedSo, IsFateOf, IsLastUsed, IsQueued, ack_fate, answer_fate, delete_fate}
-use Rattle.pfl_reasons.specs.Records.{import_fate, import_fault, keys_in, merge_fate, name_in, received_in, record_fate, request_fate, short_fate}
-use Rattle.pfl_reasons.specs.Records.{status_fate, update_fate}
-use Rattle.pfl_reasons.specs.declared.record_fate.BadRecord.{BadRecord}
-use Rattle.pfl_reasons.specs.declared.record_fate.BadRecord.TheVariants as bad
-use Rattle.pfl_reasons.specs.declared.record_fate.RecordFate.{RecordFate}
-use Rattle.pfl_reasons.specs.declared.record_fate.RecordFate.TheVariants as fate
-use Rattle.pfl_reasons.specs.declared.record_fate.RecordFate.TheVariants.{Bad, Imported, Acknowledged, Nothing}
+use Rattle.pfl_reasons.specs.Records.{CountedAsMany, CountedSo, IsBadFor, IsFateOf, IsLastUsed, IsMergedSo, WaitsNoMore, keys_in, shown_of}
 use Rattle.pfl_reasons.proofs.Emptying.{fewer-by}
-use Rattle.pfl_reasons.proofs.Stated.{acknowledged, either, merged-so, owner, put-used, some_and}
+use Rattle.pfl_reasons.proofs.Stated.{acknowledged, either, ends_in, merged-so, owner, put-used, some_and}
 
 further : (n m k : Node) → CountedAsMany n m → CountedAsMany m k → CountedAsMany n k
 further n m k f g = (g.0 ∙ f.0, g.1 ∙ f.1)
@@ -92,64 +84,6 @@ changed-counts n s =
     one_of s.no_sync _ _ n.counters refl
     (one_of (is_unannounced (kind_of n.queue s.name)) _ _ n.counters refl (one_of (is_tcp s.wire.proto) _ _ n.counters refl refl))
 
--- ---- by the kind of the record
-
-both : (a b : Bool) → (a && b) ≡ true → (a ≡ true) × (b ≡ true)
-both true b is = (refl, is)
-both false b is = absurd (cc)
-
-deletes : (o : Option Kind) → is_delete o ≡ true → o ≡ Some Delete
-deletes None is = absurd (cc)
-deletes (Some Delete) is = refl
-deletes (Some Insert) is = absurd (cc)
-deletes (Some InsertAck) is = absurd (cc)
-deletes (Some Update) is = absurd (cc)
-deletes (Some UpdateShort) is = absurd (cc)
-
-not-given : (n : Node) (name : StateName) → is_not_given n name ≡ true → (name.creator ≡ n.creator) × (n.next_id ≤ name.id)
-not-given n name is =
-    let parts = both (name.creator == n.creator) (nat_le n.next_id name.id) is in
-    (eqb-true name.creator n.creator parts.0, leb-true n.next_id name.id parts.1)
-
-module _ (n : Node) (r : StateRecord) (last : ℕ) (after : Node) where
-  -- a state that may not be taken over is bad, for the first of the reasons
-  by_faults : (received : Option Received) (known not_given deleting full : Bool) (on_wire on_stack : Option State)
-      → is_known n r.name ≡ known → is_not_given n r.name ≡ not_given → is_delete (kind_of n.queue r.name) ≡ deleting
-      → nat_le n.limits.states (maps.len n.states) ≡ full → by_wire n.states r.keys.wire ≡ on_wire → by_stack n.states r.keys.stack ≡ on_stack
-      → (known ≡ false → CountedSo n after r.name (Some r.keys) received (Imported last))
-      → CountedSo n (cond (not (not (known || not_given || deleting || (is_some on_wire || is_some on_stack) || full))) (count_bad n) after)
-      r.name (Some r.keys) received
-      (option_map_or Bad
-      (cond known (Some bad.Known) (cond not_given (Some bad.NotGiven) (cond deleting (Some bad.Deleting)
-      (option_or (option_map (λ (s : State). bad.WireInUse s.name) on_wire)
-      (option_or (option_map (λ (s : State). bad.StackInUse s.name) on_stack) (cond full (Some bad.Full) None))))))
-      (Imported last))
-  by_faults received true not_given deleting full on_wire on_stack k g d f w s new = (refl, k)
-  by_faults received false true deleting full on_wire on_stack k g d f w s new = (refl, not-given n r.name g)
-  by_faults received false false true full on_wire on_stack k g d f w s new = (refl, deletes (kind_of n.queue r.name) d)
-  by_faults received false false false full (Some t) on_stack k g d f w s new = (refl, owner n (λ (u : State). is_key u.wire r.keys.wire) t w)
-  by_faults received false false false full None (Some t) k g d f w s new = (refl, owner n (λ (u : State). is_key u.stack r.keys.stack) t s)
-  by_faults received false false false true None None k g d f w s new = (refl, leb-true n.limits.states (maps.len n.states) f)
-  by_faults received false false false false None None k g d f w s new = new refl
-
-none-known : (o : Option State) → is_some o ≡ false → o ≡ None
-none-known None e = refl
-none-known (Some s) e = absurd (cc)
-
-insert-counted : (n : Node) (b : Bool) (r : StateRecord) (ack : Bool) (received : Option Received)
-    → CountedSo n (insert_taken n b r ack) r.name (Some r.keys) received (import_fate n b r)
-insert-counted n b r ack received =
-    let s = imported n b r in
-    let told = push_if true (mark (put_state n s) r.name InsertAck) in
-    by_faults n r s.last (cond ack told (put_state n s)) received
-    (is_known n r.name) (is_not_given n r.name) (is_delete (kind_of n.queue r.name)) (nat_le n.limits.states (maps.len n.states))
-    (by_wire n.states r.keys.wire) (by_stack n.states r.keys.stack) refl refl refl refl refl refl
-    (λ new. (
-      either (CountedAsMany n) ack told (put_state n s) (refl, refl) (refl, refl),
-      none-known (maps.get n.states r.name) new,
-      either (λ m. IsLastUsed m r.name s.last) ack told (put_state n s) (put-used n s) (put-used n s),
-    ))
-
 -- what a merge makes of a node that has counted as many
 into-counted : (n m : Node) (x : Merged) → CountedAsMany n m → ((merged_into m x).counters.bad ≡ n.counters.bad)
     × ((merged_into m x).counters.stale ≡ n.counters.stale + cond (x.stale_src || x.stale_dst) 1 0)
@@ -165,25 +99,6 @@ into-counted n m x still = by (x.stale_src || x.stale_dst)
         (ap (λ (c : Counters). c.bad) same ∙ still.0, ap (λ (c : Counters). c.stale) same ∙ ap (λ (k : ℕ). k + 1) still.1)
     by false = let stale = still.1 in (still.0, omega arith)
 
-merge-counted : (n : Node) (name : StateName) (keys : Option KeyFields) (s : State) → maps.get n.states name ≡ Some s → (r : Received)
-    → CountedSo n (merge_taken n s r) name keys (Some r) (merge_fate n s r)
-merge-counted n name keys s at r =
-    let k = n.limits.kernel in
-    let timeout = timeout_at n s.rule r.class in
-    let counts = into-counted n (lost n s.name) (merged k s r timeout n.clock) (lost-still n s.name) in
-    (counts.0, counts.1, refl, λ are. merged-so k n (lost n s.name) name s r timeout n.clock at (are.filed name s at))
-
-update-counted : (n : Node) (b : Bool) (r : StateRecord)
-    → CountedSo n (option_map_or (λ (s : State). merge_taken n s (of_state r)) (maps.get n.states r.name)
-    (insert_taken n b r false)) r.name (Some r.keys) (Some (of_state r)) (update_fate n b r)
-update-counted n b r = by (maps.get n.states r.name) refl
-  where
-    by : (o : Option State) → maps.get n.states r.name ≡ o
-        → CountedSo n (option_map_or (λ (s : State). merge_taken n s (of_state r)) o (insert_taken n b r false)) r.name (Some r.keys) (Some (of_state r))
-        (option_map_or (λ (s : State). merge_fate n s (of_state r)) o (import_fate n b r))
-    by None at = insert-counted n b r false (Some (of_state r))
-    by (Some s) at = merge-counted n r.name (Some r.keys) s at (of_state r)
-
 -- what is asked for is on the list of requests
 asked : (q : Queue) (name : StateName) → is_requested (requested q name) name ≡ true
 asked q name = by (is_requested q name) refl
@@ -194,152 +109,161 @@ asked q name = by (is_requested q name) refl
         list_any-append (is_name name) q.requests (name ∷ [])
         ∙ (ap (λ (b : Bool). list_any (is_name name) q.requests || (b || false)) (is_name-itself name name refl) ∙ or-true (list_any (is_name name) q.requests))
 
-short-counted : (n : Node) (u : UpdateRecord)
-    → CountedSo n (option_map_or (λ (s : State). merge_taken n s (of_update u)) (maps.get n.states u.name) (ask n u.name)) u.name None (Some (of_update u))
-    (short_fate n u)
-short-counted n u = by (maps.get n.states u.name) refl
-  where
-    by : (o : Option State) → maps.get n.states u.name ≡ o
-        → CountedSo n (option_map_or (λ (s : State). merge_taken n s (of_update u)) o (ask n u.name)) u.name None (Some (of_update u))
-        (option_map_or (λ (s : State). merge_fate n s (of_update u)) o fate.Asked)
-    by None at = ((refl, refl), at, asked n.queue u.name)
-    by (Some s) at = merge-counted n u.name None s at (of_update u)
-
-ack-counted : (n : Node) (name : StateName) → CountedSo n (option_map_or (ack_taken n) (maps.get n.states name) n) name None None (ack_fate n name)
-ack-counted n name = by (maps.get n.states name) refl
-  where
-    waiting : (s : State) → maps.get n.states name ≡ Some s → (b : Bool) → s.ack_wanted ≡ b
-        → CountedSo n (cond b (released n s.name) n) name None None (cond b Acknowledged Nothing)
-    waiting s at true wanted = (released-still n s.name, λ are. acknowledged n name s at wanted (are.filed name s at))
-    waiting s at false wanted = refl
-
-    by : (o : Option State) → maps.get n.states name ≡ o → CountedSo n (option_map_or (ack_taken n) o n) name None None
-        (option_map_or (λ (s : State). cond s.ack_wanted Acknowledged Nothing) o Nothing)
-    by None at = refl
-    by (Some s) at = waiting s at s.ack_wanted refl
-
 -- what is marked is on its queue
 marked-kind : (q : Queue) (name : StateName) → kind_of (marked q name Update) name ≡ Some Update
 marked-kind q name = ap (option_map (λ (m : Mark). m.kind))
     (get-set_at_same names_total names_exact q.marks name (Some (record { name = name; kind = Update; number = q.next })))
-
--- a request for all
-bulk-begins : (n : Node) → BulkBegins n (has_states n) (bulk_taken n)
-bulk-begins n = by (has_states n) refl
-  where
-    by : (b : Bool) → has_states n ≡ b
-        → BulkBegins n b (record (announce_status n (cond b Start Finish)) { server = server_started n.server b n.clock })
-    by true some = (ltb-true 0 (maps.len n.states) some, refl, refl)
-    by false none = let few = ltb-false 0 (maps.len n.states) none in (omega (arith, few), refl, refl)
-
-request-counted : (n : Node) (name : StateName) → CountedSo n (request_taken n name) name None None (request_fate n name)
-request-counted n name = by (is_name no_name name) (maps.get n.states name) refl
-  where
-    answered : (b : Bool) (m : Node) → CountedAsMany n m → IsQueued n name m → CountedSo n (cond b m n) name None None (cond b fate.Queued Nothing)
-    answered true m k queued = (k, queued)
-    answered false m k queued = refl
-
-    queued : (s : State) → maps.get n.states name ≡ Some s → IsQueued n name (push_if true (mark n s.name Update))
-    queued s at = some_and (λ (t : State). kind_of (marked n.queue s.name Update) t.name ≡ Some Update) (maps.get n.states name) s at
-        (marked-kind n.queue s.name)
-
-    by : (all : Bool) (o : Option State) → maps.get n.states name ≡ o
-        → CountedSo n (cond all (bulk_taken n) (option_map_or (state_answered n) o (count_bad n))) name None None
-        (cond all (fate.Bulk (has_states n)) (option_map_or (answer_fate n) o (Bad bad.Unknown)))
-    by true o at = ((refl, refl), bulk-begins n)
-    by false None at = (refl, at)
-    by false (Some s) at = answered (not s.no_sync && is_partly_announced (kind_of n.queue s.name)) _ (refl, refl) (queued s at)
 
 -- what is forgotten is gone
 gone : (n : Node) (name : StateName) → maps.get (forgotten n name).states name ≡ None
 unfolding forgotten
 gone n name = get-set_at_same names_total names_exact (lost n name).states name None
 
-delete-counted : (n : Node) (name : StateName) → CountedSo n (delete_taken n name) name None None (delete_fate n name)
-delete-counted n name = by (is_known n name) refl
-  where
-    by : (b : Bool) → is_known n name ≡ b → CountedSo n (cond b (forgotten n name) (count_bad n)) name None None (cond b fate.Deleted (Bad bad.Unknown))
-    by true known = (forgotten-still n name, known, gone n name)
-    by false unknown = (refl, none-known (maps.get n.states name) unknown)
+-- ---- why a record is bad
 
-status-counted : (n : Node) (status : BulkStatus) → CountedSo n (status_taken n status) no_name None None (status_fate n)
-status-counted n status = by n.client refl status
-  where
-    by : (c : BulkClient) → n.client ≡ c → (status : BulkStatus)
-        → CountedSo n (record n { client = after_status c status n.clock }) no_name None None (cond (is_waiting c) fate.Heard Nothing)
-    by client.Idle is Start = ap (λ (c : BulkClient). record n { client = c }) (sym is)
-    by client.Idle is Finish = ap (λ (c : BulkClient). record n { client = c }) (sym is)
-    by (client.Waiting tries asked) is Start = (ap is_waiting is, refl, inl (ap (λ (c : BulkClient). heard c n.clock) (sym is)))
-    by (client.Waiting tries asked) is Finish = (ap is_waiting is, refl, inr refl)
+deletes : (o : Option Kind) → is_delete o ≡ true → o ≡ Some Delete
+deletes (Some Delete) is = refl
+deletes other is = absurd (cc)
 
-clear-counted : (n : Node) (creator bound : ℕ)
-    → CountedSo n (clear_taken n creator bound) no_name None None (fate.Cleared (length (cleared_names n creator bound)))
-clear-counted n creator bound =
-    (all-still (cleared_names n creator bound) n n (refl, refl), fewer-by n (λ name. (name.creator == creator) && nat_le name.id bound))
+not-given : (n : Node) (name : StateName) → is_not_given n name ≡ true → (name.creator ≡ n.creator) × (n.next_id ≤ name.id)
+not-given n name is = (grind (arith, nat_tests), grind (arith, nat_tests))
 
--- ---- each record
+none-known : (o : Option State) → is_some o ≡ false → o ≡ None
+none-known None e = refl
+none-known (Some s) e = absurd (cc)
 
--- a record that brings a state whole
-imported-fits : (n : Node) (b : Bool) (r : StateRecord) (P : RecordFate → Type 0) → ((why : BadRecord) → P (Bad why)) → ((last : ℕ) → P (Imported last))
-    → P (import_fate n b r)
-imported-fits n b r P faulty good = by (import_fault n r)
-  where
-    by : (o : Option BadRecord) → P (option_map_or Bad o (Imported (imported n b r).last))
-    by None = good _
-    by (Some why) = faulty why
+module _ (n : Node) (r : StateRecord) where
+  -- if there is a reason, it is so
+  abbrev IsSo : Option BadRecord → Type 0
+  IsSo o = IfSome o (IsBadFor n r.name (Some r.keys))
 
-fits : (n : Node) (b : Bool) (m : Message) → IsFateOf m (record_fate n b m)
-unfolding record_fate
-fits n b (message.Clear creator bound) = tt
-fits n b (message.Insert r) = imported-fits n b r (IsFateOf (message.Insert r)) (λ why. tt) (λ last. tt)
-fits n b (message.InsertAck name) = by (maps.get n.states name)
-  where
-    waiting : (w : Bool) → IsFateOf (message.InsertAck name) (cond w Acknowledged Nothing)
-    waiting true = tt
-    waiting false = tt
+  tested : (b : Bool) (why : BadRecord) (rest : Option BadRecord) → (b ≡ true → IsSo (Some why)) → IsSo rest → IsSo (cond b (Some why) rest)
+  tested true why rest so other = so refl
+  tested false why rest so other = other
 
-    by : (o : Option State) → IsFateOf (message.InsertAck name) (option_map_or (λ (s : State). cond s.ack_wanted Acknowledged Nothing) o Nothing)
-    by None = tt
-    by (Some s) = waiting s.ack_wanted
-fits n b (message.Update r) = by (maps.get n.states r.name)
-  where
-    by : (o : Option State) → IsFateOf (message.Update r) (option_map_or (λ (s : State). merge_fate n s (of_state r)) o (import_fate n b r))
-    by None = imported-fits n b r (IsFateOf (message.Update r)) (λ why. tt) (λ last. tt)
-    by (Some s) = tt
-fits n b (message.UpdateShort u) = by (maps.get n.states u.name)
-  where
-    by : (o : Option State) → IsFateOf (message.UpdateShort u) (option_map_or (λ (s : State). merge_fate n s (of_update u)) o fate.Asked)
-    by None = tt
-    by (Some s) = tt
-fits n b (message.UpdateRequest name) = by (is_name no_name name) (maps.get n.states name)
-  where
-    answered : (w : Bool) → IsFateOf (message.UpdateRequest name) (cond w fate.Queued Nothing)
-    answered true = tt
-    answered false = tt
+  owned : (why : StateName → BadRecord) (o : Option State) (rest : Option BadRecord) → ((s : State) → o ≡ Some s → IsSo (Some (why s.name))) → IsSo rest
+      → IsSo (option_or (option_map (λ (s : State). why s.name) o) rest)
+  owned why None rest so other = other
+  owned why (Some s) rest so other = so s refl
 
-    by : (all : Bool) (o : Option State)
-        → IsFateOf (message.UpdateRequest name) (cond all (fate.Bulk (has_states n)) (option_map_or (answer_fate n) o (Bad bad.Unknown)))
-    by true o = tt
-    by false None = tt
-    by false (Some s) = answered (not s.no_sync && is_partly_announced (kind_of n.queue s.name))
-fits n b (message.Delete r) =
-    elim (is_known n r.name) as (λ w. IsFateOf (message.Delete r) (cond w fate.Deleted (Bad bad.Unknown))) [ true ↦ tt | false ↦ tt ]
-fits n b (message.DeleteShort name) =
-    elim (is_known n name) as (λ w. IsFateOf (message.DeleteShort name) (cond w fate.Deleted (Bad bad.Unknown))) [ true ↦ tt | false ↦ tt ]
-fits n b (message.Bulk creator status) =
-    elim (is_waiting n.client) as (λ w. IsFateOf (message.Bulk creator status) (cond w fate.Heard Nothing)) [ true ↦ tt | false ↦ tt ]
+  fault-so : IsSo (import_fault n r)
+  fault-so =
+      tested (is_known n r.name) bad.Known _ (λ is. is)
+      (tested (is_not_given n r.name) bad.NotGiven _ (not-given n r.name)
+      (tested (is_delete (kind_of n.queue r.name)) bad.Deleting _ (deletes (kind_of n.queue r.name))
+      (owned bad.WireInUse (by_wire n.states r.keys.wire) _ (owner n (λ (s : State). is_key s.wire r.keys.wire))
+      (owned bad.StackInUse (by_stack n.states r.keys.stack) _ (owner n (λ (s : State). is_key s.stack r.keys.stack))
+      (tested (nat_le n.limits.states (maps.len n.states)) bad.Full None (leb-true n.limits.states (maps.len n.states)) tt)))))
 
-says-so : (n : Node) (b : Bool) (m : Message) → CountedSo n (taken n b m) (name_in m) (keys_in m) (received_in m) (record_fate n b m)
-unfolding taken record_fate
-says-so n b (message.Clear creator bound) = clear-counted n creator bound
-says-so n b (message.Insert r) = insert-counted n b r r.ack_wanted None
-says-so n b (message.InsertAck name) = ack-counted n name
-says-so n b (message.Update r) = update-counted n b r
-says-so n b (message.UpdateShort u) = short-counted n u
-says-so n b (message.UpdateRequest name) = request-counted n name
-says-so n b (message.Delete r) = delete-counted n r.name
-says-so n b (message.DeleteShort name) = delete-counted n name
-says-so n b (message.Bulk creator status) = status-counted n status
+-- ---- by the kind of the record
+
+-- if a record is bad, it is for this reason
+abbrev WhyBad : Node → Message → Decision → Type 0
+WhyBad n m (decision.Bad why) = IsBadFor n (name_in m) (keys_in m) why
+WhyBad n m other = Unit {0}
+
+module _ (n : Node) (m : Message) where
+  -- what is shown of a decision is of the record's kind
+  abbrev Suits : Decision → Type 0
+  Suits d = IsFateOf m (shown_of n d) × WhyBad n m d
+
+  cases : (c : Bool) (x y : Decision) → Suits x → (c ≡ false → Suits y) → Suits (cond c x y)
+  cases true x y holds fails = holds
+  cases false x y holds fails = fails refl
+
+  found : (f : State → Decision) (o : Option State) (x : Decision) → ((s : State) → Suits (f s)) → (o ≡ None → Suits x) → Suits (option_map_or f o x)
+  found f None x some none = none refl
+  found f (Some s) x some none = some s
+
+  import-suits : (b : Bool) (r : StateRecord) (ack : Bool) → ((why : BadRecord) → IsBadFor n r.name (Some r.keys) why → Suits (decision.Bad why))
+      → ((s : State) → Suits (decision.Import s ack)) → Suits (importing n b r ack)
+  import-suits b r ack faulty good = by (import_fault n r) (fault-so n r)
+    where
+      by : (o : Option BadRecord) → IsSo n r o → Suits (option_map_or decision.Bad o (decision.Import (imported n b r) ack))
+      by None so = good (imported n b r)
+      by (Some why) so = faulty why so
+
+suits : (n : Node) (b : Bool) (m : Message) → Suits n m (decided n b m)
+unfolding decided
+suits n b (message.Clear creator bound) = (tt, tt)
+suits n b (message.Insert r) = import-suits n (message.Insert r) b r r.ack_wanted (λ why so. (tt, so)) (λ s. (tt, tt))
+suits n b (message.InsertAck name) =
+    let m = message.InsertAck name in
+    found n m acknowledging (maps.get n.states name) _ (λ s. cases n m s.ack_wanted _ _ (tt, tt) (λ is. (tt, tt))) (λ none. (tt, tt))
+suits n b (message.Update r) =
+    let m = message.Update r in
+    found n m (merging n (of_state r)) (maps.get n.states r.name) _ (λ s. (tt, tt))
+    (λ none. import-suits n m b r false (λ why so. (tt, so)) (λ s. (tt, tt)))
+suits n b (message.UpdateShort u) =
+    found n (message.UpdateShort u) (merging n (of_update u)) (maps.get n.states u.name) _ (λ s. (tt, tt)) (λ none. (tt, tt))
+suits n b (message.UpdateRequest name) =
+    let m = message.UpdateRequest name in
+    cases n m (is_name no_name name) _ _ (tt, tt) (λ one.
+    found n m (answering n) (maps.get n.states name) _
+    (λ s. cases n m (not s.no_sync && is_partly_announced (kind_of n.queue s.name)) _ _ (tt, tt) (λ is. (tt, tt)))
+    (λ none. (tt, none)))
+suits n b (message.Delete r) =
+    cases n (message.Delete r) (is_known n r.name) _ _ (tt, tt) (λ is. (tt, none-known (maps.get n.states r.name) is))
+suits n b (message.DeleteShort name) =
+    cases n (message.DeleteShort name) (is_known n name) _ _ (tt, tt) (λ is. (tt, none-known (maps.get n.states name) is))
+suits n b (message.Bulk creator status) =
+    cases n (message.Bulk creator status) (is_waiting n.client) _ _ (tt, tt) (λ is. (tt, tt))
+
+-- ---- by the decision
+
+-- the state that a record brings whole is the one that it is about
+whole-named : (m : Message) (r : StateRecord) → whole_in m ≡ Some r → r.name ≡ name_in m
+whole-named (message.Insert s) r brings = cc
+whole-named (message.Update s) r brings = cc
+whole-named other r brings = absurd (cc)
+
+module _ (n : Node) (b : Bool) (m : Message) where
+  says-so : (d : Decision) → RestsOn n b m d → WhyBad n m d
+      → CountedSo n (does n d) (name_in m) (keys_in m) (received_in m) (shown_of n d)
+  unfolding does RestsOn
+  says-so (decision.Bad why) on so = (refl, so)
+  says-so (decision.Import s ack) on so =
+      let named = whole-named m on.sent on.brought in (
+        either (CountedAsMany n) ack _ _ (refl, refl) (refl, refl),
+        ap (maps.get n.states) (sym named) ∙ (may-import n on.sent on.free).fresh,
+        subst (λ (k : StateName). IsLastUsed (taken_over n s ack) k s.last) (ap (λ (t : State). t.name) on.is ∙ named)
+            (either (λ (o : Node). IsLastUsed o s.name s.last) ack _ _ (put-used n s) (put-used n s)),
+      )
+  says-so (decision.Merge x) on so =
+      let still = lost n x.state.name in
+      let counts = into-counted n still x (lost-still n x.state.name) in (
+        counts.0,
+        counts.1,
+        refl,
+        λ are. some_and (IsMergedSo n (name_in m) (ends_in n.limits.kernel x) x.state.last (merged_into still x)) (received_in m) on.received on.brought
+            (merged-so n still (name_in m) on.held on.received _ on.found (are.filed (name_in m) on.held on.found) x on.is),
+      )
+  says-so (decision.Ask name) on so = (
+    (refl, refl),
+    ap (maps.get n.states) (sym on.1) ∙ on.0,
+    ap (is_requested (requested n.queue name)) (sym on.1) ∙ asked n.queue name,
+  )
+  says-so (decision.Queue name) on so = (
+    (refl, refl),
+    some_and (λ (s : State). kind_of (marked n.queue name Update) s.name ≡ Some Update) (maps.get n.states (name_in m)) on.0 on.1.0
+        (ap (kind_of (marked n.queue name Update)) (sym on.1.1) ∙ marked-kind n.queue name),
+  )
+  says-so (decision.Serve true) on so = ((refl, refl), (ltb-true 0 (maps.len n.states) (sym on), refl, refl))
+  says-so (decision.Serve false) on so =
+      let few = ltb-false 0 (maps.len n.states) (sym on) in ((refl, refl), (omega (arith, few), refl, refl))
+  says-so (decision.Release name) on so = (
+    released-still n name,
+    λ are. subst (λ (k : StateName). WaitsNoMore n (name_in m) (released n k)) (sym on.1.1)
+        (acknowledged n (name_in m) on.0 on.1.0 on.1.2 (are.filed (name_in m) on.0 on.1.0)),
+  )
+  says-so (decision.Delete name) on so =
+      (forgotten-still n name, ap (is_known n) (sym on.1) ∙ on.0, ap (maps.get (forgotten n name).states) (sym on.1) ∙ gone n name)
+  says-so (decision.Clear creator bound) on so =
+      (all-still (cleared_names n creator bound) n n (refl, refl), fewer-by n (λ name. (name.creator == creator) && nat_le name.id bound))
+  says-so (decision.Hear Start) on so = (on, refl, inl refl)
+  says-so (decision.Hear Finish) on so = (on, refl, inr refl)
+  says-so decision.Nothing on so = refl
 
 pub counted : RecordsAreCountedSo
-counted n b m = (fits n b m, says-so n b m)
+unfolding taken
+counted n b m = let fits = suits n b m in (fits.0, says-so n b m (decided n b m) (rests n b m) fits.1)

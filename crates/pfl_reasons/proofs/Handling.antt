@@ -1,5 +1,5 @@
 -- The fate of a packet follows from its reason.
-use Rattle.std.specs.Prelude.{◌≡◌, ◌≤◌, ◌⊎◌, ℕ, Bool, true, false, not, ◌&&◌, ◌||◌, nat_le, Option, Some, None, IsSomeAnd, is_some, unwrap_or, refl}
+use Rattle.std.specs.Prelude.{◌≡◌, ◌≤◌, ◌⊎◌, ℕ, Bool, true, false, ◌&&◌, nat_le, Option, Some, None, IsSomeAnd, is_some, unwrap_or, refl}
 use Rattle.std.specs.Option.{option_map_or}
 use Rattle.std.proofs.Common.{cond, ap, sym, subst, inl, inr}
 use Rattle.std.proofs.lemmas.Bool.{leb-true}
@@ -29,15 +29,16 @@ use Rattle.pfl_world.proofs.ForCallers.track.{Stays, tracked_by-stays}
 use Rattle.pfl_world.specs.desk.Changes.{deleted, mark, put_state}
 use Rattle.pfl_world.specs.desk.Nodes.{Node}
 use Rattle.pfl_world.specs.node.Packets.{followed, handled, handled_by}
-use Rattle.pfl_world.specs.node.Starting.{Handled, announced, by_rule, drop, hold, is_at_max, is_deferred, judged, new_state, next_name, pass}
-use Rattle.pfl_world.specs.node.Starting.{started, with_new, with_room}
+use Rattle.pfl_world.specs.node.declared.packet.ruling.Ruling.{Ruling}
+use Rattle.pfl_world.specs.node.declared.packet.ruling.Ruling.TheVariants as ruling
+use Rattle.pfl_world.specs.node.Starting.{Handled, announced, by_keys, by_rule, carried, drop, hold, is_at_max, is_deferred, judged, new_state, next_name, pass}
+use Rattle.pfl_world.specs.node.Starting.{ruled, starting, with_new, with_room}
 use Rattle.pfl_world.specs.table.Tables.{by_stack, by_wire, count_of_rule, found}
-use Rattle.pfl_world.specs.table.Translating.{is_taken, new_keys}
+use Rattle.pfl_world.specs.table.Translating.{new_keys}
 use Rattle.pfl_world.specs.queue.declared.Kind.TheVariants.{Insert}
-use Rattle.pfl_reasons.specs.declared.packet_reason.Judged.TheVariants as made
 use Rattle.pfl_reasons.specs.Deciding.{Decides}
-use Rattle.pfl_reasons.specs.Packets.{HandledSo, HasState, IsPassedBy, IsReuse, JudgedSo, TestedSo, by_found, by_keys, by_tracked, judged_reason, packet_reason}
-use Rattle.pfl_reasons.specs.Packets.{passes, rule_reason, start_reason, tested}
+use Rattle.pfl_reasons.specs.Packets.{HandledSo, HasState, IsPassedBy, IsReuse, JudgedSo, TestedSo, by_found, by_tracked, judged_reason, packet_reason}
+use Rattle.pfl_reasons.specs.Packets.{passes, shown_ruling, tested}
 use Rattle.pfl_reasons.proofs.Deciding.{decides, none-decides}
 use Rattle.pfl_reasons.proofs.Stated.{owner, some_and}
 
@@ -90,37 +91,33 @@ module _ (n : Node) (dir : Dir) (p : Packet) where
     by_it P holds = (r, decided, passed, holds)
 
     keyed-so : (wire stack : Option State) → by_wire n.states (new_keys n.states r (key p dir)).wire ≡ wire
-        → by_stack n.states (new_keys n.states r (key p dir)).stack ≡ stack → (new : Handled)
-        → ((new.fate ≡ fate.Pass (Some (next_name n))) ⊎ (new.fate ≡ fate.Held (next_name n)))
-        × IsSomeAnd (maps.get new.node.states (next_name n)) (λ t. t.rule ≡ Some number)
-        → JudgedSo n dir p (by_keys number wire stack (made.Makes number (next_name n))) (cond (is_some wire || is_some stack) (drop n reason.Key) new)
-    keyed-so (Some s) stack on at new so = (
+        → by_stack n.states (new_keys n.states r (key p dir)).stack ≡ stack
+        → let made = by_keys number wire stack (new_state n dir p number r) in JudgedSo n dir p (shown_ruling made) (carried n dir p made)
+    unfolding Announced
+    keyed-so (Some s) stack on at = (
       refl,
       by_it (λ r. HasState n s.name (λ t. is_key t.wire (new_keys n.states r (key p dir)).wire ≡ true))
           (owner n (λ (t : State). is_key t.wire (new_keys n.states r (key p dir)).wire) s on),
     )
-    keyed-so None (Some s) on at new so = (
+    keyed-so None (Some s) on at = (
       refl,
       by_it (λ r. HasState n s.name (λ t. is_key t.stack (new_keys n.states r (key p dir)).stack ≡ true))
           (owner n (λ (t : State). is_key t.stack (new_keys n.states r (key p dir)).stack) s at),
     )
-    keyed-so None None on at new so = (so.0, so.1, by_it (λ r. next_name n ≡ next_name n) refl)
+    keyed-so None None on at =
+        let s = new_state n dir p number r in
+        let so = announced-so (with_new n s) s (get-set_at_same names_total names_exact n.states s.name (Some s)) in
+        (so.0, so.1, by_it (λ r. next_name n ≡ next_name n) refl)
 
-    started-so : JudgedSo n dir p (start_reason n dir p number r) (started n dir p number r)
-    unfolding started Announced
-    started-so = by (is_at_max n number r) (nat_le n.limits.states (maps.len n.states)) refl refl
+    starting-so : JudgedSo n dir p (shown_ruling (starting n dir p number r)) (carried n dir p (starting n dir p number r))
+    starting-so = by (is_at_max n number r) (nat_le n.limits.states (maps.len n.states)) refl refl
       where
-        s : State
-        s = new_state n dir p number r
-
         by : (most full : Bool) → is_at_max n number r ≡ most → nat_le n.limits.states (maps.len n.states) ≡ full
-            → JudgedSo n dir p (cond most (made.AtMax number (unwrap_or r.max 0) (count_of_rule n.states number))
-            (cond full (made.Full number n.limits.states (maps.len n.states))
+            → let made = cond most (ruling.AtMax number (unwrap_or r.max 0) (count_of_rule n.states number))
+            (cond full (ruling.Full number n.limits.states (maps.len n.states))
             (by_keys number (by_wire n.states (new_keys n.states r (key p dir)).wire)
-            (by_stack n.states (new_keys n.states r (key p dir)).stack) (made.Makes number (next_name n)))))
-            (cond most (drop n reason.Max)
-            (cond full (drop n reason.Full)
-            (cond (is_taken n.states (new_keys n.states r (key p dir))) (drop n reason.Key) (announced (with_new n s) s dir p))))
+            (by_stack n.states (new_keys n.states r (key p dir)).stack) (new_state n dir p number r))) in
+            JudgedSo n dir p (shown_ruling made) (carried n dir p made)
         by true full most room =
             let so = at-max r.max (count_of_rule n.states number) most in (
               refl,
@@ -133,27 +130,30 @@ module _ (n : Node) (dir : Dir) (p : Packet) where
               (refl, refl, leb-true n.limits.states (maps.len n.states) room),
         )
         by false false most room = keyed-so (by_wire n.states (new_keys n.states r (key p dir)).wire)
-            (by_stack n.states (new_keys n.states r (key p dir)).stack) refl refl (announced (with_new n s) s dir p)
-            (announced-so (with_new n s) s (get-set_at_same names_total names_exact n.states s.name (Some s)))
+            (by_stack n.states (new_keys n.states r (key p dir)).stack) refl refl
+
+  -- what is shown of a ruling, and what is done by it
+  MadeSo : Ruling → Type 0
+  MadeSo made = JudgedSo n dir p (shown_ruling made) (carried n dir p made)
 
   -- the rules are asked
   by_rule-so : (number : ℕ) (r : Rule) → Decides n.rules.list p dir number r → is_pass r.action ≡ true
-      → JudgedSo n dir p (option_map_or (start_reason n dir p number) (rule_at n.rules.list (Some number)) made.Unmatched) (by_rule n dir p (Some number))
+      → MadeSo (option_map_or (starting n dir p number) (rule_at n.rules.list (Some number)) ruling.Unmatched)
+  unfolding MadeSo
   by_rule-so number r decided passed =
-      subst (λ (o : Option Rule). JudgedSo n dir p (option_map_or (start_reason n dir p number) o made.Unmatched)
-      (option_map_or (started n dir p number) o (pass n None))) (sym decided.there) (started-so number r decided passed)
+      subst (λ (o : Option Rule). MadeSo (option_map_or (starting n dir p number) o ruling.Unmatched)) (sym decided.there)
+      (starting-so number r decided passed)
 
   judged-so : JudgedSo n dir p (judged_reason n dir p) (judged n dir p)
-  unfolding judged judged_reason
+  unfolding judged judged_reason ruled MadeSo
   judged-so = by (deciding n.rules.list p dir) refl
     where
       by : (o : Option (ℕ × Rule)) → deciding n.rules.list p dir ≡ o
-          → JudgedSo n dir p (option_map_or (rule_reason n dir p (verdict_by o)) (verdict_by o).rule made.Unmatched)
-          (cond (verdict_by o).pass (by_rule n dir p (verdict_by o).rule) (drop n reason.Block))
+          → MadeSo (option_map_or (by_rule n dir p (verdict_by o)) (verdict_by o).rule ruling.Unmatched)
       by None is = (refl, none-decides n.rules.list p dir is)
       by (Some e) is = elim (is_pass e.1.action) as
-          (λ b. is_pass e.1.action ≡ b → JudgedSo n dir p (cond b (option_map_or (start_reason n dir p e.0) (rule_at n.rules.list (Some e.0)) made.Unmatched)
-          (made.Blocked e.0)) (cond b (by_rule n dir p (Some e.0)) (drop n reason.Block))) [
+          (λ b. is_pass e.1.action ≡ b → MadeSo (cond b (option_map_or (starting n dir p e.0) (rule_at n.rules.list (Some e.0)) ruling.Unmatched)
+          (ruling.Blocked e.0))) [
             | true ↦ λ passed. by_rule-so e.0 e.1 (decides n.rules.list p dir e is) passed
             | false ↦ λ blocked. (refl, (e.1, decides n.rules.list p dir e is, blocked))
           ] refl

@@ -6,7 +6,6 @@ pub mod Arriving
 pub mod Coming
 pub mod Expiring
 pub mod Finding
-pub mod Judging
 pub mod Killing
 pub mod Plain
 pub mod Refusing

@@ -93,18 +93,20 @@ dst-taken true src dst held received = taken-else (dst && src) held received
 dst-taken false src true held received = refl
 dst-taken false src false held received = refl
 
--- the ends of a record that a merge takes
-abbrev pub taken_by : Kernel → State → Received → TakenEnds
-taken_by k s r = ends_of (ends_taken k (stale_src s r) (stale_dst s r)) (stale_src s r) (stale_dst s r)
+-- the ends of a record that a merge took
+abbrev pub ends_in : Kernel → Merged → TakenEnds
+ends_in k x = ends_of (ends_taken k x.stale_src x.stale_dst) x.stale_src x.stale_dst
 
-merged-becomes : (k : Kernel) (s : State) (r : Received) (timeout now : ℕ) → Becomes s r (taken_by k s r) (merged k s r timeout now).state
-merged-becomes k s r timeout now = by (not (stale_src s r && stale_dst s r)) _ (record {
-  name = refl;
-  src = src-taken k.merge (stale_src s r) (stale_dst s r) s.src r.src;
-  dst = dst-taken k.merge (stale_src s r) (stale_dst s r) s.dst r.dst;
-})
+merged-becomes : (k : Kernel) (s : State) (r : Received) (timeout now : ℕ) (x : Merged) → x ≡ merged k s r timeout now → Becomes s r (ends_in k x) x.state
+merged-becomes k s r timeout now x is =
+    subst (λ (y : Merged). Becomes s r (ends_in k y) y.state) (sym is) (by (not (stale_src s r && stale_dst s r)) _ (record {
+      name = refl;
+      src = src-taken k.merge (stale_src s r) (stale_dst s r) s.src r.src;
+      dst = dst-taken k.merge (stale_src s r) (stale_dst s r) s.dst r.dst;
+    }))
   where
-    by : (b : Bool) (t : State) → Becomes s r (taken_by k s r) t → Becomes s r (taken_by k s r) (refreshed k b t r timeout now)
+    by : (b : Bool) (t : State) → Becomes s r (ends_in k (merged k s r timeout now)) t
+        → Becomes s r (ends_in k (merged k s r timeout now)) (refreshed k b t r timeout now)
     by true t becomes = record { name = becomes.name; src = becomes.src; dst = becomes.dst }
     by false t becomes = becomes
 
@@ -113,14 +115,13 @@ inside P Q None then holds = holds
 inside P Q (Some x) then holds = then x holds
 
 -- a state that is merged
-pub merged-so : (k : Kernel) (n m : Node) (name : StateName) (s : State) (r : Received) (timeout now : ℕ)
-    → maps.get n.states name ≡ Some s → s.name ≡ name
-    → IsMergedSo n name (taken_by k s r) (merged k s r timeout now).state.last (merged_into m (merged k s r timeout now)) r
-merged-so k n m name s r timeout now at filed =
-    let x = merged k s r timeout now in
-    let ends = taken_by k s r in
+pub merged-so : (n m : Node) (name : StateName) (s : State) (r : Received) (timeout : ℕ) → maps.get n.states name ≡ Some s → s.name ≡ name
+    → (x : Merged) → x ≡ merged n.limits.kernel s r timeout n.clock
+    → IsMergedSo n name (ends_in n.limits.kernel x) x.state.last (merged_into m x) r
+merged-so n m name s r timeout at filed x is =
+    let ends = ends_in n.limits.kernel x in
     let after = merged_into m x in
-    let becomes = merged-becomes k s r timeout now in
+    let becomes = merged-becomes n.limits.kernel s r timeout n.clock x is in
     let like = subst (λ (j : StateName). HasLike after j x.state) (becomes.name ∙ filed) (into-like m x) in
     some_and (λ (u : State). IsSomeAnd (maps.get after.states name)
     (λ (t : State). (t.last ≡ x.state.last) × (t.src ≡ cond ends.src r.src u.src) × (t.dst ≡ cond ends.dst r.dst u.dst)))

@@ -17,10 +17,10 @@ use Rattle.pfl_wire.specs.declared.message.Message.{Message}
 use Rattle.pfl_wire.specs.declared.message.Message.TheVariants.{Bulk, Insert, InsertAck, UpdateShort, UpdateRequest, DeleteShort, Clear}
 use Rattle.pfl_world.specs.desk.Changes as changes
 use Rattle.pfl_world.specs.desk.Nodes.{Node, new_node}
+use Rattle.pfl_world.specs.receive.declared.decision.BadRecord.TheVariants as bad
 use Rattle.pfl_world.specs.receive.Receiving as receiving
 use Rattle.pfl_reasons.specs.Records as records
 use Rattle.pfl_reasons.specs.Records.{fates}
-use Rattle.pfl_reasons.specs.declared.record_fate.BadRecord.TheVariants as bad
 use Rattle.pfl_reasons.specs.declared.record_fate.RecordFate.{RecordFate}
 use Rattle.pfl_reasons.specs.declared.record_fate.RecordFate.TheVariants as fate
 use Rattle.pfl_reasons.specs.declared.record_fate.TakenEnds.{TakenEnds}
@@ -67,7 +67,7 @@ abbrev become : List Message → List RecordFate
 become messages = map (λ t. t.fate) (fates fresh true messages)
 
 unfoldable computing : ℕ
-unfolding map_lemmas.computing receiving.taken changes.changed changes.forgotten records.fates records.record_fate
+unfolding map_lemmas.computing receiving.decided receiving.does receiving.taken changes.changed changes.forgotten records.fates
 computing = 0
 
 -- a state of the peer's is taken over; the same once more is known

@@ -1,5 +1,5 @@
 -- Why a packet has its fate (pf.c, pf.conf(5); that it is shown is this project's profile).
-use Rattle.std.specs.Prelude.{◌≡◌, ◌≤◌, ◌⊎◌, ℕ, Bool, true, false, nat_le, Option, Some, None, IsSomeAnd, is_some, if◌then◌else◌, unwrap_or}
+use Rattle.std.specs.Prelude.{◌≡◌, ◌≤◌, ◌⊎◌, ℕ, Bool, true, false, Option, Some, None, IsSomeAnd, is_some, if◌then◌else◌}
 use Rattle.std.specs.Option.{option_map_or}
 use Rattle.pfl_base.specs.declared.direction.Dir.{Dir}
 use Rattle.pfl_base.specs.declared.kernel.Kernel.{Kernel}
@@ -9,9 +9,7 @@ use Rattle.pfl_base.specs.Keys.{is_key, key}
 use Rattle.pfl_base.specs.Packets.{is_request, is_tcp}
 use Rattle.pfl_edits.specs.Maps as maps
 use Rattle.pfl_rules.specs.declared.rule.Rule.{Rule}
-use Rattle.pfl_rules.specs.declared.verdict.Verdict.{Verdict}
 use Rattle.pfl_rules.specs.Matching.{is_pass}
-use Rattle.pfl_rules.specs.Rules.{verdict, rule_at}
 use Rattle.pfl_track.specs.declared.judgement.Judgement.{Judgement}
 use Rattle.pfl_track.specs.declared.state.State.{State}
 use Rattle.pfl_track.specs.declared.tracked.Tracked.{Tracked}
@@ -23,8 +21,10 @@ use Rattle.pfl_language.specs.declared.fate.Fate.TheVariants as fate
 use Rattle.pfl_language.specs.declared.fate.Reason.TheVariants as reason
 use Rattle.pfl_world.specs.desk.Changes.{deleted}
 use Rattle.pfl_world.specs.desk.Nodes.{Node}
-use Rattle.pfl_world.specs.node.Starting.{Handled, drop, is_at_max, next_name, pass}
-use Rattle.pfl_world.specs.table.Tables.{by_stack, by_wire, count_of_rule, found}
+use Rattle.pfl_world.specs.node.declared.packet.ruling.Ruling.{Ruling}
+use Rattle.pfl_world.specs.node.declared.packet.ruling.Ruling.TheVariants as ruling
+use Rattle.pfl_world.specs.node.Starting.{Handled, drop, next_name, pass, ruled}
+use Rattle.pfl_world.specs.table.Tables.{count_of_rule, found}
 use Rattle.pfl_world.specs.table.Translating.{new_keys}
 use Rattle.pfl_reasons.specs.declared.packet_reason.Judged.{Judged}
 use Rattle.pfl_reasons.specs.declared.packet_reason.Judged.TheVariants as judged
@@ -32,29 +32,19 @@ use Rattle.pfl_reasons.specs.declared.packet_reason.PacketReason.{PacketReason}
 use Rattle.pfl_reasons.specs.declared.packet_reason.PacketReason.TheVariants.{OfState, ByRules}
 use Rattle.pfl_reasons.specs.Deciding.{Decides, NoneMatches}
 
--- a state that has a key of the new one stands against it, the one with the wire key first; where a rule has several ports, this is about
--- the last of them
-abbrev pub by_keys : ℕ → Option State → Option State → Judged → Judged
-by_keys rule (Some s) on_stack makes = judged.WireInUse rule s.name
-by_keys rule None (Some s) makes = judged.StackInUse rule s.name
-by_keys rule None None makes = makes
-
--- a packet that the rule of this number passes: what stands against a new state, in the order in which it is tested
-abbrev pub start_reason : Node → Dir → Packet → ℕ → Rule → Judged
-start_reason n dir p number r =
-    if is_at_max n number r then judged.AtMax number (unwrap_or r.max 0) (count_of_rule n.states number) else
-    if nat_le n.limits.states (maps.len n.states) then judged.Full number n.limits.states (maps.len n.states) else
-    let keys = new_keys n.states r (key p dir) in
-    by_keys number (by_wire n.states keys.wire) (by_stack n.states keys.stack) (judged.Makes number (next_name n))
-
--- the rule that decided, by its number
-abbrev pub rule_reason : Node → Dir → Packet → Verdict → ℕ → Judged
-rule_reason n dir p v number =
-    if v.pass then option_map_or (start_reason n dir p number) (rule_at n.rules.list (Some number)) judged.Unmatched else judged.Blocked number
+-- what is shown of what the rules make of a packet: of a new state its name
+abbrev pub shown_ruling : Ruling → Judged
+shown_ruling ruling.Unmatched = judged.Unmatched
+shown_ruling (ruling.Blocked rule) = judged.Blocked rule
+shown_ruling (ruling.AtMax rule most states) = judged.AtMax rule most states
+shown_ruling (ruling.Full rule limit states) = judged.Full rule limit states
+shown_ruling (ruling.WireInUse rule name) = judged.WireInUse rule name
+shown_ruling (ruling.StackInUse rule name) = judged.StackInUse rule name
+shown_ruling (ruling.Starts rule s) = judged.Makes rule s.name
 
 -- what the rules make of a packet that no state takes
 unfoldable pub judged_reason : Node → Dir → Packet → Judged
-judged_reason n dir p = let v = verdict n.rules.list p dir in option_map_or (rule_reason n dir p v) v.rule judged.Unmatched
+judged_reason n dir p = shown_ruling (ruled n dir p)
 
 -- what a packet of TCP is tested against; one of another protocol is not tested
 abbrev pub tested : Kernel → State → Dir → Packet → Option Judgement

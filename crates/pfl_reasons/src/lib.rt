@@ -27,5 +27,5 @@ pub use laws::{frames_are_counted, reasons_agree, records_are_counted};
 pub use packet_reason::{Judged, PacketReason};
 pub use pfl_events::Events;
 pub use pfl_link::InFlight;
-pub use pfl_world::World;
-pub use record_fate::{BadRecord, RecordFate, TakenEnds, TakenRecord};
+pub use pfl_world::{BadRecord, World};
+pub use record_fate::{RecordFate, TakenEnds, TakenRecord};

@@ -12,12 +12,11 @@ ghost use Rattle.pfl_world.specs.Worlds.{node_at};
 ghost use Rattle.pfl_reasons.specs.Packets as meant;
 
 use crate::packet_reason::{Judged, PacketReason};
-use pfl_base::{Dir, Kernel, NodeId, Packet, Proto, StateName, key};
+use pfl_base::{Dir, Kernel, NodeId, Packet, Proto, key};
 use pfl_edits::NoMemory;
 use pfl_language::{Event, NodeEvent};
-use pfl_rules::Rule;
-use pfl_track::{Judgement, KeyPair, State, Tracked, track_by, window_test_by};
-use pfl_world::{Parts, World};
+use pfl_track::{Judgement, State, Tracked, track_by, window_test_by};
+use pfl_world::{Parts, Ruling, World, ask_rules};
 use std::alloc::Allocator;
 
 /// Why a packet has its fate at the node.
@@ -91,88 +90,36 @@ fn reuse_reason<A: Allocator + Copy>(
 }
 
 /// What the rules make of a packet that no state takes.
+#[tactic(auto, unfolding(crate::specs::Packets::judged_reason))]
 fn judged<A: Allocator>(node: &Parts<A>, dir: Dir, packet: &Packet) -> Judged
     requires packet { IsPacket packet.now }
     ensures { result ≡ meant.judged_reason node.now dir packet.now }
 {
-    let verdict = node.rules().verdict(packet, dir);
-    let Some(number) = verdict.rule else {
-        return Judged::Unmatched;
-    };
-    if !verdict.pass {
-        return Judged::Blocked { rule: number };
-    }
-    match node.rules().rule(number) {
-        Some(rule) => start_reason(node, dir, packet, number, &rule),
-        None => Judged::Unmatched,
-    }
+    shown(&ask_rules(node, dir, packet))
 }
 
-/// What stands against a new state of a packet that a rule passes.
-fn start_reason<A: Allocator>(
-    node: &Parts<A>,
-    dir: Dir,
-    packet: &Packet,
-    number: u16,
-    rule: &Rule,
-) -> Judged
-    requires fits { fits_translation (flow_of packet.now dir) rule.now ≡ true }
-    ensures { result ≡ meant.start_reason node.now dir packet.now number rule.now }
+/// What is shown of what the rules make of a packet.
+fn shown(ruling: &Ruling) -> Judged
+    ensures { result ≡ meant.shown_ruling ruling.now }
 {
-    let states = node.states();
-    if let Some(most) = max_reached(node, number, rule) {
-        return Judged::AtMax {
-            rule: number,
-            most,
-            states: states.count_of_rule(number),
-        };
-    }
-    if states.is_full() {
-        return Judged::Full {
-            rule: number,
-            limit: node.limits().states,
-            states: states.len(),
-        };
-    }
-    let keys = states.new_keys(rule, packet, dir);
-    by_keys(node, number, &keys)
-}
-
-/// How many states the rule may have, where it has as many or more.
-fn max_reached<A: Allocator>(node: &Parts<A>, number: u16, rule: &Rule) -> Option<u32>
-    ensures { result ≡ (if starting.is_at_max node.now number rule.now then rule.now.max else None) }
-{
-    let most = rule.max?;
-    if most as usize <= node.states().count_of_rule(number) {
-        Some(most)
-    } else {
-        None
-    }
-}
-
-/// The state with a key of the new one, or else the new one.
-fn by_keys<A: Allocator>(node: &Parts<A>, rule: u16, keys: &KeyPair) -> Judged
-    ensures { result ≡ meant.by_keys rule (by_wire node.now.states keys.now.wire) (by_stack node.now.states keys.now.stack)
-        (Judged.Makes rule (starting.next_name node.now)) }
-{
-    let states = node.states();
-    if let Some(state) = states.by_wire(&keys.wire()) {
-        return Judged::WireInUse {
+    match *ruling {
+        Ruling::Unmatched => Judged::Unmatched,
+        Ruling::Blocked { rule } => Judged::Blocked { rule },
+        Ruling::AtMax { rule, most, states } => Judged::AtMax { rule, most, states },
+        Ruling::Full {
+            rule,
+            limit,
+            states,
+        } => Judged::Full {
+            rule,
+            limit,
+            states,
+        },
+        Ruling::WireInUse { rule, name } => Judged::WireInUse { rule, name },
+        Ruling::StackInUse { rule, name } => Judged::StackInUse { rule, name },
+        Ruling::Starts { rule, state } => Judged::Makes {
             rule,
             name: state.name(),
-        };
-    }
-    if let Some(state) = states.by_stack(&keys.stack()) {
-        return Judged::StackInUse {
-            rule,
-            name: state.name(),
-        };
-    }
-    Judged::Makes {
-        rule,
-        name: StateName {
-            creator: node.creator(),
-            id: node.next_id(),
         },
     }
 }

@@ -1,26 +1,8 @@
 //! What becomes of the records of a frame, as plain data.
 
-use pfl_base::{Millis, StateName};
+use pfl_base::Millis;
 use pfl_wire::Message;
-
-/// Why a record cannot be used: the first reason in this order.
-#[derive(Clone, Copy, Debug, PartialEq, Eq)]
-pub enum BadRecord {
-    /// The node has no state of the name.
-    Unknown,
-    /// The node has a state of the name.
-    Known,
-    /// The node itself gives the name, and has not yet.
-    NotGiven,
-    /// The node deleted the state, and the peer does not know that yet.
-    Deleting,
-    /// This state has its wire key.
-    WireInUse(StateName),
-    /// This state has its stack key.
-    StackInUse(StateName),
-    /// The node has as many states as it may.
-    Full,
-}
+use pfl_world::BadRecord;
 
 /// Which ends of a record are taken.
 #[derive(Clone, Copy, Debug, PartialEq, Eq)]

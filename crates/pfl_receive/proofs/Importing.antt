@@ -1,15 +1,16 @@
 -- A state that may be taken over may be put.
-use Rattle.std.specs.Prelude.{◌≡◌, ◌≤◌, ◌<◌, ℕ, ◌+◌, ◌==◌, ◌&&◌, ◌||◌, Bool, true, false, not, nat_le, nat_lt, length, Option, Some, None}
+use Rattle.std.specs.Prelude.{◌≡◌, ◌≤◌, ◌<◌, ℕ, ◌+◌, ◌==◌, ◌&&◌, ◌||◌, Bool, true, false, nat_le, nat_lt, length, Option, Some, None}
 use Rattle.std.specs.Prelude.{is_some, IfSome, refl}
-use Rattle.std.specs.Option.{option_map}
+use Rattle.std.specs.Option.{option_map, option_or}
 use Rattle.std.proofs.Common.{cond, T, ◌∙◌, ap, sym, subst, arith}
 use Rattle.std.proofs.lemmas.Bool.Decides.{nat_tests}
 use Rattle.pfl_base.specs.declared.state_name.StateName.{StateName}
 use Rattle.pfl_base.proofs.ForCallers.{names_total, names_exact}
 use Rattle.pfl_edits.specs.Maps as maps
 use Rattle.pfl_edits.proofs.ForCallers.{len-insert, get-set_at_same}
+use Rattle.pfl_track.specs.declared.state.State.{State}
 use Rattle.pfl_track.specs.States.{IsState}
-use Rattle.pfl_desk.specs.table.Tables.{key_in_use}
+use Rattle.pfl_desk.specs.table.Tables.{by_stack, by_wire, key_in_use}
 use Rattle.pfl_desk.proofs.ForCallers.table.{OwnsKeys-unused}
 use Rattle.pfl_wire.specs.declared.message.StateRecord.{StateRecord}
 use Rattle.pfl_desk.specs.queue.declared.Kind.{Kind}
@@ -20,7 +21,12 @@ use Rattle.pfl_desk.specs.Changes.{put_state}
 use Rattle.pfl_desk.specs.inner.Kept.{MayAdd, MayMark}
 use Rattle.pfl_desk.specs.Nodes.{Node, AreParts, IsNodeState, IsGiven, IsPast, LeftFits}
 use Rattle.pfl_desk.proofs.ForCallers.{put-node, told-may}
-use Rattle.pfl_receive.specs.Receiving.{is_not_given, is_delete, can_import, imported, kept_rule}
+use Rattle.pfl_receive.specs.declared.decision.BadRecord.{BadRecord}
+use Rattle.pfl_receive.specs.declared.decision.BadRecord.TheVariants as bad
+use Rattle.pfl_receive.specs.declared.decision.Decision.{Decision}
+use Rattle.pfl_receive.specs.declared.decision.Decision.TheVariants as decision
+use Rattle.pfl_receive.specs.inner.Deciding.{MayDo, MayTakeOver}
+use Rattle.pfl_receive.specs.Receiving.{import_fault, is_known, is_not_given, is_delete, imported, kept_rule}
 
 -- ---- why it may be
 
@@ -31,14 +37,6 @@ pub record MayImport (n : Node) (r : StateRecord) : Type 0 where
   pub untold : is_delete (kind_of n.queue r.name) ≡ false
   pub unused : key_in_use n.states r.keys.wire r.keys.stack ≡ false
   pub room : maps.len n.states < n.limits.states
-
-neither : (a b : Bool) → (a || b) ≡ false → (a ≡ false) × (b ≡ false)
-neither true b e = absurd (subst T e tt)
-neither false b e = (refl, e)
-
-turned : (b : Bool) → not b ≡ true → b ≡ false
-turned true e = absurd (cc)
-turned false e = refl
 
 is-none : {X : Type 0} (o : Option X) → is_some o ≡ false → o ≡ None
 is-none None e = refl
@@ -57,18 +55,29 @@ given-is n name e same = by (nat_le n.next_id name.id) refl (sym (ap (λ b. b &&
 below : (a b : ℕ) → nat_le a b ≡ false → b < a
 below a b e = grind (arith, nat_tests)
 
-pub may-import : (n : Node) (r : StateRecord) (b : Bool) → b ≡ can_import n r → b ≡ true → MayImport n r
-may-import n r b is e =
-    let all = neither _ _ (turned _ (sym is ∙ e)) in
-    let keys = neither _ _ all.0 in
-    let told = neither _ _ keys.0 in
-    let names = neither _ _ told.0 in
-    record {
-      fresh = is-none (maps.get n.states r.name) names.0;
-      given = given-is n r.name names.1;
-      untold = told.1;
-      unused = keys.1;
-      room = below n.limits.states (maps.len n.states) all.1;
+-- a record with no fault
+pub may-import : (n : Node) (r : StateRecord) → import_fault n r ≡ None → MayImport n r
+may-import n r e = by (is_known n r.name) refl (is_not_given n r.name) refl (is_delete (kind_of n.queue r.name)) refl
+    (by_wire n.states r.keys.wire) refl (by_stack n.states r.keys.stack) refl (nat_le n.limits.states (maps.len n.states)) refl e
+  where
+    by : (known : Bool) → is_known n r.name ≡ known → (not_given : Bool) → is_not_given n r.name ≡ not_given
+        → (deleting : Bool) → is_delete (kind_of n.queue r.name) ≡ deleting → (wire : Option State) → by_wire n.states r.keys.wire ≡ wire
+        → (stack : Option State) → by_stack n.states r.keys.stack ≡ stack → (full : Bool) → nat_le n.limits.states (maps.len n.states) ≡ full
+        → cond known (Some bad.Known) (cond not_given (Some bad.NotGiven) (cond deleting (Some bad.Deleting)
+        (option_or (option_map (λ (s : State). bad.WireInUse s.name) wire)
+        (option_or (option_map (λ (s : State). bad.StackInUse s.name) stack) (cond full (Some bad.Full) None))))) ≡ None → MayImport n r
+    by true k not_given g deleting d wire w stack s full f e = absurd (cc)
+    by false k true g deleting d wire w stack s full f e = absurd (cc)
+    by false k false g true d wire w stack s full f e = absurd (cc)
+    by false k false g false d (Some x) w stack s full f e = absurd (cc)
+    by false k false g false d None w (Some x) s full f e = absurd (cc)
+    by false k false g false d None w None s true f e = absurd (cc)
+    by false k false g false d None w None s false f e = record {
+      fresh = is-none (maps.get n.states r.name) k;
+      given = given-is n r.name g;
+      untold = d;
+      unused = λ i. is_some (w i) || is_some (s i);
+      room = below n.limits.states (maps.len n.states) f;
     }
 
 -- ---- the state as it is kept
@@ -108,7 +117,7 @@ no-mark n r is may k at =
     subst T (sym told ∙ may.untold) tt
 
 -- the node with it is one
-pub imported-node : (n : Node) (b : Bool) (r : StateRecord) → AreParts n → MayImport n r → IsState (imported n b r)
+imported-node : (n : Node) (b : Bool) (r : StateRecord) → AreParts n → MayImport n r → IsState (imported n b r)
     → (n.limits.kernel.expiry ≡ false → IsPast n (imported n b r).last)
     → (n.clock < (imported n b r).last → LeftFits n (imported n b r)) → AreParts (put_state n (imported n b r))
 imported-node n b r is may state past ahead =
@@ -119,11 +128,27 @@ imported-node n b r is may state past ahead =
     (imported-state n b r may.given state past ahead)
     (λ k at. absurd (no-mark n r is may k at))
 
-pub imported-may : (n : Node) (b : Bool) (r : StateRecord) → MayImport n r → MayAdd n (imported n b r)
+imported-may : (n : Node) (b : Bool) (r : StateRecord) → MayImport n r → MayAdd n (imported n b r)
 imported-may n b r may = record { fresh = may.fresh; unused = may.unused; room = may.room }
 
 -- and the name may be acknowledged
-pub acknowledged-may : (n : Node) (b : Bool) (r : StateRecord) → MayImport n r → MayMark (put_state n (imported n b r)) r.name InsertAck
+acknowledged-may : (n : Node) (b : Bool) (r : StateRecord) → MayImport n r → MayMark (put_state n (imported n b r)) r.name InsertAck
 acknowledged-may n b r may =
     let s = imported n b r in
     told-may (put_state n s) r.name InsertAck s (get-set_at_same names_total names_exact n.states s.name (Some s)) refl may.given (λ e. cc)
+
+-- so it may be taken over
+pub imported-so : (n : Node) (b : Bool) (r : StateRecord) (o : Option BadRecord) (s : State) (ack : Bool) (d : Decision) → AreParts n
+    → o ≡ import_fault n r → o ≡ None → s ≡ imported n b r → IsState s → (n.limits.kernel.expiry ≡ false → IsPast n s.last)
+    → (n.clock < s.last → LeftFits n s) → d ≡ decision.Import s ack → MayDo n d
+imported-so n b r o s ack d is fault none same state past ahead gives =
+    let may = may-import n r (sym fault ∙ none) in
+    let kept = subst IsState same state in
+    let before = subst (λ (t : State). n.limits.kernel.expiry ≡ false → IsPast n t.last) same past in
+    let after = subst (λ (t : State). n.clock < t.last → LeftFits n t) same ahead in
+    let all : MayTakeOver n (imported n b r) = record {
+      parts = imported-node n b r is may kept before after;
+      add = imported-may n b r may;
+      mark = acknowledged-may n b r may;
+    } in
+    subst (MayDo n) (sym gives) (subst (MayTakeOver n) (sym same) all)

@@ -1,10 +1,10 @@
-pub mod ByKind
 pub mod Cleared
 pub mod Delivered
 pub mod First
 pub mod Importing
 pub mod Merging
 pub mod Paying
+pub mod Resting
 pub mod Serving
 pub mod Weighing
 pub mod ForCallers

@@ -1,13 +1,11 @@
 -- What a merge gives may take the state's place.
 use Rattle.std.specs.Prelude.{◌≡◌, ◌≤◌, ◌<◌, ◌⊎◌, ℕ, ◌-◌, ◌&&◌, Bool, true, false, not, length, Option, Some, IfSome, refl}
-use Rattle.std.specs.Option.{option_map_or}
 use Rattle.std.proofs.Common.{cond, ◌∙◌, ap, sym, subst, arith, inl, inr}
 use Rattle.pfl_base.specs.declared.kernel.Kernel.{Kernel}
 use Rattle.pfl_base.specs.declared.state_name.StateName.{StateName}
 use Rattle.pfl_edits.specs.Maps as maps
 use Rattle.pfl_track.specs.declared.state.State.{State}
 use Rattle.pfl_track.specs.States.{IsState}
-use Rattle.pfl_desk.specs.table.Tables.{States}
 use Rattle.pfl_merge.specs.declared.received.Received.{Received}
 use Rattle.pfl_merge.specs.declared.merged.Merged.{Merged}
 use Rattle.pfl_merge.specs.Merging.{merged, stale_src, stale_dst}
@@ -16,24 +14,6 @@ use Rattle.pfl_desk.specs.Changes.{lost, is_held, count_lost, without_held}
 use Rattle.pfl_desk.specs.inner.Kept.{MayReplace}
 use Rattle.pfl_desk.specs.Nodes.{Node, AreParts, IsPast}
 use Rattle.pfl_desk.proofs.ForCallers.{left-same, state_still}
-
--- what was found by a name is what stands under it
-pub found-so : (n : Node) (m : States) (name : StateName) (o p q : Option State) → m ≡ n.states → o ≡ maps.get m name → p ≡ o → p ≡ q
-    → maps.get n.states name ≡ q
-found-so n m name o p q states found copied at = ap (λ (k : States). maps.get k name) (sym states) ∙ (sym found ∙ (sym copied ∙ at))
-
--- a state that was found by a name stands under its own
-pub stands-found : (n : Node) (m : States) (name : StateName) (o p : Option State) (s : State) → AreParts n → m ≡ n.states
-    → o ≡ maps.get m name → p ≡ o → p ≡ Some s → maps.get n.states s.name ≡ Some s
-stands-found n m name o p s is states found copied at =
-    let there = found-so n m name o p (Some s) states found copied at in
-    ap (maps.get n.states) (is.states.filed name s there) ∙ there
-
--- what holds of what a state makes of what was received holds of what comes of a record, where that state was found
-pub known-so : (P : Node → Type 0) (f : State → Received → Node) (q r : Received) (d : Node) (o : Option State) (s : State) → o ≡ Some s
-    → q ≡ r → P (f s q) → P (option_map_or (λ t. f t r) o d)
-known-so P f q r d o s found same holds =
-    subst (λ (k : Option State). P (option_map_or (λ t. f t r) k d)) (sym found) (subst (λ (k : Received). P (f s k)) same holds)
 
 -- a state that may take the place of one may do so too where only counts and held packets are others
 lost-may : (n : Node) (name : StateName) (s : State) → MayReplace n s → MayReplace (lost n name) s
@@ -101,6 +81,7 @@ merged-may n k s t r seconds is stands same keeps state =
 
 -- the same of what a merge gave, at the node's time
 pub merge-may : (n : Node) (k : Kernel) (s : State) (m : Merged) (r : Received) (seconds now : ℕ) → AreParts n → maps.get n.states s.name ≡ Some s
-    → m ≡ merged k s r seconds now → now ≡ n.clock → Keeps s m.state → IsState m.state → MayReplace (lost n s.name) m.state
-merge-may n k s m r seconds now is stands gives clock =
-    merged-may n k s m.state r seconds is stands (ap (λ (x : Merged). x.state) gives ∙ ap (λ (at : ℕ). (merged k s r seconds at).state) clock)
+    → m ≡ merged k s r seconds now → now ≡ n.clock → Keeps s m.state → IsState m.state → MayReplace (lost n m.state.name) m.state
+merge-may n k s m r seconds now is stands gives clock keeps state =
+    let same = ap (λ (x : Merged). x.state) gives ∙ ap (λ (at : ℕ). (merged k s r seconds at).state) clock in
+    subst (λ (name : StateName). MayReplace (lost n name) m.state) (sym keeps.name) (merged-may n k s m.state r seconds is stands same keeps state)

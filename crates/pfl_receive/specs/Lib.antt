@@ -1,4 +1,5 @@
 pub mod Receiving
+pub mod Bringing
 pub mod Delivering
 pub mod inner
 pub use Rattle.pfl_base.specs as base

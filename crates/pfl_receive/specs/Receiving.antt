@@ -1,15 +1,15 @@
--- What a record from the peer does at a node (if_pfsync.c; when a record is bad, the bound of a clear, taking over by an update
--- and, without `expiry`, the last use that is kept are this project's profile).
+-- What a record from the peer comes to at a node, and what that does (if_pfsync.c; when a record is bad, the bound of a clear, taking
+-- over by an update and, without `expiry`, the last use that is kept are this project's profile).
 use Rattle.std.specs.Prelude.{ℕ, Bool, true, false, not, ◌&&◌, ◌||◌, ◌==◌, nat_lt, nat_le, List, length, filter, Option, Some, None, is_some, if◌then◌else◌}
 use Rattle.std.specs.List.{fold}
-use Rattle.std.specs.Option.{option_map_or}
+use Rattle.std.specs.Option.{option_map, option_map_or, option_or}
 use Rattle.pfl_base.specs.declared.state_name.StateName.{StateName}
 use Rattle.pfl_base.specs.declared.class.Class.{Class}
 use Rattle.pfl_base.specs.Names.{is_name}
 use Rattle.pfl_edits.specs.Maps as maps
 use Rattle.pfl_desk.specs.rules.Rules.{timeout}
 use Rattle.pfl_track.specs.declared.state.State.{State}
-use Rattle.pfl_desk.specs.table.Tables.{key_in_use}
+use Rattle.pfl_desk.specs.table.Tables.{by_stack, by_wire}
 use Rattle.pfl_wire.specs.declared.message.BulkStatus.{BulkStatus}
 use Rattle.pfl_wire.specs.declared.message.BulkStatus.TheVariants.{Start, End as Finish}
 use Rattle.pfl_wire.specs.declared.message.StateRecord.{StateRecord}
@@ -22,9 +22,13 @@ use Rattle.pfl_desk.specs.queue.Queues.{kind_of}
 use Rattle.pfl_merge.specs.declared.received.Received.{Received}
 use Rattle.pfl_merge.specs.declared.merged.Merged.{Merged}
 use Rattle.pfl_merge.specs.Merging.{merged, imported_use}
-use Rattle.pfl_desk.specs.bulk.Bulk.{no_name, server_started, after_status}
+use Rattle.pfl_desk.specs.bulk.Bulk.{no_name, is_waiting, server_started, after_status}
 use Rattle.pfl_desk.specs.Nodes.{Node, timeout_at}
 use Rattle.pfl_desk.specs.Changes.{put_state, mark, push_if, ask, announce_status, count_bad, count_stale, lost, released, changed, forgotten}
+use Rattle.pfl_receive.specs.declared.decision.BadRecord.{BadRecord}
+use Rattle.pfl_receive.specs.declared.decision.BadRecord.TheVariants as bad
+use Rattle.pfl_receive.specs.declared.decision.Decision.{Decision}
+use Rattle.pfl_receive.specs.declared.decision.Decision.TheVariants as decision
 
 -- the node has the state
 abbrev pub is_known : Node → StateName → Bool
@@ -41,11 +45,19 @@ abbrev pub is_delete : Option Kind → Bool
 is_delete (Some Delete) = true
 is_delete _ = false
 
--- the state may be taken over
-abbrev pub can_import : Node → StateRecord → Bool
-can_import n r = not (
-    is_known n r.name || is_not_given n r.name || is_delete (kind_of n.queue r.name)
-    || key_in_use n.states r.keys.wire r.keys.stack || nat_le n.limits.states (maps.len n.states))
+-- the state with a key of the record's, or else the limit
+abbrev pub key_fault : Node → StateRecord → Option BadRecord
+key_fault n r =
+    option_or (option_map (λ (s : State). bad.WireInUse s.name) (by_wire n.states r.keys.wire))
+    (option_or (option_map (λ (s : State). bad.StackInUse s.name) (by_stack n.states r.keys.stack))
+    (if nat_le n.limits.states (maps.len n.states) then Some bad.Full else None))
+
+-- why a state may not be taken over, if there is a reason: the first one
+abbrev pub import_fault : Node → StateRecord → Option BadRecord
+import_fault n r =
+    if is_known n r.name then Some bad.Known else
+    if is_not_given n r.name then Some bad.NotGiven else
+    if is_delete (kind_of n.queue r.name) then Some bad.Deleting else key_fault n r
 
 -- a rule number means a rule only under the same rules
 abbrev pub kept_rule : Node → Bool → Option ℕ → Option ℕ
@@ -75,25 +87,15 @@ imported n same_rules r =
       peer_change = Some n.clock;
     }
 
--- a state of the peer's, which may ask for an acknowledgement
-abbrev pub insert_taken : Node → Bool → StateRecord → Bool → Node
-insert_taken n same_rules r ack_wanted =
-    if not (can_import n r) then count_bad n else
-    if ack_wanted then push_if true (mark (put_state n (imported n same_rules r)) r.name InsertAck)
-    else put_state n (imported n same_rules r)
+-- a state of the peer's, which may ask for an acknowledgement: it is taken over, or the record is bad
+abbrev pub importing : Node → Bool → StateRecord → Bool → Decision
+importing n same_rules r ack_wanted = option_map_or decision.Bad (import_fault n r) (decision.Import (imported n same_rules r) ack_wanted)
 
--- ---- merging
+-- ---- what else a record comes to
 
--- where an end was stale, the state is sent back, also with `merge`, by which a stale destination may have been taken
-abbrev pub merged_into : Node → Merged → Node
-merged_into n m =
-    if m.stale_src || m.stale_dst
-    then push_if true (changed (count_stale n) (record m.state { ack_wanted = false }))
-    else put_state n (record m.state { ack_wanted = false })
-
--- the peer knows of the state, so that a held packet of it is dropped
-abbrev pub merge_taken : Node → State → Received → Node
-merge_taken n s r = merged_into (lost n s.name) (merged n.limits.kernel s r (timeout_at n s.rule r.class) n.clock)
+-- what is received of a state of the node is merged
+abbrev pub merging : Node → Received → State → Decision
+merging n r s = decision.Merge (merged n.limits.kernel s r (timeout_at n s.rule r.class) n.clock)
 
 -- what a whole record says of a known state
 abbrev pub of_state : StateRecord → Received
@@ -103,15 +105,13 @@ of_state r = record { src = r.src; dst = r.dst; class = r.class; remaining = r.r
 abbrev pub of_update : UpdateRecord → Received
 of_update u = record { src = u.src; dst = u.dst; class = u.class; remaining = u.remaining }
 
--- ---- requests and bulk updates
+-- the peer has the state, which waits no longer if it did
+abbrev pub acknowledging : State → Decision
+acknowledging s = if s.ack_wanted then decision.Release s.name else decision.Nothing
 
 -- it has states to send
 abbrev pub has_states : Node → Bool
 has_states n = nat_lt 0 (maps.len n.states)
-
--- all states are asked for: a node without states is done at once
-abbrev pub bulk_taken : Node → Node
-bulk_taken n = record (announce_status n (if has_states n then Start else Finish)) { server = server_started n.server (has_states n) n.clock }
 
 -- on no queue, or on one that sends less than the whole state
 abbrev pub is_partly_announced : Option Kind → Bool
@@ -120,45 +120,79 @@ is_partly_announced (Some UpdateShort) = true
 is_partly_announced (Some InsertAck) = true
 is_partly_announced (Some _) = false
 
--- a state is asked for
-abbrev pub state_answered : Node → State → Node
-state_answered n s = if not s.no_sync && is_partly_announced (kind_of n.queue s.name) then push_if true (mark n s.name Update) else n
+-- a state is asked for: it is queued, unless it is to be sent whole already, or never
+abbrev pub answering : Node → State → Decision
+answering n s = if not s.no_sync && is_partly_announced (kind_of n.queue s.name) then decision.Queue s.name else decision.Nothing
 
 -- a request: for all, for a state, or a bad one
-abbrev pub request_taken : Node → StateName → Node
-request_taken n name =
-    if is_name no_name name then bulk_taken n else option_map_or (state_answered n) (maps.get n.states name) (count_bad n)
-
--- ---- the rest
-
--- the peer has the state: its held packet goes out
-abbrev pub ack_taken : Node → State → Node
-ack_taken n s = if s.ack_wanted then released n s.name else n
+abbrev pub requesting : Node → StateName → Decision
+requesting n name =
+    if is_name no_name name then decision.Serve (has_states n) else option_map_or (answering n) (maps.get n.states name) (decision.Bad bad.Unknown)
 
 -- a deletion of the peer's
-abbrev pub delete_taken : Node → StateName → Node
-delete_taken n name = if is_known n name then forgotten n name else count_bad n
+abbrev pub deleting : Node → StateName → Decision
+deleting n name = if is_known n name then decision.Delete name else decision.Bad bad.Unknown
+
+-- a bulk status is heard by a client that waits
+abbrev pub hearing : Node → BulkStatus → Decision
+hearing n status = if is_waiting n.client then decision.Hear status else decision.Nothing
+
+-- what a record of the peer's comes to at the node; same_rules says that the peer's rules are the node's own
+unfoldable pub decided : Node → Bool → Message → Decision
+decided n same_rules (message.Clear creator bound) = decision.Clear creator bound
+decided n same_rules (message.Insert r) = importing n same_rules r r.ack_wanted
+decided n same_rules (message.InsertAck name) = option_map_or acknowledging (maps.get n.states name) decision.Nothing
+decided n same_rules (message.Update r) = option_map_or (merging n (of_state r)) (maps.get n.states r.name) (importing n same_rules r false)
+decided n same_rules (message.UpdateShort u) = option_map_or (merging n (of_update u)) (maps.get n.states u.name) (decision.Ask u.name)
+decided n same_rules (message.UpdateRequest name) = requesting n name
+decided n same_rules (message.Delete r) = deleting n r.name
+decided n same_rules (message.DeleteShort name) = deleting n name
+decided n same_rules (message.Bulk creator status) = hearing n status
+
+-- ---- what that does
+
+-- a state is taken over, and acknowledged if that is wanted
+abbrev pub taken_over : Node → State → Bool → Node
+taken_over n s ack_wanted = if ack_wanted then push_if true (mark (put_state n s) s.name InsertAck) else put_state n s
+
+-- where an end was stale, the state is sent back, also with `merge`, by which a stale destination may have been taken
+abbrev pub merged_into : Node → Merged → Node
+merged_into n m =
+    if m.stale_src || m.stale_dst
+    then push_if true (changed (count_stale n) (record m.state { ack_wanted = false }))
+    else put_state n (record m.state { ack_wanted = false })
+
+-- all states are asked for: a node without states is done at once
+abbrev pub served : Node → Bool → Node
+served n begins = record (announce_status n (if begins then Start else Finish)) { server = server_started n.server begins n.clock }
 
 -- the names of a creator's states up to the bound
 abbrev pub cleared_names : Node → ℕ → ℕ → List StateName
 cleared_names n creator bound = filter (λ name. (name.creator == creator) && nat_le name.id bound) (maps.keys n.states)
 
--- a clear of the peer's: each of those states goes unannounced
+-- a clear: each of those states goes unannounced
 abbrev pub clear_taken : Node → ℕ → ℕ → Node
 clear_taken n creator bound = fold forgotten n (cleared_names n creator bound)
 
--- a bulk status: the client was heard, or is done
-abbrev pub status_taken : Node → BulkStatus → Node
-status_taken n status = record n { client = after_status n.client status n.clock }
+-- a client hears of a bulk update
+abbrev pub heard_of : Node → BulkStatus → Node
+heard_of n status = record n { client = after_status n.client status n.clock }
 
--- the node after a record of the peer's; same_rules says that the peer's rules are the node's own
+-- the node after what was decided. The peer knows of a state that it sends, so that a held packet of it is dropped; a state that it
+-- deletes or clears goes unannounced
+unfoldable pub does : Node → Decision → Node
+does n (decision.Bad why) = count_bad n
+does n (decision.Import s ack_wanted) = taken_over n s ack_wanted
+does n (decision.Merge m) = merged_into (lost n m.state.name) m
+does n (decision.Ask name) = ask n name
+does n (decision.Queue name) = push_if true (mark n name Update)
+does n (decision.Serve begins) = served n begins
+does n (decision.Release name) = released n name
+does n (decision.Delete name) = forgotten n name
+does n (decision.Clear creator bound) = clear_taken n creator bound
+does n (decision.Hear status) = heard_of n status
+does n decision.Nothing = n
+
+-- the node after a record of the peer's
 unfoldable pub taken : Node → Bool → Message → Node
-taken n same_rules (message.Clear creator bound) = clear_taken n creator bound
-taken n same_rules (message.Insert r) = insert_taken n same_rules r r.ack_wanted
-taken n same_rules (message.InsertAck name) = option_map_or (ack_taken n) (maps.get n.states name) n
-taken n same_rules (message.Update r) = option_map_or (λ s. merge_taken n s (of_state r)) (maps.get n.states r.name) (insert_taken n same_rules r false)
-taken n same_rules (message.UpdateShort u) = option_map_or (λ s. merge_taken n s (of_update u)) (maps.get n.states u.name) (ask n u.name)
-taken n same_rules (message.UpdateRequest name) = request_taken n name
-taken n same_rules (message.Delete r) = delete_taken n r.name
-taken n same_rules (message.DeleteShort name) = delete_taken n name
-taken n same_rules (message.Bulk creator status) = status_taken n status
+taken n same_rules m = does n (decided n same_rules m)

@@ -15,7 +15,7 @@ use pfl_desk::{Desk, Parts};
 use std::alloc::Allocator;
 
 /// The states of the creator up to the bound go unannounced, by four edits each at most.
-pub(crate) fn take_clear<A: Allocator>(desk: &mut Desk<A>, creator: u32, bound: u64)
+pub(crate) fn clear_states<A: Allocator>(desk: &mut Desk<A>, creator: u32, bound: u64)
     requires room { 4 * maps.len desk.old.node.states ≤ desk.old.edits.spare }
     ensures node { desk.new.node ≡ receiving.clear_taken desk.old.node creator bound }
     ensures paid { IsPaid 0 desk.old desk.new }

@@ -1,16 +1,15 @@
-//! What a record from the peer does at a node, kind by kind, and the records of a frame one after another (if_pfsync.c).
+//! What a record from the peer comes to at a node, and does there, and the records of a frame one after another (if_pfsync.c).
 #![tactic(auto)]
 
-mod ack;
-mod bulk;
 mod clear;
-mod deletion;
+mod deciding;
+mod decision;
 mod frame;
-mod insertion;
+mod import;
 mod records;
-mod request;
-mod update;
 
+pub use deciding::decide;
+pub use decision::{BadRecord, Decision};
 pub use frame::take_frame;
 pub use pfl_desk::{
     Counter, Counters, Desk, Entry, Kind, MotionEdit, NodeEdit, Overfull, Parts, QueueEdit, Slot,

@@ -2,4 +2,4 @@
 
 /// The release, the sum of its sources, and the logic that proves them.
 pub(crate) const VERSION: &str =
-    "release 24, sources d51fc20736d1feaef6c087fe628a0422493f83bf808e9c2dac0244dc57992263, logic dac8208d650f15bf";
+    "release 25, sources 08b9e79378126660ff510672d0346908159d8942281c615418a555a488ac8b04, logic dac8208d650f15bf";

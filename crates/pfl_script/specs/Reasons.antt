@@ -26,8 +26,8 @@ use Rattle.pfl_timeline.specs.reasons.declared.packet_reason.Judged.{Judged}
 use Rattle.pfl_timeline.specs.reasons.declared.packet_reason.Judged.TheVariants.{Unmatched, Blocked, AtMax, Full, WireInUse, StackInUse, Makes}
 use Rattle.pfl_timeline.specs.reasons.declared.packet_reason.PacketReason.{PacketReason}
 use Rattle.pfl_timeline.specs.reasons.declared.packet_reason.PacketReason.TheVariants.{OfState, ByRules}
-use Rattle.pfl_timeline.specs.reasons.declared.record_fate.BadRecord.{BadRecord}
-use Rattle.pfl_timeline.specs.reasons.declared.record_fate.BadRecord.TheVariants as bad
+use Rattle.pfl_timeline.specs.world.receive.declared.decision.BadRecord.{BadRecord}
+use Rattle.pfl_timeline.specs.world.receive.declared.decision.BadRecord.TheVariants as bad
 use Rattle.pfl_timeline.specs.reasons.declared.record_fate.RecordFate.{RecordFate}
 use Rattle.pfl_timeline.specs.reasons.declared.record_fate.RecordFate.TheVariants as fate
 use Rattle.pfl_timeline.specs.reasons.declared.record_fate.TakenEnds.{TakenEnds}

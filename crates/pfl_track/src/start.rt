@@ -12,7 +12,8 @@ use crate::window::end_of;
 use pfl_base::{Dir, Millis, Packet, Proto, StateName};
 
 /// The state that a packet makes (pf.c): it went this way, by the rule of this number; the state is announced to the peer
-/// unless `no_sync`. The time is in milliseconds.
+/// unless `no_sync`. The time is in milliseconds. A state is large: it is made where it is to be, and not handed back.
+#[inline(always)]
 pub fn start_state(
     name: StateName,
     keys: KeyPair,

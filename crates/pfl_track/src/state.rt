@@ -87,7 +87,9 @@ impl State {
     ghost use Rattle.pfl_track.specs.States.{IsState};
     ghost use Rattle.pfl_track.specs.Tracking.{expired as has_expired, expiry as time_of_expiry};
 
-    /// The state with these fields; none where its keys are of two protocols, or their ends not all of one family.
+    /// The state with these fields; none where its keys are of two protocols, or their ends not all of one family. A state is large: it
+    /// is made where it is to be, and not handed back.
+    #[inline(always)]
     pub fn of(fields: StateFields) -> Option<State>
         ensures made { result ≡ (if may_be_keys fields.wire fields.stack then Some fields else None) }
         ensures state { IfSome result IsState }
@@ -100,6 +102,7 @@ impl State {
     }
 
     /// The state with fields that are known to be one's.
+    #[inline(always)]
     pub(crate) fn with(fields: StateFields) -> State
         requires { IsState fields }
         ensures { result ≡ fields }
@@ -108,6 +111,7 @@ impl State {
     }
 
     /// The state with fields whose keys are known to be one's.
+    #[inline(always)]
     fn of_keys(fields: StateFields) -> State
         requires { AreKeys fields.wire fields.stack }
         ensures { result ≡ fields }

@@ -229,7 +229,7 @@ unfoldable pub computing : ℕ
 unfolding answers final map_lemmas.computing spelling.number_bytes spelling.name_bytes spelling.peer_bytes spelling.end_bytes
     spelling.key_bytes spelling.keys_bytes spelling.class_bytes spelling.state_bytes spelling.update_bytes spelling.record_bytes
     spelling.group_bytes spelling.spelling reading.computing taking.next_frame changes.changed changes.deleted changes.forgotten
-    translating.new_keys starting.started starting.judged packets.handled packets.packet_points receiving.taken flushing.frame_of
+    translating.new_keys starting.ruled starting.judged packets.handled packets.packet_points receiving.decided receiving.does receiving.taken flushing.frame_of
     flushing.flushed purging.purged purging.purge_points releasing.released_due clearing.cleared events.restarted turning.turn_of
     turning.turned retrying.retried_client flushes.flush_step deliveries.deliver_step tickets.lose_step tickets.repeat_step
     tickets.cut_step restarts.restart_step one.step runs.run delivering.cleared_by delivering.records_work

@@ -24,7 +24,9 @@ mod world;
 pub use edit::{WorldChange, WorldEdit, WorldTape};
 pub use fault::WorldFault;
 pub use laws::new_worlds_are_worlds;
-pub use pfl_node::{Counters, Node, Parts, records_leave_the_rest};
+pub use pfl_node::{
+    BadRecord, Counters, Decision, Node, Parts, Ruling, ask_rules, decide, records_leave_the_rest,
+};
 pub use restart_edit::RestartEdit;
 pub use restart_undone::RestartUndone;
 pub use small_edit::{MiddleEdit, SmallEdit};

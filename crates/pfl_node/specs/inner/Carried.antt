@@ -7,7 +7,10 @@ use Rattle.pfl_receive.specs.desk.declared.parts.judge.Overfull.{Overfull}
 use Rattle.pfl_receive.specs.desk.Drafts.{Draft, Writes}
 use Rattle.pfl_receive.specs.desk.Nodes.{Node, IsNode, IsRefusal, is_overcounted, is_overfull}
 use Rattle.pfl_receive.specs.desk.inner.Judging.{Went}
+use Rattle.pfl_receive.specs.desk.inner.Kept.{MayStart}
 use Rattle.pfl_node.specs.Meanings.{NodeMeaning}
+use Rattle.pfl_node.specs.declared.packet.ruling.Ruling.{Ruling}
+use Rattle.pfl_node.specs.declared.packet.ruling.Ruling.TheVariants.{Starts}
 use Rattle.pfl_node.specs.Starting.{Handled}
 use Rattle.pfl_node.specs.inner.Room.{IsReady}
 
@@ -42,3 +45,8 @@ pub record Handles (result : Result (Fate × Bool) Overfull) (old new : Draft) (
   pub went : Went result points
   pub step : IfOk result (λ r. record { fate = r.0; node = new.node } ≡ h)
   pub writes : Writes 14 old new
+
+-- what the rules made of a packet may be done at the node: a state that it makes may be started there
+abbrev pub MayCarry : Node → Ruling → Type 0
+MayCarry n (Starts rule s) = MayStart n s
+MayCarry n other = Unit {0}

@@ -1,4 +1,4 @@
-use Rattle.std.proofs.Common.{◌≤◌, ◌+◌, refl, subst, arith}
+use Rattle.std.proofs.Common.{refl}
 use Rattle.std.proofs.lemmas.Result.{err_from_is_err_and}
 use Rattle.pfl_world.specs.Worlds.{joined}
 use Rattle.pfl_world.proofs.Recording.{recorded_at, few_at, agrees_at}
