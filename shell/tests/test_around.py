@@ -101,6 +101,13 @@ class Around(WithTests):
         self.assertEqual(ran.returncode, 2)
 
 
+# The table of a gate that takes no time, whose last line has the date.
+COSTS = [
+    "| Crate | proof | tests proved | wrong bodies | built and run | all |",
+    "|---|---|---|---|---|---|",
+    "| **all crates** | 0 | 0 | 0 | 0 | 0 |",
+    "",
+]
 SKIPPED_THREE = "test: 3 skipped, since commands are not there: see above"
 # A gate that passes, beside a checker that proves nothing.
 GATE = f'{QUICK}if [ "$1" = ci ]; then echo a part; echo "7 passed, 0 failed"; fi\n'
@@ -136,10 +143,14 @@ class Whole(WithTests):
         return {**its, "PATH": f"{self.top}/bin"} if checker is GATE else its
 
     def whole(self) -> Tuple[int, List[str]]:
-        """The status, and the last lines."""
+        """The status, and the lines without what the gate cost."""
         ran = self.start(GATE, "test")
         lines = ran.communicate(timeout=60)[0].splitlines()
-        return ran.returncode, lines
+        at = lines.index("a part") + 1
+        self.assertEqual(lines[at : at + len(COSTS)], COSTS)
+        last = at + len(COSTS)
+        self.assertRegex(lines[last], r"^Processor seconds, [0-9-]+, on [0-9]+ processors: 0 minutes by the clock, 0 processor minutes with all ")
+        return ran.returncode, lines[:at] + lines[last + 1 :]
 
     def test_nothing_is_said_of_skipped_tests_where_none_is(self) -> None:
         for name in ("test_mixed", "test_skipped"):

@@ -32,7 +32,7 @@ def planted(top: Path) -> None:
     """Makes such a repository of an empty folder."""
     for name in ("proving", "shell"):
         shutil.copytree(f"{TOP}/{name}", top / name, ignore=shutil.ignore_patterns("__pycache__", "tests"))
-    for name in ("lab", "test"):
+    for name in ("lab", "test", "gate-cost"):
         shutil.copy(f"{TOP}/{name}", top)
     (top / "crates.txt").write_text(CRATES)
     (top / "HANDLES").write_text("Handles allowed: none.\n")
