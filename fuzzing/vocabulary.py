@@ -44,7 +44,7 @@ STATES = (
     *("4294967295.18446744073709551615", "4294967296.1"),
 )
 # Rules of the kernel, and words that are none.
-RULES_OF_KERNEL = (*KERNEL_WORD.words, "rule", "max", "takeover", "kernel", "profile", "none", "Window", "windows", "loos", "0", "-")
+RULES_OF_KERNEL = (*KERNEL_WORD.words, "max", "takeover", "kernel", "profile", "none", "Window", "windows", "loos", "0", "-")
 # Words that can replace each other.
 ALIKE: Tuple[Sequence[str], ...] = (
     tuple(EVENTS),

@@ -36,6 +36,7 @@ INSTALLED_WORDS = (
     ("[docs/KERNEL.md](../docs/KERNEL.md)", "`help kernel` of pfl_shell"),
     *((f"[`{word}`](../docs/REAL.md#{word})", f"`{word}`") for word in SWITCHES),
     ("docs/KERNEL.md", "`help kernel` of pfl_shell"),
+    ("; docs/REAL.md)", ")"),
 )
 
 

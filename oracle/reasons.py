@@ -6,11 +6,12 @@ from typing import List, Sequence, Tuple
 
 from shell.model.explanations import Expiry, Explanation, Judged, Purge, TakenRecord, read_explanation
 from shell.model.frames import Frame, Record
-from shell.language.events import DELIVER, PACKET, PURGE, read_packet
-from shell.language.names import Name
+from shell.language.events import DELIVER, FLUSH, PACKET, PURGE, RESTART, read_packet
+from shell.language.names import NODES, Name
 from shell.language.packets import PacketEvent
+from shell.language.records import SHORT_DELETE
 from shell.language.setups import DEFER, MERGE, NO_SYNC, STATES
-from shell.model.pair import Node, read_shown
+from shell.model.pair import Node, Pair, Queued, read_shown
 from shell.model.receiving import Came, received
 from shell.model.rulings import deciding
 from shell.model.setups import Keys, Setup
@@ -40,8 +41,16 @@ def compare_reason(setup: Setup, reply: Sequence[str], before: Sequence[str], af
         wanted, came = _delivery(setup, explanation, frame, was.nodes[frame.to], now.nodes[frame.to])
     elif kind == PURGE.word:
         wanted, came = _purge(setup, explanation, was.nodes[about], now.nodes[about])
+    if kind not in (FLUSH.word, RESTART.word):
+        wanted, came = (wanted, _deletions(was, was)), (came, _deletions(was, now))
     if wanted != came:
         raise Differs("\n".join([*reply, f"wanted: {wanted}", f"came: {came}", "before:", *before, "after:", *after]))
+
+
+def _deletions(was: Pair, pair: Pair) -> List[List[Queued]]:
+    """What is pending of the names whose deletion was pending: that alone, until a frame takes it, even where such a state came back."""
+    deleted = {node: {it.name for it in was.nodes[node].queue if it.kind == SHORT_DELETE.queue} for node in NODES}
+    return [[it for it in pair.nodes[node].queue if it.name in deleted[node]] for node in NODES]
 
 
 # ---- a packet
@@ -123,8 +132,11 @@ def _delivery(setup: Setup, explanation: Explanation, frame: Frame, was: Node, n
     fates: List[Both] = []
     came_records = received(setup, setup.kernel, was, replace(frame, records=tuple(records)), explanation.records)
     for fate, came in zip(explanation.records, came_records):
-        for name in [name for name in states if fate.takes(name)]:
+        gone = [name for name in states if fate.takes(setup.kernel, name)]
+        for name in gone:
             del states[name]
+        if fate.fate[0] == "cleared":
+            fates.append((len(gone), int(fate.fate[1])))
         if came:
             states[came.state.name] = came.state
             fates.append((_fate(setup, came), _said(fate)))

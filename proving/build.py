@@ -12,7 +12,7 @@ from contextlib import suppress
 from dataclasses import dataclass
 from typing import Dict, List, Optional, Set
 
-from .costs import checks_at_once, files_of
+from .costs import checks_at_once, files_of, jobs_of_first
 from .crates import PARTS, TOP, Crate, Crates, below, chains
 
 LOGS = f"{TOP}/out/lab"
@@ -154,10 +154,11 @@ def seconds_of(process: subprocess.Popen[bytes]) -> Optional[float]:
 
 @dataclass
 class Check:
-    """A check under way, and where it works."""
+    """A check under way, where it works, and how many jobs it has."""
 
     lane: Lane
     process: subprocess.Popen[bytes]
+    jobs: int
 
 
 class Build:
@@ -189,15 +190,17 @@ class Build:
         return not any(library in self.left or library in self.running for library in self.crates[name].libraries)
 
     def begin(self) -> None:
-        """Begins checks while there are lanes for them, the one with the most expensive chain above it first. Each has one job, since every
-        job states anew what the crate is stated over."""
+        """Begins checks while there are lanes for them, the one with the most expensive chain above it first; that one has more than one job
+        if lanes are left."""
         ready = [it for it in self.left if self.is_ready(it)][: len(self.idle)]
-        for name in ready:
+        first = jobs_of_first(len(self.idle) + len(self.running) - sum(it.jobs for it in self.running.values()), len(ready))
+        for place, name in enumerate(ready):
             is_first = self.length[name] >= max(self.length[it] for it in (*self.running, *ready))
-            words = ["run", "--jobs", "1", "--", "--help"] if name == self.program else ["lib", "--jobs", "1"]
+            jobs = 1 if place else first
+            words = ["run", "--jobs", str(jobs), "--", "--help"] if name == self.program else ["lib", "--jobs", str(jobs)]
             self.left.remove(name)
             lane = self.idle.pop()
-            self.running[name] = Check(lane, lane.prove(name, words, is_first))
+            self.running[name] = Check(lane, lane.prove(name, words, is_first), jobs)
 
     def take_done(self) -> Optional[str]:
         """Keeps what the checks that have ended have made; returns the name of one that failed, if any."""

@@ -71,14 +71,22 @@ def checks_at_once() -> int:
     return max(1, min(processors(), memory() // MEMORY))
 
 
+def jobs_of_first(free: int, begun: int) -> int:
+    """How many jobs the first of some checks has that begin together, where so many lanes are free of jobs: all that the others leave, which
+    have one each, since every job states anew what a crate is stated over."""
+    return max(1, free - begun + 1)
+
+
 class Estimate:
-    """The course of a build, second by second, if the checks under way took equal shares of the processors, and none more than one."""
+    """The course of a build, second by second, if the jobs under way took equal shares of the processors, and none more than one; half of
+    what each further job of a check does goes into what it states anew."""
 
     def __init__(self, crates: Crates, seconds: Dict[str, float], at_once: int):
         self.crates, self.at_once = crates, at_once
         self.chains = chains(crates, seconds)
         self.left = dict(seconds)
-        self.running: Set[str] = set()
+        # How many jobs each check under way has.
+        self.running: Dict[str, int] = {}
 
     def minutes(self) -> float:
         seconds = 0
@@ -90,14 +98,16 @@ class Estimate:
     def go_on(self) -> None:
         """A second passes."""
         self.begin()
-        share = min(1.0, processors() / len(self.running))
-        for name in list(self.running):
-            self.left[name] -= share
+        share = min(1.0, processors() / sum(self.running.values()))
+        for name, jobs in list(self.running.items()):
+            self.left[name] -= share * (jobs + 1) / 2
             if self.left[name] <= 0:
                 del self.left[name]
-                self.running.remove(name)
+                del self.running[name]
 
     def begin(self) -> None:
         """Begins checks, as a build does."""
         ready = [it for it in self.left if it not in self.running and not any(lib in self.left for lib in self.crates[it].libraries)]
-        self.running.update(sorted(ready, key=lambda it: -self.chains[it])[: self.at_once - len(self.running)])
+        begun = sorted(ready, key=lambda it: -self.chains[it])[: self.at_once - len(self.running)]
+        first = jobs_of_first(self.at_once - sum(self.running.values()), len(begun))
+        self.running.update((name, 1 if place else first) for place, name in enumerate(begun))

@@ -128,7 +128,7 @@ def not_had(found: Compared, items: Items) -> List[str]:
     lines = []
     if found.without_rule:
         states = counted(len(found.without_rule), "state has", "states have")
-        here = "here a state keeps its rule at both nodes if their rules are the same"
+        here = "here each comes by an insertion, and keeps its rule at both nodes if their rules are the same"
         lines.append(f"{states} a rule at one node alone in the dumps; {here}")
     if items.split:
         states = counted(items.split, "state has", "states have")

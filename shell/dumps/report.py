@@ -7,7 +7,9 @@ from itertools import chain
 from typing import Callable, Dict, Hashable, Iterable, List, NamedTuple, Optional, Protocol, Sequence, Tuple, TypeVar
 
 from ..console.colours import Paint
+from ..language.commands import KERNEL
 from ..language.names import NODES
+from ..language.setups import RULE
 from ..shows.words import counted
 from .comparing import Compared, Kind, Tolerance, Two, fields
 from .forms import clock
@@ -19,9 +21,8 @@ MOST_STATES = 3
 
 _WHY_ALONE = "an insertion or a deletion was lost, or is on its way: lessons lost-insertion.pfl, lost-bulk-frame.pfl"
 _WHY_TWICE = "each node let a packet of the flow make a state of its own: lessons split-brain.pfl, lost-bulk-frame.pfl"
-_WHY_WITHOUT_RULE = (
-    "they came by a bulk update or a request, or while the rule sets were not the same: FreeBSD gives these no rule, as far as we know"
-)
+_WITHOUT_RULE = f"came by a bulk update or a request ({KERNEL.word} {RULE.word})"
+_WHY_WITHOUT_RULE = "as far as we know FreeBSD gives these no rule, or the rule sets differed"
 _WHY: Dict[Kind, str] = {
     Kind.LEVELS: "an update was lost, or is on its way: lesson asymmetric-routing.pfl",
     Kind.RULES: "a node keeps the number of the peer's rule only if both have the same rules: compare `pfctl -sr` of both",
@@ -219,7 +220,8 @@ def _without_rule(those: Sequence[Two], how: Shown) -> List[str]:
     groups = _grouped(those, lambda it: f"rule {_rule(it.a)} | {_rule(it.b)}")
     lines = _first_groups(_ordered(groups), lambda rules, _: rules, lambda it: f"{it.a.named()}  {it.a.flow}", how)
     heads = lines if how.lists_all else [line for line in lines if not line.startswith("    ")]
-    return [f"with a rule at one node alone: {counted(len(those), 'state')}, which agree; {_WHY_WITHOUT_RULE}", *heads]
+    agree = f"with a rule at one node alone, which {'counts' if len(those) == 1 else 'count'} as agreeing"
+    return [f"{_WITHOUT_RULE}: {counted(len(those), 'state')} {agree}; {_WHY_WITHOUT_RULE}", *heads]
 
 
 def _rule(state: Dumped) -> str:

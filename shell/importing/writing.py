@@ -5,9 +5,9 @@ from itertools import accumulate, groupby
 from typing import Iterable, Iterator, List, Sequence, Set
 
 from ..console.characters import legible
-from ..language.commands import OPEN, RULE
+from ..language.commands import KERNEL, OPEN, RULE
 from ..language.comments import of_no_rule, of_reason, of_rule, of_statement, of_translated, short
-from ..language.setups import MOST_RULES
+from ..language.setups import EVERY_SWITCH, MOST_RULES
 from ..shows.words import counted
 from .importer import Import, is_counted
 from .judged import Judged, Numbered, Verdict
@@ -15,10 +15,16 @@ from .rules import RuleLine
 from .sections import Section
 
 
+BY_THE_KERNEL = f"{KERNEL.word} {EVERY_SWITCH}"
+
+
 def setup_lines(its: Import, nodes: Sequence[str], extra: Sequence[str], opens: bool) -> List[str]:
     """The setup: what is set, the rules and where each comes from, and `open`."""
     on = its.firewall.on
-    lines = [f"# The rules of {on}, taken in from a pf.conf by `./lab import`.", *_left_out(its), *extra]
+    # (whoever has a pf.conf has a real pair)
+    hold = "FreeBSD's rules hold where the laboratory has them, as far as we know them, and else its profile"
+    kernel = [f"# By `{BY_THE_KERNEL}` {hold}.", BY_THE_KERNEL]
+    lines = [f"# The rules of {on}, taken in from a pf.conf by `./lab import`.", *_left_out(its), *kernel, *extra]
     lines += [line for judged in its.judged for line in _settings(judged)]
     lines += [*its.settings.lines(), ""]
     if its.is_skipped:

@@ -10,16 +10,17 @@ from ..captures.decoding import Ends, Peer, Record
 from ..captures.files import NANOSECONDS
 from ..captures.pairing import Sent
 from ..captures.wording import timeout_class
-from ..language.events import CLEAR, RESTART, RETRY, TURN
+from ..language.events import RETRY, TURN
 from ..language.names import BULK_END, MULTIPLE, NODES, SINGLE, TIME_WAIT, Name
 from ..language.packets import PacketEvent
 from ..language.records import BULK_STATUS, CLEAR as CLEAR_RECORD, INSERT, SHORT_UPDATE, UPDATE, UPDATE_REQUEST
 from ..language.setups import STATES
 from ..model.frames import Changes
+from ..model.kernels import Kernel
 from ..model.merging import merged
 from ..model.pair import other
 from ..model.states import End, Flow, State
-from ..model.tracking import moved
+from ..model.tracking import has_levels, moved
 from ..shows.words import end_fields
 from .carrying import Carrying
 from .levels import DESTINATION, SOURCE
@@ -115,7 +116,7 @@ class Causes:
         if any(it.asks_for_all for it in records) and place not in self._begun:
             self._restart(node)
         if any(it.kind is CLEAR_RECORD for it in records):
-            self.playing.empty(CLEAR.word, node)
+            self.playing.clear(node)
         for record in records:
             if record.kind in DELETIONS:
                 self._delete(node, record)
@@ -130,7 +131,7 @@ class Causes:
         """A node that asks for all states has begun anew, or asks again."""
         if node in self._asking and self.playing.step(f"{RETRY.word} {node}")[0] != _REFUSED:
             return
-        self.playing.empty(RESTART.word, node)
+        self.playing.restart(node)
         self._asking.add(node)
 
     def _delete(self, node: str, record: Record) -> None:
@@ -157,7 +158,7 @@ class Causes:
 
     def _is_as(self, state: State, record: Record) -> bool:
         """Whether the ends of a state are those that a record tells of."""
-        goal = wanted(self.night.flows[record.name], record)
+        goal = wanted(self.playing.followed.setup.kernel, self.night.flows[record.name], record)
         return goal is not None and (state.source, state.destination) == (goal.source, goal.destination)
 
     def _end(self, node: str) -> None:
@@ -280,7 +281,8 @@ class Causes:
         state, later = self.state_of(node, record.name), self.night.next_told(record.name, node, place)
         if not state or not later or state.protocol != "tcp" or self.carrying.has(node, self.night.flows[record.name]):
             return
-        kernel, goal, came = self.playing.followed.setup.kernel, wanted(self.night.flows[record.name], later.record), changes_of(record)
+        kernel, came = self.playing.followed.setup.kernel, changes_of(record)
+        goal = wanted(kernel, self.night.flows[record.name], later.record)
         after = merged(kernel, state, came).state
         allows_less = goal and (_allows_less(goal.source, after.source) or _allows_less(goal.destination, after.destination))
         if not goal or not (allows_less or is_behind(goal, after)):
@@ -325,7 +327,7 @@ class Causes:
             now = self._under_other_name(node, record, flow)
         if now and self.carrying.has(node, flow):
             return
-        goal = wanted(flow, record)
+        goal = wanted(followed.setup.kernel, flow, record)
         if goal is None:
             self._missed(record, "an end of it is at a level that the laboratory does not have")
             return
@@ -436,19 +438,20 @@ class Causes:
 # ---- records as the laboratory has them
 
 
-def wanted(flow: Ends, record: Record) -> Optional[Wanted]:
+def wanted(kernel: Kernel, flow: Ends, record: Record) -> Optional[Wanted]:
     """What a record tells of a state; nothing if the laboratory does not have its levels."""
     assert record.source and record.destination
     ends = end_of(flow.protocol, record.source), end_of(flow.protocol, record.destination)
     if max(end.level for end in ends) > TIME_WAIT:
         return None
     keys = keyed(flow.protocol, flow.wire), keyed(flow.protocol, flow.stack)
-    return Wanted(flow.protocol, flow.direction, *keys, *_levelled(flow, record, ends))
+    return Wanted(flow.protocol, flow.direction, *keys, *_levelled(kernel, flow, record, ends))
 
 
-def _levelled(flow: Ends, record: Record, ends: Tuple[End, End]) -> Tuple[End, End]:
-    """The ends of a state; an echo has no levels in pf, be it of IPv6, and gets those of one packet, or of one and its answer."""
-    if flow.protocol not in ("icmp", "58") or ends[0].level or ends[1].level:
+def _levelled(kernel: Kernel, flow: Ends, record: Record, ends: Tuple[End, End]) -> Tuple[End, End]:
+    """The ends of a state; an echo has no levels in pf, be it of IPv6, and where it has some here it gets those of one packet, or of one
+    and its answer."""
+    if flow.protocol not in ("icmp", "58") or not has_levels(kernel, flow.protocol) or ends[0].level or ends[1].level:
         return ends
     levels = (SINGLE, 0) if timeout_class(record.timeout) == "icmp.first" else (MULTIPLE, SINGLE)
     return replace(ends[0], level=levels[0]), replace(ends[1], level=levels[1])

@@ -113,7 +113,12 @@ class Followed:
             self.began.setdefault(name, table.node.clock)
             table.put(new)
             if NO_SYNC_FLAG not in new.flags:
-                self.pending[node].add(name)
+                self._queue(node, name)
+
+    def _queue(self, node: str, name: Name) -> None:
+        """Takes that a state of a node changed; of one that came back before its deletion was sent the peer gets that alone."""
+        if name not in self.deleted[node]:
+            self.pending[node].add(name)
 
     def _made(self, packet: PacketEvent, name: Name, is_held: bool) -> Optional[State]:
         """The state that a packet made."""
@@ -147,12 +152,12 @@ class Followed:
             if fate.fate[0] == "deleted":
                 self._forget(frame.to, record.name)
             elif fate.fate[0] == "cleared":
-                for name in [name for name in table.node.states if fate.takes(name)]:
+                for name in [name for name in table.node.states if fate.takes(self.setup.kernel, name)]:
                     self._forget(frame.to, name)
             if came:
                 table.put(came.state)
             if fate.stale:
-                self.pending[frame.to].add(record.name)
+                self._queue(frame.to, record.name)
             if fate.fate[0] == "queued":
                 self.asked_for[frame.to].add(record.name)
 
@@ -162,11 +167,16 @@ class Followed:
         """Takes that a node deleted a state."""
         self._delete(node, name)
 
-    def emptied(self, node: str) -> None:
-        """Takes that a node gave up all its states, or began anew."""
+    def cleared(self, node: str) -> None:
+        """Takes that a node gave up all its states; deletions that it has yet to send stay."""
         self.tables[node].empty()
-        for its in (self.pending, self.asked_for, self.deleted):
+        for its in (self.pending, self.asked_for):
             its[node].clear()
+
+    def restarted(self, node: str) -> None:
+        """Takes that a node began anew."""
+        self.cleared(node)
+        self.deleted[node].clear()
 
     def _delete(self, node: str, name: Name) -> None:
         """Takes a state away whose deletion the peer is to get."""

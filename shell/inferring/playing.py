@@ -3,7 +3,7 @@ from __future__ import annotations
 
 from typing import Dict, List, Optional, Sequence
 
-from ..language.events import DELIVER, FLUSH, KILL, LAST_MILLISECOND, LOSE, PACKET, TICK
+from ..language.events import CLEAR, DELIVER, FLUSH, KILL, LAST_MILLISECOND, LOSE, PACKET, RESTART, TICK
 from ..language.names import NODES, Name
 from ..language.packets import PacketEvent
 from ..link.laboratory import Unknown
@@ -132,10 +132,15 @@ class Playing:
             self.followed.killed(node, name)
         return outcome[0] != _REFUSED
 
-    def empty(self, event: str, node: str) -> None:
-        """Lets a node give up its states, or begin anew."""
-        if self.step(f"{event} {node}")[0] != _REFUSED:
-            self.followed.emptied(node)
+    def clear(self, node: str) -> None:
+        """Lets a node give up its states."""
+        if self.step(f"{CLEAR.word} {node}")[0] != _REFUSED:
+            self.followed.cleared(node)
+
+    def restart(self, node: str) -> None:
+        """Lets a node begin anew."""
+        if self.step(f"{RESTART.word} {node}")[0] != _REFUSED:
+            self.followed.restarted(node)
 
     def drift(self) -> List[str]:
         """Where the states that were followed are not those that the program shows."""

@@ -118,9 +118,12 @@ def _absent(sources: Sources, night: Night, setting: Setting) -> Iterator[str]:
         yield "Not in it: packets that went over other interfaces than the captured ones."
     if not setting.has_rules:
         yield "The rules of the pair are not in it either: --rules takes them."
-    if setting.setup.kernel.is_profile:
-        kernel = "by a line `kernel all` in the file of --rules FreeBSD's rules do, as far as they are known"
-        yield f"The laboratory's profile decides; {kernel}."
+    kernel = setting.setup.kernel
+    if kernel.is_profile:
+        yield "The laboratory's profile decides; by a line `kernel all` in the file of --rules FreeBSD's rules do, as far as we know them."
+    else:
+        rules = "FreeBSD's rules decide, as far as we know them; where there is no word, the laboratory's profile does"
+        yield f"By {kernel.short} {rules}."
     for shown, what in ((len(night.shown), "later ones of the receiver show it"), (sum(it.arrived is None for it in night.sent), "")):
         if shown:
             they = _they(shown, "they", "it")

@@ -122,6 +122,11 @@ LOOSE = Switch(
     "95%; that it moves the other end's hi: 85%",
 )
 MERGE = Switch("merge", "unless both ends of an update are stale, its destination is taken, stale or not", "85%")
+RULE = Switch(
+    "rule",
+    "a state that comes as an update, in a bulk update or in answer to a request, has no rule, and so the default timeouts",
+    "80%",
+)
 EXPIRY = Switch(
     "expiry",
     "a merge counts as a use now, and an imported state keeps the seconds that its record has left, counted by the unscaled timeout; 0 left "
@@ -138,6 +143,13 @@ SCALE = Switch(
     "the window of an end's first SYN is kept in units of the scale that it offers, and an offer that is not answered is void",
     "95%",
 )
+CLEAR = Switch("clear", "a clear deletes all states of its creator, newer ones too", "90%")
+REVIVE = Switch(
+    "revive",
+    "an insertion or a whole update brings a state back, although the receiver has yet to send its own deletion of it",
+    "75%",
+)
+ICMP = Switch("icmp", "states of ICMP have no levels, so that no update of one is stale", "85%")
 # In the order in which they are written.
-SWITCHES = {it.word: it for it in (WINDOW, LOOSE, MERGE, EXPIRY, RESET, SCALE)}
+SWITCHES = {it.word: it for it in (WINDOW, LOOSE, MERGE, RULE, EXPIRY, RESET, SCALE, CLEAR, REVIVE, ICMP)}
 EVERY_SWITCH = "all"

@@ -5,7 +5,9 @@ from typing import Dict, List, NamedTuple, Optional, Sequence, Tuple, Union
 
 from ..language.names import Name, number_or_none
 from ..language.records import BY_WORD, CLEAR, RecordKind
+from ..language.setups import CLEAR as CLEAR_RULE
 from .branches import Happened
+from .kernels import Kernel
 from .setups import Adaptive
 
 
@@ -101,10 +103,10 @@ class TakenRecord(NamedTuple):
         """Whether it was merged by the kernel's rule, by which the destination goes with the source."""
         return self.fate[0] == "merged" and len(self.fate) > 3
 
-    def takes(self, name: Name) -> bool:
-        """Whether it took a state of this name, if there was one."""
+    def takes(self, kernel: Kernel, name: Name) -> bool:
+        """Whether it took a state of this name, if there was one. By the kernel's rule a clear has no bound."""
         if self.kind is CLEAR:
-            return name.creator == int(self.about[0]) and name.id <= int(self.about[1])
+            return name.creator == int(self.about[0]) and (kernel.has(CLEAR_RULE) or name.id <= int(self.about[1]))
         return self.fate == ("deleted",) and self.about == (str(name),)
 
 

@@ -7,7 +7,8 @@ from dataclasses import replace
 from typing import Dict, Iterator, NamedTuple, Optional, Sequence, Union
 
 from ..language.names import Name
-from ..language.setups import EXPIRY
+from ..language.records import UPDATE
+from ..language.setups import EXPIRY, RULE
 from .checksums import rules_checksum
 from .explanations import TakenRecord
 from .frames import Carried, Changes, Frame
@@ -44,11 +45,11 @@ def received(setup: Setup, kernel: Kernel, node: Node, frame: Frame, fates: Sequ
     # (a rule's number means a rule only where both have the same ones)
     known = len(setup.rules[node.id]) if frame.checksum == rules_checksum(setup.rules[node.id]) else 0
     for record, fate in zip(frame.records, fates):
-        for name in [name for name in states if fate.takes(name)]:
+        for name in [name for name in states if fate.takes(kernel, name)]:
             del states[name]
         carried, came = record.state, None
         if fate.fate[0] == "imported" and isinstance(carried, Carried):
-            rule = carried.rule if carried.rule is not None and carried.rule < known else None
+            rule = None if record.kind is UPDATE and kernel.has(RULE) else _kept_rule(carried, known)
             timeout = Timeout.of(setup, node.id, rule, carried.timeout_class, len(states))
             came = Came(_imported(carried, rule, last_of_imported(kernel, timeout, carried.remaining, node.clock), node.clock), None)
         elif fate.fate[0] == "merged" and carried is not None:
@@ -58,6 +59,11 @@ def received(setup: Setup, kernel: Kernel, node: Node, frame: Frame, fates: Sequ
         if came:
             states[record.name] = came.state
         yield came
+
+
+def _kept_rule(carried: Carried, known: int) -> Optional[int]:
+    """The rule that a state keeps where this many rules are the sender's and the receiver's."""
+    return carried.rule if carried.rule is not None and carried.rule < known else None
 
 
 def _imported(carried: Carried, rule: Optional[int], last: int, now: int) -> State:

@@ -7,7 +7,7 @@ from typing import NamedTuple, Optional, Tuple
 
 from ..language.names import CLOSING, ESTABLISHED, FIN_WAIT_2, MULTIPLE, SINGLE, SYN_SENT, TIME_WAIT
 from ..language.packets import CIRCLE, PacketEvent, reaches
-from ..language.setups import LOOSE, RESET, SCALE, WINDOW
+from ..language.setups import ICMP, LOOSE, RESET, SCALE, WINDOW
 from .explanations import Edge, Loose, OfState
 from .kernels import Kernel
 from .states import End, State
@@ -58,10 +58,16 @@ def void(end: End) -> End:
     return replace(end, window=min(end.window << (end.scale or 0), MOST_OFFERED), scale=None)
 
 
+def has_levels(kernel: Kernel, protocol: str) -> bool:
+    """Whether packets move the levels of a protocol's states: by the kernel's rule those of ICMP are 0."""
+    return not (protocol == "icmp" and kernel.has(ICMP))
+
+
 def started(kernel: Kernel, packet: PacketEvent) -> Tuple[End, End, str]:
     """The source and the destination end, and the class, of the state that a packet makes."""
     if not packet.is_tcp:
-        return replace(SILENT, level=SINGLE), SILENT, f"{packet.protocol if packet.protocol in ('udp', 'icmp') else 'other'}.first"
+        source = replace(SILENT, level=SINGLE) if has_levels(kernel, packet.protocol) else SILENT
+        return source, SILENT, f"{packet.protocol if packet.protocol in ('udp', 'icmp') else 'other'}.first"
     window = max(packet.window, 1)
     if kernel.has(SCALE) and packet.scale is not None:
         window = in_units(window, packet.scale)
@@ -174,7 +180,8 @@ def _beside(lo: int, number: int) -> Edge:
 def moved(kernel: Kernel, state: State, packet: PacketEvent, now: int) -> Optional[State]:
     """A state after a packet of it at some time; nothing if the packet is dropped. A packet that passes loosely does not renew it."""
     if not packet.is_tcp:
-        return _used(_with_ends(state, packet, *_heard(*ends_of(state, packet))), now)
+        heard = _with_ends(state, packet, *_heard(*ends_of(state, packet))) if has_levels(kernel, packet.protocol) else state
+        return _used(heard, now)
     sender, receiver = ends_of(state, packet)
     seen = segment(kernel, sender, receiver, packet)
     tests = tested(kernel, state, seen, packet)

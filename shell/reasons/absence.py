@@ -6,16 +6,20 @@ from functools import lru_cache
 from itertools import islice
 from typing import Callable, Container, Iterable, Iterator, List, Optional, Sequence
 
+from ..language.commands import KERNEL
 from ..language.events import BROKEN, CLEAR, DELIVER, EVENTS, HELD_BACK, KILL, PACKET, PASS, PURGE, RESTART, read_packet
 from ..language.forms import is_tcp
 from ..language.names import Name
 from ..language.packets import PacketEvent
-from ..language.records import INSERT, QUEUES, SHORT_UPDATE, UPDATE, RecordKind
+from ..language.records import CLEAR as CLEAR_RECORD, INSERT, QUEUES, SHORT_DELETE, SHORT_UPDATE, UPDATE, RecordKind
+from ..language.setups import CLEAR as CLEAR_RULE
 from ..model.branches import Happened
 from ..model.flights import Flight
+from ..model.kernels import PROFILE
 from ..model.pair import Node, other
+from .came import Came, came_records
 from .questions import Question, peer_of, state_words
-from .taken import became, came_records
+from .taken import became
 
 # What brings a state to a node that does not have it, and what else is about one.
 WHOLE = (INSERT, UPDATE)
@@ -86,7 +90,8 @@ def _may_take(question: Question, number: int, names: Sequence[Name]) -> bool:
     words = line.split()
     event = EVENTS[words[0]]
     if event is DELIVER:
-        return any(record.takes(name) for record in question.history.explained(number).records for name in names)
+        kernel = question.lab.setup.kernel
+        return any(record.takes(kernel, name) for record in question.history.explained(number).records for name in names)
     if words[1] != packet.node:
         return False
     if event is PACKET:
@@ -175,14 +180,29 @@ def _fate(question: Question, flight: Flight, name: Name) -> str:
     if ended.outcome[0] == BROKEN.word:
         return f"{frame}, which brought it, could not be read (event {ended.number}: {ended.came})"
     came = came_records(question.history, ended.number, flight.ticket)
-    brought = next(it for it in came if it.record.name == name and it.record.kind is kind)
-    return f"its {what} in {frame} was delivered (event {ended.number}): {became(brought)}"
+    at = next(place for place, it in enumerate(came) if it.record.name == name and it.record.kind is kind)
+    return f"its {what} in {frame} was delivered (event {ended.number}): {became(came[at])}{_gone_again(came, at)}"
+
+
+def _gone_again(came: Sequence[Came], at: int) -> str:
+    """That a later record of the same frame took the state that a record made; empty if none did."""
+    if came[at].taken.fate[0] != "imported":
+        return ""
+    for place, later in enumerate(came[at + 1 :], at + 2):
+        if later.taken.takes(later.kernel, came[at].name):
+            took = "cleared" if later.record.kind is CLEAR_RECORD else "deleted"
+            by_kernel = "" if later.taken.takes(PROFILE, came[at].name) else f" (by {KERNEL.word} {CLEAR_RULE.word})"
+            return f"; then record {place} of that frame, a {later.record.kind.name}, {took} it{by_kernel}"
+    return ""
 
 
 def yet_to_send(node: Node, name: Name, kinds: Container[str] = QUEUES) -> str:
-    """A line that a node has yet to send something about a state, by these queues; empty if it has not."""
+    """A line that a node has yet to send something about a state, by these queues; empty if it has not. Of a state that came back before
+    its deletion was sent that is the deletion alone."""
     for queued in node.queue:
         if queued.name == name and queued.kind in kinds:
+            if queued.kind == SHORT_DELETE.queue:
+                return f"{node.id} sends nothing of it but its own deletion, which is pending (`flush {node.id}` sends it)"
             return f"{node.id} has it on its {QUEUES[queued.kind]} queue, and has not sent it yet (`flush {node.id}`)"
     return ""
 

@@ -4,10 +4,11 @@ from __future__ import annotations
 from typing import Callable, Container, Dict, List
 
 from ..language import events
+from ..language.commands import KERNEL
 from ..language.events import MOST_TRIES, SERVED, Event
 from ..language.names import LOST, Name
 from ..language.records import SHORT_DELETE
-from ..language.setups import BATCH, BULK_MS, DEFER_MS, MTU
+from ..language.setups import BATCH, BULK_MS, CLEAR as CLEAR_RULE, DEFER_MS, MTU
 from ..model.explanations import Expiry, Purge
 from ..model.frames import HEADER
 from ..model.pair import Node, other
@@ -112,10 +113,13 @@ def _cleared(question: Question) -> List[str]:
     own, former = clears[-1], len(node.clears)
     beside = f"; it comes after {counted(former, 'clear')} that {node.id} has not sent yet, and each is a record of its own"
     gone = f"{node.id} cleared {counted(len(node.states), 'state')}, including those of other boots"
+    up_to = f"those of boot {own.creator} up to id {own.bound}"
+    all_of = f"all of boot {own.creator}, by {KERNEL.word} {CLEAR_RULE.word} also past id {own.bound}"
+    which = all_of if question.lab.setup.kernel.has(CLEAR_RULE) else up_to
     return [
         gone if node.states else f"{node.id} has no state to clear",
         *_held_lost(node, node.states),
-        f"a clear is listed: {other(node.id)} is to clear those of boot {own.creator} up to id {own.bound}" + beside * bool(former),
+        f"a clear is listed: {other(node.id)} is to clear {which}" + beside * bool(former),
     ]
 
 

@@ -3,16 +3,17 @@
 Each line is about one packet or one record, and about the numbers that the node has here: it is there only where these decide it."""
 from __future__ import annotations
 
-from typing import List, Sequence
+from typing import List, Optional, Sequence, Tuple
 
 from ..language.names import SYN_SENT, Name
 from ..language.packets import PacketEvent
-from ..language.setups import LOOSE, MERGE, RESET, SCALE, WINDOW, Switch
+from ..language.setups import CLEAR, ICMP, LOOSE, MERGE, RESET, REVIVE, RULE, SCALE, WINDOW, Switch
 from ..model.explanations import OfState
 from ..model.kernels import PROFILE, Kernel
 from ..model.pair import Node
 from ..model.states import Flow, State, is_closed
 from ..model.tracking import MOST_APART, ends_of, judged
+from .questions import name_list
 
 PAGE = "docs/REAL.md"
 THE_KERNEL = "FreeBSD's kernel, as far as we know its sources,"
@@ -20,6 +21,10 @@ THE_KERNEL = "FreeBSD's kernel, as far as we know its sources,"
 _NOW, _BEFORE = Kernel((WINDOW, LOOSE, RESET, SCALE)), Kernel((WINDOW, LOOSE, SCALE))
 # The rules that may pass a packet, the fewest first.
 _WAYS = ((WINDOW,), (LOOSE,), (SCALE,), (WINDOW, LOOSE), (WINDOW, SCALE), (LOOSE, SCALE))
+
+
+# The states that are named with their rules.
+MOST_KEPT = 3
 
 
 # ---- packets
@@ -57,6 +62,12 @@ def _by(*switches: Switch) -> str:
     return Kernel(switches).by
 
 
+def rules_without(kernel: Kernel, switch: Switch) -> str:
+    """By which rules a pair would go without one of the kernel's: by the profile, unless others of the kernel's are left."""
+    others = kernel.without(switch)
+    return others.by if others.is_profile else "without it"
+
+
 def where_loose(state: State, packet: PacketEvent) -> str:
     """Where a packet may pass loosely, and how far it may be from what is known."""
     where = "the other end was not heard" if ends_of(state, packet)[1].level < SYN_SENT else "an end has closed"
@@ -84,13 +95,18 @@ def explain_takeover(names: Sequence[Name]) -> List[str]:
     """That the kernel takes over states that are bad here."""
     if not names:
         return []
-    return [f"{THE_KERNEL} takes over {_list(names)}, since what has the key is closed at both ends ({PAGE})"]
+    return [f"{THE_KERNEL} takes over {name_list(names)}, since what has the key is closed at both ends ({PAGE})"]
+
+
+def has_key_of(one: Flow, two: Flow) -> bool:
+    """Whether two states have one wire key, or one stack key."""
+    return one.protocol == two.protocol and (one.wire == two.wire or one.stack == two.stack)
 
 
 def gives_way(new: Flow, node: Node) -> bool:
     """Whether all states of a node with a key of a new one are closed at both ends, and began in its direction: to these the kernel
     prefers the new one."""
-    old = [it for it in node.states.values() if it.protocol == new.protocol and (it.wire == new.wire or it.stack == new.stack)]
+    old = [it for it in node.states.values() if has_key_of(it, new)]
     return bool(old) and all(is_closed(it) and it.direction == new.direction for it in old)
 
 
@@ -98,8 +114,39 @@ def explain_destinations(names: Sequence[Name]) -> List[str]:
     """That the kernel takes destination ends that are stale here."""
     if not names:
         return []
-    return [f"{THE_KERNEL} takes the destination end of {_list(names)} too, since the source end is not stale ({_by(MERGE)}; {PAGE})"]
+    return [f"{THE_KERNEL} takes the destination end of {name_list(names)} too, since the source end is not stale ({_by(MERGE)}; {PAGE})"]
 
 
-def _list(names: Sequence[Name]) -> str:
-    return ", ".join(map(str, names))
+def explain_rules(kept: Sequence[Tuple[Name, Optional[int]]]) -> List[str]:
+    """That the kernel gives no rule to states that came as updates, and that keep theirs here."""
+    if not kept:
+        return []
+    they = f"({_by(RULE)} {'they have' if len(kept) > 1 else 'it has'} none, and the default timeouts; {PAGE})"
+    return [f"{THE_KERNEL} gives no rule to what comes as an update: here {keeping(kept)} {they}"]
+
+
+def keeping(kept: Sequence[Tuple[Name, Optional[int]]]) -> str:
+    """Which rules states keep; of many only the first."""
+    more = f" and {len(kept) - MOST_KEPT} more keep theirs" * (len(kept) > MOST_KEPT)
+    return ", ".join(f"{name} keeps rule {rule}" for name, rule in kept[:MOST_KEPT]) + more
+
+
+def explain_revived(names: Sequence[Name]) -> List[str]:
+    """That the kernel takes over states whose deletion is pending here."""
+    if not names:
+        return []
+    return [f"{THE_KERNEL} takes over {name_list(names)}, although the deletion is pending ({_by(REVIVE)}; {PAGE})"]
+
+
+def explain_spared(names: Sequence[Name]) -> List[str]:
+    """That the kernel clears states that are newer than a clear here."""
+    if not names:
+        return []
+    return [f"{THE_KERNEL} clears {name_list(names)} too, since a clear has no bound there ({_by(CLEAR)}; {PAGE})"]
+
+
+def explain_echoes(names: Sequence[Name]) -> List[str]:
+    """That the kernel finds nothing stale of states of ICMP."""
+    if not names:
+        return []
+    return [f"{THE_KERNEL} has no levels of ICMP, so that nothing of {name_list(names)} is stale ({_by(ICMP)}; {PAGE})"]

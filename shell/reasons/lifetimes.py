@@ -1,4 +1,4 @@
-"""Until when states live that a frame has brought or changed, by the kernel's rule `expiry` and by the profile."""
+"""Until when states live that a frame has brought or changed, by the kernel's rule `expiry` and without it."""
 from __future__ import annotations
 
 from dataclasses import replace
@@ -14,7 +14,7 @@ from ..model.pair import Node
 from ..model.receiving import received
 from ..model.setups import Setup
 from ..shows.words import expires_at
-from .kernel import PAGE, THE_KERNEL
+from .kernel import PAGE, THE_KERNEL, rules_without
 
 BY = f"{KERNEL.word} {EXPIRY.word}"
 # Records have whole seconds, so that by so many milliseconds two times of last use are apart without any other reason.
@@ -37,7 +37,7 @@ def explain_lifetimes(setup: Setup, frame: Frame, fates: Sequence[TakenRecord], 
 
     more = f"; and so on for {len(names) - MOST} more" * (len(names) > MOST)
     if is_on:
-        said = (f"{it} lives {lives(it, here[it])}, and by the profile {lives(it, there[it])}" for it in names[:MOST])
+        said = (f"{it} lives {lives(it, here[it])}, and {rules_without(kernel, EXPIRY)} {lives(it, there[it])}" for it in names[:MOST])
         return [f"by {BY} {'; '.join(said)}{more}"]
     said = (f"{it} lives {lives(it, there[it])}, and not {lives(it, here[it])}" for it in names[:MOST])
     return [f"{THE_KERNEL} counts the last use differently: by {BY} {'; '.join(said)}{more} ({PAGE})"]

@@ -3,51 +3,21 @@ shows what it met there. If an earlier record of the frame has changed that, the
 from __future__ import annotations
 
 from itertools import takewhile
-from typing import List, NamedTuple, Sequence
+from typing import List, Sequence
 
 from ..language.commands import KERNEL
 from ..language.events import RESTART, RETRY, SERVED
-from ..language.names import ALL_STATES, BULK_END, BULK_START, Name, level_name
-from ..language.records import BULK_STATUS, CLEAR, INSERT, INSERT_ACK, QUEUES, UPDATE_REQUEST
-from ..language.setups import MERGE, STATES
+from ..language.names import BULK_END, BULK_START, Name, level_name
+from ..language.records import BULK_STATUS, CLEAR, INSERT, INSERT_ACK, QUEUES, UPDATE, UPDATE_REQUEST
+from ..language.setups import CLEAR as CLEAR_RULE, MERGE, REVIVE, RULE
 from ..link.histories import History
-from ..link.laboratory import Laboratory
-from ..model.explanations import TakenRecord
 from ..model.flights import Flight
 from ..model.frames import Carried, Record
-from ..model.merging import is_stale_destination
 from ..model.pair import Node, other
-from ..shows.words import bulk_status, counted
-from .kernel import PAGE, explain_destinations, explain_takeover, gives_way
-from .lifetimes import explain_lifetimes
+from ..shows.words import counted
+from .came import Came, came_records
+from .otherwise import explain_other_rules
 from .questions import Question, name_list
-
-
-class Came(NamedTuple):
-    """A record that came, what became of it, the node that it came to, as it was before the frame, and how many states it may have."""
-
-    record: Record
-    taken: TakenRecord
-    node: Node
-    limit: str
-
-    @property
-    def name(self) -> Name:
-        """The name of the state that it is about."""
-        return self.record.name
-
-    def __str__(self) -> str:
-        kind = self.record.kind
-        if kind is BULK_STATUS:
-            return f"{kind.name} {bulk_status(int(self.record.about[0]))}"
-        return kind.name if kind is CLEAR else f"{kind.name} {'of all states' if self.name == ALL_STATES else self.name}"
-
-
-def came_records(history: History, number: int, ticket: int) -> List[Came]:
-    """The records that a delivery brought, by the place of the event."""
-    frame = history.flight(ticket).frame
-    node, limit = history.pair(number - 1).nodes[frame.to], history.lab.limit(STATES)
-    return [Came(*it, node, limit) for it in zip(frame.records, history.explained(number).records)]
 
 
 # ---- what became of a record
@@ -62,9 +32,11 @@ def became(fate: Came) -> str:
     if fate.record.kind is BULK_STATUS:
         return _heard(int(fate.record.about[0]), fate.node)
     if fate.record.kind is CLEAR:
-        names = name_list(sorted(name for name in fate.node.states if fate.taken.takes(name)))
-        of = "of boot {} up to id {}".format(*fate.record.about)
-        return f"{node} cleared {counted(int(fate.taken.fate[1]), 'state')} {of}" + f": {names}" * bool(names)
+        names, number = sorted(name for name in fate.node.states if fate.taken.takes(fate.kernel, name)), int(fate.taken.fate[1])
+        up_to = f", by {KERNEL.word} {CLEAR_RULE.word} also past id" if fate.kernel.has(CLEAR_RULE) else " up to id"
+        of = f"of boot {fate.record.about[0]}{up_to} {fate.record.about[1]}"
+        # (the same frame may have brought some of them)
+        return f"{node} cleared {counted(number, 'state')} {of}" + f": {name_list(names)}" * (len(names) == number > 0)
     ends = fate.taken.fate[-1] == "ends"
     return {
         "asked": f"unknown: {node} has no such state, and {'has asked for it already' if fate.name in fate.node.asks else 'asks for it'}",
@@ -95,10 +67,12 @@ def _bad(fate: Came) -> str:
 
 def _imported(fate: Came) -> str:
     last = f"last used at {fate.taken.last} ms" + f", which is ahead of {fate.node.id}'s clock" * ((fate.taken.last or 0) > fate.node.clock)
+    revived = f"; by {KERNEL.word} {REVIVE.word}, although {fate.node.id} has yet to send its own deletion of it" * fate.is_deleting
     if fate.record.kind is not INSERT:
-        return f"new: inserted, since {fate.node.id} did not know the state; {last}"
+        return f"new: inserted, since {fate.node.id} did not know the state; {last}{revived}"
     asks = isinstance(fate.record.state, Carried) and fate.record.state.asks_for_acknowledgement
-    return f"new: inserted; {last}" + "; it asks for an acknowledgement, which is queued" * asks
+    acknowledged = "; it asks for an acknowledgement, " + ("in place of which the deletion is sent" if fate.is_deleting else "which is queued")
+    return f"new: inserted; {last}{revived}" + acknowledged * asks
 
 
 def _merged(fate: Came) -> str:
@@ -121,6 +95,8 @@ def _answer(fate: Came) -> str:
     known, node = fate.node.states.get(fate.name), fate.node.id
     if known is None:
         return ""
+    if fate.is_deleting:
+        return f"; {node} sends {other(node)} only its own deletion of it, which is pending"
     queued = next((one.kind for one in fate.node.queue if one.name == fate.name), INSERT_ACK.queue)
     if queued == INSERT_ACK.queue:
         return f"; {node} queues its own state for {other(node)}, as a short update"
@@ -145,7 +121,9 @@ def _nothing(fate: Came) -> str:
     known = fate.node.states.get(fate.name)
     if fate.record.kind is not INSERT_ACK:
         is_kept = known is not None and "n" in known.flags
-        return "asked for, but its rule says `no-sync`: it is not sent" if is_kept else "asked for: it is queued already"
+        its_deletion = f"{fate.node.id} sends only its own deletion of it, which is queued"
+        queued = its_deletion if known and fate.is_deleting else "it is queued already"
+        return "asked for, but its rule says `no-sync`: it is not sent" if is_kept else f"asked for: {queued}"
     if known is None:
         return f"unknown: {fate.node.id} has no such state, and ignores it"
     return "acknowledged: nothing was waiting for it any more"
@@ -171,59 +149,15 @@ def explain_taken(question: Question) -> List[str]:
         *(f"{place}. {it}: {became(it)}" for place, it in enumerate(came, 1)),
         *_begun(came, question.after.nodes[node.id]),
         *_without_start(history, came, node),
-        *_without_rule(came, question.after.nodes[node.id]),
-        *_endless(came),
-        *_in_the_kernel(question, came),
-        *_lifetimes(question, ticket),
+        *_without_rule(question, came, question.after.nodes[node.id]),
+        *explain_other_rules(question, history.flight(ticket).frame, came),
     ]
 
 
-def _endless(came: List[Came]) -> List[str]:
-    """States whose updates two nodes go on answering: the one has a destination end of a higher level, and the other one of a later
-    number, so that each keeps its own."""
-    kept = (it for it in came if "destination" in it.taken.stale and not it.taken.goes_together)
-    names = [it.name for it in kept if _is_crossed(it)]
-    if not names:
-        return []
-    node = came[0].node.id
-    answered = f"{other(node)} would find {node}'s own {name_list(names)} stale in turn, unless it has heard more since"
-    rest = f"by {KERNEL.word} {MERGE.word} they come to rest, unless their frames keep crossing"
-    return [f"{answered}: by this project's profile the two can continue like this without end; {rest} ({PAGE})"]
-
-
-def _is_crossed(fate: Came) -> bool:
-    """Whether the destination end that is here would be stale at the sender as well, which has what came."""
-    known, carried = fate.node.states.get(fate.name), fate.record.state
-    if known is None or carried is None or known.protocol != "tcp":
-        return False
-    came, here = carried.destination, known.destination
-    return is_stale_destination(here, came, True) and is_stale_destination(came, here, True)
-
-
-def _in_the_kernel(question: Question, came: List[Came]) -> List[str]:
-    """Where the kernel does otherwise than the profile with these records."""
-    stale = [it.name for it in came if it.taken.stale == ("destination",) and not it.taken.goes_together]
-    return [*explain_takeover(_in_the_place_of_closed(question.lab, came)), *explain_destinations(stale)]
-
-
-def _lifetimes(question: Question, ticket: int) -> List[str]:
-    """Until when states live by the other rule; nothing where timeouts are not known."""
-    frame = question.history.flight(ticket).frame
-    nodes = (it.nodes[frame.to] for it in (question.pair, question.after))
-    return explain_lifetimes(question.lab.setup, frame, question.explanation.records, *nodes) if question.lab.knows_setup else []
-
-
-def _in_the_place_of_closed(lab: Laboratory, came: List[Came]) -> List[Name]:
-    """The states that are bad here since closed ones have their keys; none unless there is room for all that the frame may bring."""
-    if not lab.knows_setup or len(came[0].node.states) + len(came) > lab.setup.limits[STATES]:
-        return []
-    in_use = [it for it in came if it.taken.fate[:2] in (("bad", "wire"), ("bad", "stack"))]
-    return [it.name for it in in_use if isinstance(it.record.state, Carried) and gives_way(it.record.state, it.node)]
-
-
-def _without_rule(came: List[Came], after: Node) -> List[str]:
-    """States that came with a rule's number and are kept without it."""
-    new = (it.record.state for it in came if it.taken.fate[0] == "imported")
+def _without_rule(question: Question, came: List[Came], after: Node) -> List[str]:
+    """States that came with a rule's number and are kept without it, unless the kernel's rule may be the reason."""
+    is_sure = question.lab.knows_setup and not question.lab.setup.kernel.has(RULE)
+    new = (it.record.state for it in came if it.taken.fate[0] == "imported" and (is_sure or it.record.kind is not UPDATE))
     with_rule = (it.name for it in new if isinstance(it, Carried) and it.rule is not None)
     names = sorted(it for it in with_rule if it in after.states and after.states[it].rule is None)
     if not names:

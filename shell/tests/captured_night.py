@@ -1,5 +1,5 @@
-"""The captures of the lesson examples/captured-failover.pfl. No firewall made them: a run of the laboratory did, and its frames are written as
-messages of FreeBSD 13, with names and times such as those have.
+"""The captures of the lesson examples/captured-failover.pfl. No firewall made them: a run of the laboratory did, by `kernel all` and
+the rules that are taken in, and its frames are written as messages of FreeBSD 13, with names and times such as those have.
 
     PFL_LAB=PROGRAM python3 -m shell.tests.captured_night FOLDER
 

@@ -30,7 +30,8 @@ class Imported(NamedTuple):
 
     @property
     def comments(self) -> List[str]:
-        return [it for it in self.setup if it.startswith("# ")][1:]
+        """Those of statements: the first two are about the whole setup."""
+        return [it for it in self.setup if it.startswith("# ")][2:]
 
 
 def imported(path: str, *words: str) -> Imported:

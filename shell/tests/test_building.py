@@ -12,7 +12,7 @@ from typing import Dict, List
 from unittest import mock
 
 from proving.build import Progress
-from proving.costs import Estimate
+from proving.costs import Estimate, jobs_of_first
 from proving.crates import Crate, Crates, chains, paths
 
 from .trees import QUICK, SmallTree
@@ -43,11 +43,17 @@ class Lists(unittest.TestCase):
         crates = small({"a": [], "b": ["a"], "c": ["a"], "d": ["b"]})
         self.assertEqual(chains(crates, {"a": 1, "b": 2, "c": 5, "d": 4}), {"a": 7, "b": 6, "c": 5, "d": 4})
 
-    def test_an_estimate_is_no_less_than_the_dearest_chain(self) -> None:
+    def test_the_dearest_chain_gets_the_processors_that_are_left(self) -> None:
+        """Beside d the check of a has three jobs, of which the second and the third count half: both take 50 s. Those of b and of c have four
+        jobs, and take 40 s each."""
         crates = small({"a": [], "b": ["a"], "c": ["b"], "d": []})
         with mock.patch("proving.costs.processors", return_value=4):
             minutes = Estimate(crates, {"a": 100.0, "b": 100.0, "c": 100.0, "d": 50.0}, 4).minutes()
-        self.assertEqual(minutes, 300 / 60)
+        self.assertEqual(minutes, (50 + 40 + 40) / 60)
+
+    def test_the_first_of_those_that_begin_has_the_jobs_that_are_left(self) -> None:
+        for free, begun, jobs in ((4, 1, 4), (4, 2, 3), (4, 4, 1), (3, 1, 3), (1, 1, 1), (0, 1, 1), (-1, 2, 1)):
+            self.assertEqual(jobs_of_first(free, begun), jobs, (free, begun))
 
     def test_an_estimate_goes_by_the_processors(self) -> None:
         crates = small({"a": [], "b": [], "c": [], "d": []})

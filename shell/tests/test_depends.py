@@ -85,8 +85,8 @@ class Scripts(unittest.TestCase):
     def test_it_is_played_once_by_each_set_of_rules(self) -> None:
         script = Script.of(program(), NIGHT)
         tried(script)
-        # (its own rules, six words, and all)
-        self.assertEqual(script.played, 8)
+        # (its own rules, ten words, and all)
+        self.assertEqual(script.played, 12)
 
 
 class Comparing(unittest.TestCase):
@@ -162,7 +162,7 @@ class Together(unittest.TestCase):
         for lines in (NIGHT, [*SESSION, BLIND]):
             script = Script.of(program(), lines)
             self.assertEqual([two for far in tried(script).far for two in far.together], [])
-            self.assertEqual(script.played, 8)
+            self.assertEqual(script.played, 12)
 
     def test_from_the_kernels_rules_to_the_profiles(self) -> None:
         """By `window` and `loose` each alone the segment is dropped: so either of them taken away drops it."""
@@ -191,7 +191,7 @@ class Answers(unittest.TestCase):
             " after hi",
             "  main ends differently: changed on b (numbers): tcp 10.0.0.1:1000 -> 192.0.2.9:80",
             "by kernel all: as by kernel loose",
-            "no other word changes anything: window, merge, expiry, reset, scale",
+            "no other word changes anything: window, merge, rule, expiry, reset, scale, clear, revive, icmp",
             "how sure we are that FreeBSD has loose: 95%; that it moves the other end's hi: 85% (docs/REAL.md)",
         ])
 
@@ -247,7 +247,7 @@ class Answers(unittest.TestCase):
         self.assertIn("by kernel all: every reply as it was", lines)
         # (by `window` what was not heard is acknowledged as well, and moves the other end's `hi`)
         self.assertIn("also with kernel window: only the end", lines)
-        self.assertIn("no other word changes anything: merge, expiry, reset, scale", lines)
+        self.assertIn("no other word changes anything: merge, rule, expiry, reset, scale, clear, revive, icmp", lines)
 
     def test_branches(self) -> None:
         lines = of_lines([*SESSION, "fork main 3 late", f"step late {KEEPALIVE[10:]}"]).lines

@@ -57,8 +57,8 @@ class Differing(DumpCase):
 
     def test_a_rule_at_one_node_alone_is_no_difference(self) -> None:
         # So FreeBSD has what came by a bulk update, and what the peer was asked for.
-        why = "they came by a bulk update or a request, or while the rule sets were not the same: FreeBSD gives these no rule"
-        note = f"with a rule at one node alone: 1 state, which agree; {why}, as far as we know"
+        why = "as far as we know FreeBSD gives these no rule, or the rule sets differed"
+        note = f"came by a bulk update or a request (kernel rule): 1 state with a rule at one node alone, which counts as agreeing; {why}"
         self.agrees(self.changed(WEB, ", rule 3", ""), note, "  1: rule 3 | none")
         without = WEB.replace(", rule 3", "")
         self.agrees(self.compared(without, WEB), note, "  1: rule none | 3")
@@ -71,7 +71,7 @@ class Differing(DumpCase):
         b = "".join(ALL).replace(", rule 12", "").replace(", rule 5", "").replace(", rule 3", "")
         said = self.compared("".join(ALL), b)
         self.assertEqual((said.status, said.out[0]), (0, "a and b agree in 6 states"))
-        self.assertEqual(said.out[2], note.replace("1 state", "5 states"))
+        self.assertEqual(said.out[2], note.replace("1 state", "5 states").replace("which counts", "which count"))
         # (established TCP first, the oldest of it above, and then the most)
         self.assertEqual(said.out[3:], ["  1: rule 5 | none", "  1: rule 3 | none", "  3: rule 12 | none"])
 

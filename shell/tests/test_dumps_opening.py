@@ -277,7 +277,7 @@ class Missed(OpeningCase):
         said = self.opened(WEB, WEB.replace(", rule 3", ""))
         self.there(said, 1, 1)
         rule = "1 state has a rule at one node alone in the dumps"
-        self.assertEqual(said.err[2:], [f"{rule}; here a state keeps its rule at both nodes if their rules are the same"])
+        self.assertEqual(said.err[2:], [f"{rule}; here each comes by an insertion, and keeps its rule at both nodes if their rules are the same"])
 
     def test_numbers_to_which_something_is_added(self) -> None:
         said = self.opened(WEB.replace("65535]", "65535](+77)"), "")

@@ -9,6 +9,7 @@ from ..language.names import Name
 from ..language.records import CLEAR, INSERT, UPDATE
 from ..model.branches import Happened
 from ..model.explanations import Against, Edge, Expiry, Judged, Loose, NotExplained, OfState, Purge, Reason, TakenRecord, read_explanation
+from ..model.kernels import PROFILE
 from ..model.rulings import deciding
 from ..model.setups import Adaptive, Rule
 
@@ -62,8 +63,10 @@ class Replies(unittest.TestCase):
     def test_records(self) -> None:
         bad, clear = TakenRecord(INSERT, ("1.2",), ("bad", "wire", "2.1")), TakenRecord(CLEAR, ("1", "2"), ("cleared", "2"))
         self.assertEqual(reason("record ins 1.2 bad wire 2.1", "record clr 1 2 cleared 2"), [bad, clear])
-        self.assertEqual((bad.is_bad, clear.is_bad, bad.takes(Name(1, 2))), (True, False, False))
-        self.assertEqual([clear.takes(Name(*it)) for it in ((1, 2), (1, 3), (2, 1))], [True, False, False])
+        self.assertEqual((bad.is_bad, clear.is_bad, bad.takes(PROFILE, Name(1, 2))), (True, False, False))
+        for words, taken in (("", [True, False, False]), ("clear", [True, True, False]), ("merge", [True, False, False])):
+            kernel = PROFILE.with_words(words.split())
+            self.assertEqual([clear.takes(kernel, Name(*it)) for it in ((1, 2), (1, 3), (2, 1))], taken, words)
         ends = [TakenRecord(UPDATE, ("1.1",), ("merged", it, "0")).stale for it in ("-", "src", "dst", "both")]
         both = "source", "destination"
         self.assertEqual(ends, [(), ("source",), ("destination",), both])

@@ -452,6 +452,7 @@ class Setups(unittest.TestCase):
             ("kernel", "line 4"),
             ("kernel loose\nkernel all reset", ""),
             ("kernel loose scale\nkernel expiry", ""),
+            ("kernel clear rule\nkernel revive icmp", ""),
             ("kernel loose max", "line 3"),
             (f"rule a pass out {rdr}\nkernel windows", "line 3"),
         ):

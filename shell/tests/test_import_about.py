@@ -52,17 +52,19 @@ class Left(unittest.TestCase):
             ],
         )
         self.assertEqual(
-            its.setup[:5],
+            its.setup[:7],
             [
                 "# The rules of em0, taken in from a pf.conf by `./lab import`.",
                 f"# Only for packets with 192.0.2.81:443 {NEAR},",
                 "# as these come or once they are translated, and for their answers. What matches none of them is left out:",
                 "# 3 rules and 3 translations, and nets and ports of others. So the rules decide about these packets as they would",
                 "# without --about. About others they may decide otherwise: a script should have none.",
+                "# By `kernel all` FreeBSD's rules hold where the laboratory has them, as far as we know them, and else its profile.",
+                "kernel all",
             ],
         )
         # The numbers are those of pf, and what is left out has no comment.
-        comments = [it.split()[1:3] for it in its.setup[5:] if it.startswith("# ")]
+        comments = [it.split()[1:3] for it in its.setup[6:] if it.startswith("# ")]
         wanted = ((5, 0), (6, 1), (7, 2), (10, 6), (11, 9))
         self.assertEqual(comments, [[f"pf.conf:{line}", f"@{number}"] for line, number in wanted])
 

@@ -239,7 +239,8 @@ class Origins(unittest.TestCase):
         lab = Laboratory(program())
         self.addCleanup(lab.close)
         story = story_of(lab, [*setup, "# A query leaves.", "step main packet a out udp 10.0.0.1:1 192.0.2.9:1 0"])
-        self.assertEqual(story.intro, ["The rules of em0, taken in from a pf.conf by `./lab import`."])
+        kernel = "By `kernel all` FreeBSD's rules hold where the laboratory has them, as far as we know them, and else its profile."
+        self.assertEqual(story.intro, [f"The rules of em0, taken in from a pf.conf by `./lab import`. {kernel}"])
         self.assertEqual(story.branches["main"].notes, {1: ["A query leaves."]})
 
     def test_a_view_says_where_a_rule_is_from(self) -> None:

@@ -30,7 +30,7 @@ class Page(unittest.TestCase):
 
     def test_the_sections_of_translations(self) -> None:
         its = taken_in(block("gateway"), "--node", "a")
-        self.assertEqual("".join(f"{it}\n" for it in its.setup[5:-1]), block("sections"))
+        self.assertEqual("".join(f"{it}\n" for it in its.setup[7:-1]), block("sections"))
 
 
 if __name__ == "__main__":

@@ -9,8 +9,14 @@ from unittest.mock import patch
 
 from ..captures.runs import CLOCKS_BEGAN
 from ..inferring import command
+from ..inferring.playing import Playing
+from ..inferring.setting import Setting
+from ..language.events import read_packet
+from ..language.names import NODES, Name
 from ..language.packets import PacketEvent
 from ..link.laboratory import Laboratory
+from ..model.pair import read_shown
+from ..model.setups import Setup
 from . import TOP, program
 from .inferred import Inferred, Nights, differing_frames, differing_tables
 from .nights import Captured, ip, logged, on_ethernet, pcap
@@ -79,6 +85,31 @@ class Scripts(Nights):
     def test_a_clear(self) -> None:
         made = self.inferred([QUERY, "flush a", "deliver 1", "clear a", "flush a", "deliver 2"])
         self.assertEqual([QUERY, "flush a", "deliver 1", "clear a", "flush a", "deliver 2"], made.events)
+
+    def test_a_clear_leaves_deletions_that_are_pending(self) -> None:
+        """The insertion comes to b, which deletes the state and then clears all. The state comes back in a bulk update, and its answer comes
+        there: b sends its deletion alone. With a restart it forgets that too."""
+        lines = ["kernel revive", *RULES[:-1]]
+        playing = Playing(program(), Setting(lines, Setup.of(lines), True, dict.fromkeys(NODES, 0)))
+        self.addCleanup(playing.close)
+        followed, name = playing.followed, Name(1, 1)
+        playing.packet(read_packet(QUERY))
+        playing.flush("a")
+        playing.restart("b")
+        playing.flush("b")
+        playing.deliver(2)
+        playing.step("turn a")
+        playing.flush("a")
+        playing.deliver(1)
+        playing.kill("b", name)
+        playing.clear("b")
+        playing.deliver(3)
+        self.assertEqual(playing.packet(read_packet(ANSWER.format("b"))), ["pass", "1.1"])
+        self.assertEqual((followed.pending["b"], followed.deleted["b"]), (set(), {name}))
+        self.assertEqual([(it.kind, it.name) for it in read_shown(playing.run.ask("show main")).b.queue], [("del", name)])
+        self.assertEqual(playing.drift(), [])
+        playing.restart("b")
+        self.assertEqual((followed.pending["b"], followed.deleted["b"]), (set(), set()))
 
     def test_before_the_capture(self) -> None:
         """The capture begins after the state: its keys come with the answer to a request, and both nodes are given it first."""
@@ -307,6 +338,13 @@ class Scripts(Nights):
         self.assertEqual(f"{rule} timeout udp.single 90", made.script[made.script.index("rule a block any") - 1])
         self.assertEqual(events, made.events)
         self.assertIn("# No frame parts.", made.script)
+
+    def test_whose_rules_decide(self) -> None:
+        profile = "The laboratory's profile decides; by a line `kernel all` in the file of --rules FreeBSD's rules do, as far as we know them."
+        kernel = "By kernel merge FreeBSD's rules decide, as far as we know them; where there is no word, the laboratory's profile does."
+        for line, said in ((b"", profile), (b"kernel merge\n", kernel)):
+            path = self.save("pair.pfl", line + b"rule a pass out\nrule b pass out\n")
+            self.assertIn(f"# {said}", self.inferred([QUERY, "flush a", "deliver 1"], "--rules", path).script)
 
     def test_rules_that_block(self) -> None:
         path = self.save("pair.pfl", b"rule a block any\nrule b block any\n")

@@ -87,7 +87,7 @@ class Kernels(Dialogue):
         self.said(shell, *RULES)
         self.assertEqual(self.said(shell, "kernel"), ["kernel window loose", ANY_NUMBER])
         self.assertFalse(shell.has_faults)
-        self.assertEqual(self.said(self.shell("kernel all", *RULES), "kernel"), ["kernel window loose merge expiry reset scale"])
+        self.assertEqual(self.said(self.shell("kernel all", *RULES), "kernel"), ["kernel window loose merge rule expiry reset scale clear revive icmp"])
         self.assertEqual(self.said(self.shell(*RULES), "kernel"), ["the profile; no switch is on"])
 
     def test_who_opens_a_pair_without_the_rule_for_resets_is_told(self) -> None:
@@ -100,11 +100,12 @@ class Kernels(Dialogue):
     def test_a_faulty_line_is_explained_and_not_taken(self) -> None:
         shell = self.shell()
         self.assertEqual(
-            self.said(shell, "kernel loose revive"),
+            self.said(shell, "kernel loose takeover"),
             [
-                "`revive` is no rule of the kernel: expected `window`, `loose`, `merge`, `expiry`, `reset`, `scale` or `all`",
-                "  kernel loose revive",
-                "               ^^^^^^",
+                "`takeover` is no rule of the kernel: expected `window`, `loose`, `merge`, `rule`, `expiry`, `reset`, `scale`, `clear`, `revive`, "
+                "`icmp` or `all`",
+                "  kernel loose takeover",
+                "               ^^^^^^^^",
                 "expected: kernel WORD..",
                 "this line is left out of the setup: bad 3 Unknown",
             ],
@@ -202,9 +203,14 @@ class Answers(Dialogue):
         self.assertEqual(said[-1], "by the profile the run is a different one from event 9 on, and its faults are not tried")
         self.assertFalse([it for it in said if it.startswith("   by ")])
 
-    def test_an_import_has_no_such_line(self) -> None:
-        imported = taken_in("pass in proto tcp to port 22 keep state\n")
-        self.assertEqual([line for line in imported.setup if line.startswith("kernel")], [])
+    def test_an_import_has_all_of_them(self) -> None:
+        """Whoever has a pf.conf has a real pair."""
+        for words in ((), ("--unopened",), ("--node", "b")):
+            imported = taken_in("pass in proto tcp to port 22 keep state\n", *words)
+            self.assertEqual([line for line in imported.setup if line.startswith("kernel")], ["kernel all"], words)
+            at = imported.setup.index("kernel all")
+            said = "# By `kernel all` FreeBSD's rules hold where the laboratory has them, as far as we know them, and else its profile."
+            self.assertEqual(imported.setup[at - 1], said)
 
 
 class Files(Dialogue):

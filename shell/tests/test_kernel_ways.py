@@ -5,8 +5,8 @@ from __future__ import annotations
 import unittest
 from . import reasons
 from .test_kernel_reasons import FAR_PACKET, HIGH, KNOWN, LEAST, MOST, PACKET, UNHEARD
-from .test_reasons import FAR_FIN, FIN, FLUSH, OPEN, QUERY, SYN_ACK, SYNC, Cases
-from .test_record_reasons import ACKED, ANSWERED, TAKES
+from .test_reasons import ANSWER_AT_B, FAR_FIN, FIN, FLUSH, OPEN, QUERY, SECOND, SYN, SYN_ACK, SYNC, WALLS, Cases
+from .test_record_reasons import ACKED, ANSWERED, ECHO, TAKES
 
 # The source's lo is 5000, and its hi 65001.
 FAR = "seq 200000 ends at 200000, 134999 above 65001 (hi of the source end)"
@@ -34,6 +34,8 @@ CROSSED = ANSWERED + "step main deliver 2\nstep main packet b in tcp 192.0.2.9:8
 
 # A's update of a query is sent 20 s after its packet, of the 30 that its class has; b's clock stands at 7 s.
 LATE = OPEN + QUERY + SYNC + QUERY + "step main tick a 20000\nstep main tick b 7000\n" + FLUSH + "step main deliver 2"
+# The rules of both give 600 s to what has 60 without a rule.
+LONG_AT_BOTH = "rule a pass out timeout udp.first 600\nrule b pass out timeout udp.first 600\nopen\n"
 # The rule of a gives 600 s to what has 60 at b.
 LONGER = "rule a pass out timeout udp.first 600\nrule b pass out\nopen\n" + QUERY + SYNC
 
@@ -153,6 +155,16 @@ DROPS: Cases = {
             "65535 such units, and this packet passes",
         ],
     ),
+    "above what the other node does not send": (
+        # B has deleted the state, which comes again, and then the answer comes there; it allows a what a does not hear of.
+        "kernel revive\n" + OPEN + SYN + FLUSH + "step main repeat 1\nstep main deliver 1\nstep main kill b 1.1\nstep main deliver 2\n"
+        + SYN_ACK.replace(" a ", " b ") + PACKET + "A 5001 9001 100 1000",
+        [
+            "seq 5001 ends at 6001, 999 above 5002 (hi of the source end)",
+            "node b has other numbers for state 1.1: the same packet at b gives `pass 1.1`",
+            "b sends nothing of it but its own deletion, which is pending (`flush b` sends it)",
+        ],
+    ),
     "too far after what may pass loosely": (
         "kernel loose\n" + UNHEARD + PACKET + f"PA {MOST - 999} 1 100 1000",
         [
@@ -199,7 +211,112 @@ OTHERS: Cases = {
     ),
 }
 
+# B has lost what it knew, and gets it by a bulk update.
+BULK = (
+    QUERY + FLUSH + "step main lose 1\nstep main restart b\nstep main flush b\nstep main deliver 2\nstep main turn a\n" + FLUSH
+    + "step main deliver 3"
+)
+NEW = "new: inserted, since b did not know the state"
+BEGINS = "bulk status start: the bulk update begins, and b continues to wait for its end"
+ENDS = "bulk status end: the server says that it is at the end; b, which was waiting, no longer waits, whatever arrived"
+# B has yet to send its deletion of what comes again.
+PENDING = QUERY + FLUSH + "step main repeat 1\nstep main deliver 1\nstep main kill b 1.1\nstep main deliver 2"
+
+# So it has when the second answer to its requests brings what it has deleted since (the case revive-second-bulk).
+SECOND_BULK = (
+    WALLS + "step main packet b out udp 10.0.0.1:1000 192.0.2.9:53 40\nstep main flush b\nstep main lose 1\nstep main restart a\n" + FLUSH
+    + "step main deliver 2\nstep main turn b\nstep main flush b\nstep main repeat 3\nstep main deliver 3\nstep main kill a 2.1\nstep main deliver 4"
+)
+BULK_AGAIN = [
+    "2. bulk status start: the bulk update begins, and a was not waiting for one",
+    "3. bulk status end: the server says that it is at the end; a was not waiting for it",
+]
+REVIVED_21 = (
+    "1. update 2.1: new: inserted, since a did not know the state; last used at 0 ms; by kernel revive, although a has yet to send its own "
+    "deletion of it"
+)
+
 RECORDS: Cases = {
+    "a state that has no rule, since it came as an update": (
+        "kernel rule\n" + OPEN + BULK,
+        [
+            "1. update 1.1: new: inserted, since b did not know the state; last used at 0 ms",
+            f"2. {BEGINS}",
+            f"3. {ENDS}",
+            "by kernel rule 1.1 has no rule, and the default timeouts, since it came as an update; by the profile 1.1 keeps rule 0",
+        ],
+    ),
+    "a state that has no rule by the profile either": (
+        "kernel rule\nrule a pass out\nrule b pass any\nopen\n" + BULK,
+        [
+            "1. update 1.1: new: inserted, since b did not know the state; last used at 0 ms",
+            f"2. {BEGINS}",
+            f"3. {ENDS}",
+            "by kernel rule 1.1 has no rule, and the default timeouts, since it came as an update",
+        ],
+    ),
+    "two states that have no rule, where other rules are the kernel's too": (
+        # By `rule` their timeout is the default. 600 s are left of them: by `expiry` b counts these, and without it at most those 60.
+        "kernel all\n" + LONG_AT_BOTH + BULK.replace(QUERY, QUERY + SECOND),
+        [
+            *(f"{it}. update 1.{it}: {NEW}; last used at 540000 ms, which is ahead of b's clock" for it in (1, 2)),
+            f"3. {BEGINS}",
+            f"4. {ENDS}",
+            "by kernel rule 1.1, 1.2 have no rule, and the default timeouts, since they came as updates; without it 1.1 keeps rule 0, 1.2 keeps "
+            "rule 0",
+            "by kernel expiry 1.1 lives until 600000 ms, and without it until 60000 ms; 1.2 lives until 600000 ms, and without it until 60000 ms",
+        ],
+    ),
+    "a state that has no rule, and that is taken over by another rule": (
+        # By the profile the record is bad.
+        "kernel rule revive\n" + SECOND_BULK,
+        [
+            REVIVED_21,
+            *BULK_AGAIN,
+            "by kernel rule 2.1 has no rule, and the default timeouts, since it came as an update; without it 2.1 keeps rule 1",
+        ],
+    ),
+    "the same by all": (
+        "kernel all\n" + SECOND_BULK,
+        [
+            REVIVED_21,
+            *BULK_AGAIN,
+            "by kernel rule 2.1 has no rule, and the default timeouts, since it came as an update; without it 2.1 keeps rule 1",
+        ],
+    ),
+    "a state that is asked for where its deletion is pending": (
+        # B's update goes out, a deletes the state and asks for it, and b deletes it too before an old insertion brings it back.
+        "kernel revive\n" + OPEN + QUERY + FLUSH + "step main repeat 1\nstep main deliver 1\n" + ANSWER_AT_B
+        + "step main flush b\nstep main kill a 1.1\nstep main flush a\nstep main lose 4\nstep main deliver 3\nstep main flush a\n"
+        + "step main kill b 1.1\nstep main deliver 2\nstep main deliver 5",
+        ["1. update request 1.1: asked for: b sends only its own deletion of it, which is queued"],
+    ),
+    "a state whose rule an insertion brings": (
+        "kernel rule\n" + OPEN + QUERY + SYNC.strip(),
+        ["1. insert 1.1: new: inserted; last used at 0 ms"],
+    ),
+    "a state that comes back": (
+        "kernel revive\n" + OPEN + PENDING,
+        ["1. insert 1.1: new: inserted; last used at 0 ms; by kernel revive, although b has yet to send its own deletion of it"],
+    ),
+    "a state that comes back, and is not acknowledged": (
+        "kernel revive\nset defer 1\n" + OPEN + PENDING,
+        [
+            "1. insert 1.1: new: inserted; last used at 0 ms; by kernel revive, although b has yet to send its own deletion of it; it asks for an "
+            "acknowledgement, in place of which the deletion is sent"
+        ],
+    ),
+    "a clear without a bound": (
+        "kernel clear\n" + OPEN + QUERY + SYNC + "step main clear a\n" + SECOND + FLUSH + "step main deliver 2",
+        [
+            "1. insert 1.2: new: inserted; last used at 0 ms",
+            "2. clear: b cleared 2 states of boot 1, by kernel clear also past id 1",
+        ],
+    ),
+    "an echo without levels": (
+        "kernel icmp\n" + ECHO,
+        ["1. short update 1.1: merged: neither end is behind the one here; last used at 0 ms"],
+    ),
     "the destination with the source": (
         "kernel merge\n" + CROSSED + "step main deliver 3",
         [

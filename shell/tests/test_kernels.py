@@ -8,7 +8,7 @@ from typing import List, Optional, Tuple
 from ..language.helps import about
 from ..language.lines import check_line, wanted_form
 from ..language.readers import LineFault
-from ..language.setups import EXPIRY, LOOSE, MERGE, RESET, SCALE, SWITCHES, WINDOW, Switch
+from ..language.setups import CLEAR, EXPIRY, ICMP, LOOSE, MERGE, RESET, REVIVE, RULE, SCALE, SWITCHES, WINDOW, Switch
 from ..model.kernels import PROFILE, Kernel
 from ..model.setups import Setup
 from ..reasons.faulty import explain_fault
@@ -30,7 +30,7 @@ def fault_of(line: str) -> Optional[Tuple[str, Optional[int]]]:
 
 class Lines(unittest.TestCase):
     def test_one_word_at_least_and_each_known(self) -> None:
-        for line in ("kernel window", "kernel all", "kernel scale expiry", "kernel reset merge loose window", "kernel loose loose", "kernel all window all"):
+        for line in ("kernel window", "kernel all", "kernel scale expiry", "kernel reset merge loose window", "kernel loose loose", "kernel all window all", "kernel icmp rule revive clear"):
             self.assertIsNone(fault_of(line), line)
         for line, fault in (
             ("kernel", ("Missing", 1)),
@@ -39,7 +39,7 @@ class Lines(unittest.TestCase):
             ("kernel none", ("Unknown", 1)),
             ("kernel 1", ("Unknown", 1)),
             ("kernel merge #", ("Unknown", 2)),
-            *((f"kernel {it}", ("Unknown", 1)) for it in ("takeover", "rule", "max", "clear", "revive", "icmp")),
+            *((f"kernel {it}", ("Unknown", 1)) for it in ("takeover", "max", "rules", "Clear", "revived", "icmp6")),
         ):
             self.assertEqual(fault_of(line), fault, line)
 
@@ -56,14 +56,14 @@ class Lines(unittest.TestCase):
         )
         self.assertEqual(
             explain_fault("kernel", "line 4 Missing")[:3],
-            ["the rule of the kernel is missing: window, loose, merge, expiry, reset, scale or all", "  kernel", "         ^"],
+            ["the rule of the kernel is missing: window, loose, merge, rule, expiry, reset, scale, clear, revive, icmp or all", "  kernel", "         ^"],
         )
         self.assertEqual(wanted_form(["kernel"]), ["kernel WORD.."])
 
 
 class Setups(unittest.TestCase):
     def test_lines_add_up_in_any_order(self) -> None:
-        every = (WINDOW, LOOSE, MERGE, EXPIRY, RESET, SCALE)
+        every = (WINDOW, LOOSE, MERGE, RULE, EXPIRY, RESET, SCALE, CLEAR, REVIVE, ICMP)
         cases: List[Tuple[List[str], Tuple[Switch, ...]]] = [
             ([], ()),
             (["kernel merge"], (MERGE,)),
@@ -72,7 +72,8 @@ class Setups(unittest.TestCase):
             (["kernel all"], every),
             (["kernel merge all merge"], every),
             (["kernel scale", "kernel expiry"], (EXPIRY, SCALE)),
-            (["kernel scale reset loose", "kernel expiry merge window"], every),
+            (["kernel icmp clear", "kernel revive rule"], (RULE, CLEAR, REVIVE, ICMP)),
+            (["kernel icmp scale reset rule loose", "kernel expiry revive clear merge window"], every),
         ]
         for lines, wanted in cases:
             self.assertEqual(kernel_of(*lines).switches, wanted, lines)
@@ -93,8 +94,8 @@ class Words(unittest.TestCase):
         for words, line, short, by in (
             (["loose", "window"], "kernel window loose", "kernel window loose", "by kernel window, loose"),
             (["merge"], "kernel merge", "kernel merge", "by kernel merge"),
-            (["all"], "kernel window loose merge expiry reset scale", "kernel all", "by kernel all"),
-            ([*reversed(SWITCHES)], "kernel window loose merge expiry reset scale", "kernel all", "by kernel all"),
+            (["all"], "kernel window loose merge rule expiry reset scale clear revive icmp", "kernel all", "by kernel all"),
+            ([*reversed(SWITCHES)], "kernel window loose merge rule expiry reset scale clear revive icmp", "kernel all", "by kernel all"),
             (
                 ["reset", "merge", "loose", "window"],
                 *("kernel window loose merge reset", "kernel window loose merge reset", "by kernel window, loose, merge, reset"),
@@ -105,7 +106,7 @@ class Words(unittest.TestCase):
         self.assertEqual((PROFILE.by, PROFILE.is_profile), ("by the profile", True))
 
     def test_one_can_be_taken_away(self) -> None:
-        for words, switch, wanted in (("all", EXPIRY, "window loose merge reset scale"), ("scale", SCALE, ""), ("loose", SCALE, "loose")):
+        for words, switch, wanted in (("all", EXPIRY, "window loose merge rule reset scale clear revive icmp"), ("scale", SCALE, ""), ("loose", SCALE, "loose")):
             self.assertEqual(PROFILE.with_words(words.split()).without(switch), PROFILE.with_words(wanted.split()))
 
     def test_what_to_know_of_resets(self) -> None:

@@ -72,6 +72,26 @@ DROPS: Cases = {
         WALLS + QUERY + ANSWER_AT_B,
         [ABSENT + "a has it on its insert queue, and has not sent it yet (`flush a`)"],
     ),
+    "block, the frame of the insertion clears the state, by the kernel": (
+        "kernel clear\n" + WALLS + QUERY + SYNC + "step main clear a\n" + SECOND + FLUSH + "step main deliver 2\n"
+        + ANSWER_AT_B.replace("0.1:", "0.2:"),
+        [
+            ABSENT.replace("1.1", "1.2").replace("0.1:", "0.2:") + "its insertion in frame 2 was delivered (event 7): new: inserted; last used at 0 "
+            "ms; then record 2 of that frame, a clear, cleared it (by kernel clear)"
+        ],
+    ),
+    "block, the frame of the update clears the state": (
+        # Its deletion is lost, and b's update makes a ask for it. Before that answer comes a clears its states; then b restarts, and asks for all.
+        # Frame 7 has the state, the start and the end of the bulk update, and the clear.
+        WALLS + QUERY + SYNC + "step main kill a 1.1\nstep main flush a\nstep main lose 2\n" + ANSWER_AT_B
+        + "step main flush b\nstep main deliver 3\nstep main flush a\nstep main deliver 4\nstep main flush b\nstep main clear a\n"
+        + "step main deliver 5\nstep main restart b\nstep main flush b\nstep main deliver 6\nstep main turn a\nstep main flush a\n"
+        + "step main deliver 7\n" + ANSWER_AT_B,
+        [
+            ABSENT + "its update in frame 7 was delivered (event 20): new: inserted, since b did not know the state; last used at 0 ms; then "
+            "record 4 of that frame, a clear, cleared it; before that it was there until event 15, `restart b` (boot 3)"
+        ],
+    ),
     "block, the insertion was cut": (
         WALLS + QUERY + FLUSH + "step main cut 1 50\nstep main deliver 1\n" + ANSWER_AT_B,
         [ABSENT + "frame 1, which brought it, could not be read (event 4: broken 3)"],
@@ -511,6 +531,10 @@ SENDS: Cases = {
     "a clear of no state": (
         WALLS + "step main clear a",
         ["a has no state to clear", "a clear is listed: b is to clear those of boot 1 up to id 0"],
+    ),
+    "a clear, by the kernel": (
+        "kernel clear\n" + WALLS + QUERY + "step main clear a",
+        ["a clear is listed: b is to clear all of boot 1, by kernel clear also past id 1"],
     ),
     "a third clear before a flush": (
         WALLS + QUERY + "step main clear a\nstep main clear a\nstep main clear a",

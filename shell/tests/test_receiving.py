@@ -111,6 +111,26 @@ class LastUses(unittest.TestCase):
             (came,) = self.came("", lines, node_b(0), (inserted(1, 60, rule), "imported 0"))
             self.assertEqual(came and came.state.rule, kept, (lines, rule))
 
+    def test_what_comes_as_an_update_has_no_rule_by_the_kernel(self) -> None:
+        """So its timeout is that of no rule: of 600 seconds 500 are left, and b's default is 60."""
+        lines = ("rule a pass out timeout udp.first 600", "rule b pass out timeout udp.first 600")
+        for words, whole, kept, last in (
+            *(("", "ins", 0, 900000), ("", "upd", 0, 900000), ("merge", "upd", 0, 900000), ("rule", "ins", 0, 900000)),
+            *(("rule", "upd", None, 1000000), ("rule expiry", "upd", None, 1440000), ("expiry", "upd", 0, 900000)),
+        ):
+            record = Record.read(f"{whole} 1.1 udp out {KEYS.format(1)} {SINGLE} udp.first 500 0 -".split())
+            (came,) = self.came(words, lines, node_b(1000000), (record, "imported 0"))
+            self.assertEqual(came and (came.state.rule, came.state.last), (kept, last), (words, whole))
+
+    def test_a_clear_has_no_bound_by_the_kernel(self) -> None:
+        """The last record meets two states of three by the profile, of which b's timeout is 45 s, and none by the kernel."""
+        lines = ("set astart 1", "set aend 5", *RULES)
+        records = [(inserted(it, 30), "imported 0") for it in (1, 2, 3, 4)]
+        for words, cleared, last in (("", "cleared 1", 85000), ("clear", "cleared 3", 70000)):
+            clear = Record(BY_WORD["clr"], ("1", "1")), cleared
+            came = self.came(words, lines, node_b(100000), *records[:3], clear, records[3])
+            self.assertEqual([it and it.state.last for it in came], [70000, 70000, 85000, None, last])
+
     def test_a_merge_is_a_use_by_the_kernel(self) -> None:
         """The class that comes has 30 s, and b's rule none of its own."""
         for words, remaining, wanted in (

@@ -16,6 +16,22 @@ ANSWERED = OPEN + SYN + SYNC + SYN_ACK + FLUSH
 # What the kernel does with a record instead.
 TAKES = "FreeBSD's kernel, as far as we know its sources, takes {}"
 COUNTS = "FreeBSD's kernel, as far as we know its sources, counts the last use differently: by kernel expiry {} (docs/REAL.md)"
+GIVES_NO_RULE = (
+    "FreeBSD's kernel, as far as we know its sources, gives no rule to what comes as an update: here {} (by kernel rule it has none, and the "
+    "default timeouts; docs/REAL.md)"
+)
+# An echo whose answer comes over b: a's next update is behind it.
+ECHO = (
+    OPEN + "step main packet a out icmp 10.0.0.1:7 192.0.2.9:7 64\n" + SYNC + "step main packet b in icmp 192.0.2.9:7 10.0.0.1:7 64\n"
+    "step main packet a out icmp 10.0.0.1:7 192.0.2.9:7 64\n" + FLUSH + "step main deliver 2"
+)
+NO_LEVELS = "FreeBSD's kernel, as far as we know its sources, has no levels of ICMP, so that nothing of 1.1 is stale (by kernel icmp; docs/REAL.md)"
+# An echo and its answer; before a's update of them comes, b sees them too, and one more echo, which lifts the end that answered.
+ECHO_AFTER_ANSWER = (
+    OPEN + "step main packet a out icmp 10.0.0.1:7 192.0.2.9:7 64\n" + SYNC + "step main packet a in icmp 192.0.2.9:7 10.0.0.1:7 64\n" + FLUSH
+    + "step main packet b in icmp 192.0.2.9:7 10.0.0.1:7 64\nstep main packet b out icmp 10.0.0.1:7 192.0.2.9:7 64\nstep main deliver 2"
+)
+CLEARS = "FreeBSD's kernel, as far as we know its sources, clears {} too, since a clear has no bound there (by kernel clear; docs/REAL.md)"
 # A connection is closed at both nodes, and the next one has its ports: a frame inserts the new state, and deletes the old one.
 CLOSED_THEN_NEW = OPEN + SYN + SYN_ACK + RESET + SYNC + SYN + FLUSH + "step main deliver 2"
 # B restarts and asks; the start comes with 1.1 in frame 3, which is lost, and the end with 1.2 in frame 4, which is in flight.
@@ -162,11 +178,65 @@ CASES: Cases = {
     ),
     "bad, the deletion is to be told": (
         OPEN + QUERY + FLUSH + "step main repeat 1\nstep main deliver 1\nstep main kill b 1.1\nstep main deliver 2",
-        ["1. insert 1.1: bad: b has deleted the state, and has yet to report that"],
+        [
+            "1. insert 1.1: bad: b has deleted the state, and has yet to report that",
+            TAKES.format("over 1.1, although the deletion is pending (by kernel revive; docs/REAL.md)"),
+        ],
     ),
     "bad, the table is full": (
         "set states 1\n" + OPEN + QUERY + SECOND.replace(" a ", " b ") + SYNC,
         ["1. insert 1.1: bad: the state table of b is full: the limit `states` is 1"],
+    ),
+    "bad, the deletion is to be told, and another state has the key": (
+        # The next packet makes state 2.1 at b.
+        OPEN + QUERY + FLUSH + "step main repeat 1\nstep main deliver 1\nstep main kill b 1.1\n"
+        + QUERY.replace(" a ", " b ") + "step main deliver 2",
+        ["1. insert 1.1: bad: b has deleted the state, and has yet to report that"],
+    ),
+    "stale, of ICMP": (
+        ECHO,
+        [
+            "1. short update 1.1: stale: the source end came as level 1, and is level 2 here; the destination end came as level 0, and is level 1 "
+            "here; b has its own state queued for a already (short update)",
+            NO_LEVELS,
+        ],
+    ),
+    "stale in the destination alone, of ICMP": (
+        # That the kernel takes a stale destination says nothing here: by its levels none is stale.
+        ECHO_AFTER_ANSWER,
+        [
+            "1. short update 1.1: merged in part, counted as stale: the source end is taken; the destination end came as level 1, and is level 2 "
+            "here; last used at 0 ms; b has its own state queued for a already (short update)",
+            NO_LEVELS,
+        ],
+    ),
+    "cleared, and spared": (
+        # The frame has the insertion first.
+        OPEN + QUERY + SYNC + "step main clear a\n" + SECOND + FLUSH + "step main deliver 2",
+        [
+            "2. clear: b cleared 1 state of boot 1 up to id 1: 1.1",
+            CLEARS.format("1.2"),
+        ],
+    ),
+    "cleared, and spared by two": (
+        OPEN + QUERY + SYNC + "step main clear a\n" * 2 + SECOND + FLUSH + "step main deliver 2",
+        [
+            "2. clear: b cleared 1 state of boot 1 up to id 1: 1.1",
+            "3. clear: b cleared 0 states of boot 1 up to id 1",
+            CLEARS.format("1.2"),
+        ],
+    ),
+    "cleared, and many spared": (
+        OPEN + QUERY + SYNC + "step main clear a\n" + "".join(SECOND.replace("0.2:", f"0.{it}:") for it in range(2, 10)) + FLUSH
+        + "step main deliver 2",
+        [
+            "9. clear: b cleared 1 state of boot 1 up to id 1: 1.1",
+            CLEARS.format("1.2, 1.3, 1.4, 1.5, 1.6, 1.7 and 2 more"),
+        ],
+    ),
+    "cleared, and nothing is newer": (
+        OPEN + QUERY + SECOND + SYNC + "step main clear a\n" + FLUSH + "step main deliver 2",
+        ["1. clear: b cleared 2 states of boot 1 up to id 2: 1.1, 1.2"],
     ),
     "deleted": (
         OPEN + QUERY + SYNC + "step main kill a 1.1\nstep main flush a\nstep main deliver 2",
@@ -216,7 +286,7 @@ CASES: Cases = {
             "step main turn a\nstep main flush a\nstep main deliver 3"
         )[0]
         + "step main turn a\nstep main flush a\nstep main deliver 3",
-        ["2. bulk status start: the bulk update begins, and b continues to wait for its end"],
+        ["2. bulk status start: the bulk update begins, and b continues to wait for its end", GIVES_NO_RULE.format("1.1 keeps rule 0")],
     ),
     "the end of a bulk update without its start": (
         UNHEARD + "step main deliver 4",
@@ -225,6 +295,7 @@ CASES: Cases = {
             "2. bulk status end: the server says that it is at the end; b, which was waiting, no longer waits, whatever arrived",
             "b has not heard the start since it asked for all states (event 5, `restart b`): frame 3, which had it, was lost "
             "(event 10)",
+            GIVES_NO_RULE.format("1.2 keeps rule 0"),
         ],
     ),
     "the end of a bulk update after the start of an older one": (
@@ -235,14 +306,16 @@ CASES: Cases = {
         + "step main lose 6\nstep main turn a\nstep main flush a\nstep main deliver 7",
         [
             "b has not heard the start since it asked for all states (event 14, `retry b`): frame 6, which had it, was lost "
-            "(event 19)"
+            "(event 19)",
+            GIVES_NO_RULE.format("1.2 keeps rule 0"),
         ],
     ),
     "the end of a bulk update before its start": (
         UNHEARD.replace("step main lose 3\n", "") + "step main deliver 4",
         [
             "b has not heard the start since it asked for all states (event 5, `restart b`): frame 3, which has it, "
-            "is still in flight"
+            "is still in flight",
+            GIVES_NO_RULE.format("1.2 keeps rule 0"),
         ],
     ),
     "an end that nobody waits for": (

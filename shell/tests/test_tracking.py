@@ -212,9 +212,12 @@ class Judged(unittest.TestCase):
             self.assertEqual(started(kernel(words), read_packet(packet_line(f"client {packet}"))), (source, SILENT, "tcp.first"), packet)
         begun = started(PROFILE, read_packet(packet_line("client FA 4294967295 5 9 10")))
         self.assertEqual(begun, (End(2, None, 9, 4294967295, 11), SILENT, "tcp.first"))
-        for protocol, of in (("udp", "udp"), ("icmp", "icmp"), ("47", "other")):
-            begun = started(kernel("all"), read_packet(f"packet a out {protocol} 10.0.0.1:7 192.0.2.9:7 40"))
-            self.assertEqual(begun, (End(1, None, 0, 0, 0), SILENT, f"{of}.first"))
+        for words, protocol, of, level in (
+            *(("all", "udp", "udp", 1), ("all", "icmp", "icmp", 0), ("all", "47", "other", 1)),
+            *(("", "icmp", "icmp", 1), ("icmp", "icmp", "icmp", 0), ("scale rule", "icmp", "icmp", 1), ("icmp", "58", "other", 1)),
+        ):
+            begun = started(kernel(words), read_packet(f"packet a out {protocol} 10.0.0.1:7 192.0.2.9:7 40"))
+            self.assertEqual(begun, (End(level, None, 0, 0, 0), SILENT, f"{of}.first"), (words, protocol))
 
     def test_class_and_last_use(self) -> None:
         for words, ends, packet, wanted in (
@@ -240,6 +243,18 @@ class Judged(unittest.TestCase):
                 after = moved(kernel(words), after, read_packet(f"packet a {way} 40"), 9)
                 found.append(after and (after.source.level, after.destination.level, after.timeout_class, after.last))
             self.assertEqual(found, [(2, 1, "udp.single", 9), (2, 2, "udp.multiple", 9)])
+
+    def test_echoes_have_no_levels_by_the_kernel(self) -> None:
+        """Class and last use are as ever."""
+        for words, begun, wanted in (("", 1, [(2, 1), (2, 2)]), ("window", 1, [(2, 1), (2, 2)]), ("icmp", 0, [(0, 0)] * 2), ("all", 0, [(0, 0)] * 2)):
+            keys = Key("192.0.2.9:7", "10.0.0.1:7")
+            begins = replace(state((End(begun, None, 0, 0, 0), SILENT), "icmp.first"), protocol="icmp", wire=keys, stack=keys)
+            after: Optional[State] = begins
+            for way, levels in zip(("in icmp 192.0.2.9:7 10.0.0.1:7", "out icmp 10.0.0.1:7 192.0.2.9:7"), wanted):
+                assert after
+                after = moved(kernel(words), after, read_packet(f"packet a {way} 40"), 9)
+                found = after and (after.source.level, after.destination.level, after.timeout_class, after.last)
+                self.assertEqual(found, (*levels, "icmp.error", 9), words)
 
 
 class Tests(unittest.TestCase):

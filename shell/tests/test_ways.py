@@ -7,11 +7,15 @@ import unittest
 from dataclasses import replace
 from typing import List, Optional, Sequence, Tuple
 
+from ..captures.decoding import Ends as Flow, Peer, Record
+from ..inferring.causes import wanted as wanted_of
 from ..inferring.ways import Wanted, Way, way_to
 from ..language.commands import OPEN
 from ..language.events import read_packet
 from ..language.names import Name
 from ..language.packets import CIRCLE, Key, PacketEvent
+from ..language.records import UPDATE
+from ..language.setups import ICMP
 from ..link.programs import run_lines
 from ..model.kernels import EVERY, PROFILE, Kernel
 from ..model.pair import read_shown
@@ -177,6 +181,23 @@ class Keys(unittest.TestCase):
         self.assertEqual(self.packets("icmp", "out", echo, echo, (0, 0)), ["packet b out icmp 10.0.0.1:77 192.0.2.9:77 40"])
         tunnel = Key("192.0.2.9:7", "10.0.0.1:8")
         self.assertEqual(self.packets("47", "in", tunnel, tunnel, (1, 0)), ["packet b in 47 192.0.2.9:0 10.0.0.1:0 40"])
+
+    def test_echoes_have_no_levels_by_the_kernel(self) -> None:
+        """Then what a record tells is what a packet leads to; by the profile its class says how many came."""
+        echo, nothing = Key("192.0.2.9:77", "10.0.0.1:77"), Peer(0, 0, 0, 0, 0, None)
+        by_icmp = PROFILE.with_words(["icmp"])
+        for kernel, timeout, levels, packets in (
+            *((PROFILE, 9, (1, 0), 1), (PROFILE, 10, (2, 1), 2), (EVERY.without(ICMP), 10, (2, 1), 2)),
+            *((by_icmp, 9, (0, 0), 1), (by_icmp, 10, (0, 0), 1), (EVERY, 10, (0, 0), 1)),
+        ):
+            goal = wanted_of(kernel, Flow("icmp", "out", echo, echo), Record(UPDATE, 1, 1, nothing, nothing, 10, timeout, b""))
+            assert goal
+            self.assertEqual((goal.source.level, goal.destination.level), levels)
+            way = way_to(kernel, "a", None, goal)
+            self.assertEqual((len(way.packets), way.missed, way.state and (way.state.source, way.state.destination)), (packets, "", goal[4:]))
+        # Of ICMPv6, which is another protocol here, it is as by the profile.
+        goal = wanted_of(EVERY, Flow("58", "out", echo, echo), Record(UPDATE, 1, 1, nothing, nothing, 10, 10, b""))
+        self.assertEqual(goal and (goal.source.level, goal.destination.level), (2, 1))
 
     def test_levels_of_other_protocols(self) -> None:
         source, destination = End(1, None, 0, 0, 0), End(2, None, 0, 0, 0)

@@ -306,6 +306,8 @@ class Groups(Tries):
                 "",
                 "2  1 fault: every packet and state as it was",
                 "   without event 4 (restart a)",
+                # (by `kernel rule` a's state has no rule after the restart, and b's has one)
+                f"   by kernel all: at the end the same on a and b: {FLOW}",
             ],
         )
 

@@ -33,6 +33,11 @@ abbrev pub is_tcp : Proto → Bool
 is_tcp Tcp = true
 is_tcp _ = false
 
+-- the protocol is ICMP
+abbrev pub is_icmp : Proto → Bool
+is_icmp Icmp = true
+is_icmp _ = false
+
 -- the protocol has ports: TCP and UDP
 abbrev pub has_ports : Proto → Bool
 has_ports Tcp = true

@@ -1,5 +1,6 @@
 -- The deletion of a state: what stays a node's parts on the way, what is announced to the peer, and what is left alone.
-use Rattle.std.specs.Prelude.{◌≡◌, ◌≤◌, ℕ, ◌+◌, ◌-◌, Bool, true, false, not, ◌&&◌, Option, Some, None, refl}
+use Rattle.std.specs.Prelude.{◌≡◌, ◌≤◌, ℕ, ◌+◌, ◌-◌, Bool, true, false, not, ◌||◌, Option, Some, None, refl}
+use Rattle.std.specs.Option.{option_map}
 use Rattle.std.proofs.Common.{cond, ◌∙◌, ap, sym, subst, arith, inl, inr}
 use Rattle.pfl_base.specs.declared.state_name.StateName.{StateName}
 use Rattle.pfl_base.specs.Names.{name_cmp}
@@ -11,12 +12,14 @@ use Rattle.pfl_rules.specs.Rules.{Rules}
 use Rattle.pfl_track.specs.declared.state.State.{State}
 use Rattle.pfl_table.specs.Tables.{States}
 use Rattle.pfl_table.proofs.ForCallers.{AreStates-without}
-use Rattle.pfl_queue.specs.declared.Kind.TheVariants.{Delete}
+use Rattle.pfl_queue.specs.declared.Kind.{Kind}
+use Rattle.pfl_queue.specs.declared.Kind.TheVariants.{Insert, Delete}
 use Rattle.pfl_queue.specs.declared.Mark.{Mark}
-use Rattle.pfl_queue.specs.Queues.{Queue, kind_of, unmarked}
+use Rattle.pfl_queue.specs.Queues.{Queue, kind_of, marked, unmarked}
 use Rattle.pfl_queue.proofs.ForCallers.{unmarked_kept, unmarked_absent, kept}
 use Rattle.pfl_language.specs.declared.limits.Limits.{Limits}
-use Rattle.pfl_desk.specs.Changes.{without_state, mark, unmark, is_held, is_insert, lost, count_lost, without_held, deleted, deletion_announced, forgotten}
+use Rattle.pfl_desk.specs.Changes.{without_state, mark, unmark, withdraw, is_held, is_insert, is_delete, lost, count_lost, without_held, deleted}
+use Rattle.pfl_desk.specs.Changes.{deletion_announced, forgotten}
 use Rattle.pfl_desk.specs.Nodes.{Node, AreParts}
 use Rattle.pfl_desk.proofs.Keeps.{keeps_states, keeps_queue}
 use Rattle.pfl_desk.proofs.Putting.{IsTold, rightly-still}
@@ -33,9 +36,10 @@ less : (b : Bool) (k l : ℕ) → k ≤ l → cond b (k - 1) k ≤ l
 less true k l h = omega arith
 less false k l h = h
 
--- a state less, that is on no queue
-without-node : (n : Node) (name : StateName) → AreParts n → maps.get n.queue.marks name ≡ None → AreParts (without_state n name)
-without-node n name is free =
+-- a state less, whose name is on no queue but that of deletions
+without-node : (n : Node) (name : StateName) → AreParts n → ((k : Mark) → maps.get n.queue.marks name ≡ Some k → k.kind ≡ Delete)
+    → AreParts (without_state n name)
+without-node n name is deletes =
     keeps_states n (maps.remove n.states name) is (AreStates-without n.states name is.states)
     (subst (λ (k : ℕ). k ≤ n.limits.states) (sym (len-remove names_total n.states name))
     (less (maps.contains_key n.states name) (maps.len n.states) n.limits.states is.few))
@@ -44,51 +48,89 @@ without-node n name is free =
       | inr other ↦ is.each q s other.1
     ])
     (λ q k at. elim (key_cases names_total names_exact q name) [
-      | inl same ↦ absurd (some_is_none k (sym at ∙ (ap (maps.get n.queue.marks) same ∙ free)))
+      | inl same ↦
+          let gone = ap (maps.get (maps.remove n.states name)) same ∙ get-set_at_same names_total names_exact n.states name None in
+          (λ none. deletes k (ap (maps.get n.queue.marks) (sym same) ∙ at), (λ off told. gone, subst IsTold (sym gone) tt))
       | inr other ↦ rightly-still n (maps.remove n.states name) q k (get-set_at_other names_total names_exact n.states name None q other) (is.marks q k at).1
     ])
 
--- a name off its queue, and its state out
-pub taken_out-node : (n : Node) (name : StateName) → AreParts (unmark n name) → AreParts (without_state (unmark n name) name)
-taken_out-node n name is = without-node (unmark n name) name is (get-set_at_same names_total names_exact n.queue.marks name None)
+deletes_only : (kind : Kind) → is_delete (Some kind) ≡ true → kind ≡ Delete
+deletes_only Delete e = refl
+deletes_only other e = absurd (cc)
+
+-- a name that was taken off its queue, unless that is the one of deletions, is on no other
+withdrawn-deletes : (n : Node) (name : StateName) (k : Mark) → maps.get (withdraw n name).queue.marks name ≡ Some k → k.kind ≡ Delete
+withdrawn-deletes n name k = by (is_delete (kind_of n.queue name)) refl
+  where
+    by : (b : Bool) → is_delete (kind_of n.queue name) ≡ b → maps.get (cond b n.queue (unmarked n.queue name)).marks name ≡ Some k → k.kind ≡ Delete
+    by true is at = deletes_only k.kind (sym (ap (λ (o : Option Mark). is_delete (option_map (λ (m : Mark). m.kind) o)) at) ∙ is)
+    by false is at = absurd (some_is_none k (sym at ∙ get-set_at_same names_total names_exact n.queue.marks name None))
+
+-- and its state out
+pub taken_out-node : (n : Node) (name : StateName) → AreParts (withdraw n name) → AreParts (without_state (withdraw n name) name)
+taken_out-node n name is = without-node (withdraw n name) name is (withdrawn-deletes n name)
+
+-- a name on no queue stays so
+pub withdrawn-none : (n : Node) (name : StateName) → kind_of n.queue name ≡ None → n ≡ withdraw n name
+withdrawn-none n name none =
+    ap (λ (q : Queue). record n { queue = q }) (unmarked_absent n.queue name (by (maps.get n.queue.marks name) none))
+    ∙ ap (λ (b : Bool). record n { queue = cond b n.queue (unmarked n.queue name) }) (sym (ap is_delete none))
+  where
+    by : (o : Option Mark) → option_map (λ (m : Mark). m.kind) o ≡ None → o ≡ None
+    by None e = refl
+    by (Some m) e = absurd (cc)
 
 -- ---- what is announced
 
--- the deletion of a state is announced to the peer
-abbrev pub is_deletion_announced : Node → State → Bool
-is_deletion_announced n s = not (is_insert (kind_of n.queue s.name)) && not s.no_sync
+-- the deletion of a state on this queue is announced to the peer
+abbrev pub is_deletion_announced : Option Kind → State → Bool
+is_deletion_announced kind s = not (is_insert kind || is_delete kind || s.no_sync)
 
 -- the name ends on the deletions
-pub gone-told : (n : Node) (s : State) → is_deletion_announced n s ≡ true
-    → deletion_announced (without_state n s.name) s ≡ mark (unmark (without_state n s.name) s.name) s.name Delete
+pub gone-told : (n : Node) (s : State) → is_deletion_announced (kind_of n.queue s.name) s ≡ true
+    → deletion_announced (without_state n s.name) s ≡ mark (withdraw (without_state n s.name) s.name) s.name Delete
 gone-told n s told =
-    by (is_insert (kind_of n.queue s.name)) s.no_sync (unmark (without_state n s.name) s.name) (without_state n s.name) _ told
-    ∙ ap (λ (m : Map name_cmp Mark). record (without_state n s.name) { queue = record n.queue { next = n.queue.next + 1; marks = m } })
+    let m = without_state n s.name in
+    by m (is_insert (kind_of n.queue s.name)) (is_delete (kind_of n.queue s.name)) s.no_sync
+    (ap (λ (k : Map name_cmp Mark). record m { queue = record n.queue { next = n.queue.next + 1; marks = k } })
     (sym (set_at-set_at names_total names_exact n.queue.marks s.name None
-    (Some (record { name = s.name; kind = Delete; number = n.queue.next }))))
+    (Some (record { name = s.name; kind = Delete; number = n.queue.next }))))) told
   where
-    by : (a b : Bool) (x y z : Node) → (not a && not b) ≡ true → cond a x (cond b y z) ≡ z
-    by true b x y z e = absurd (cc)
-    by false true x y z e = absurd (cc)
-    by false false x y z e = refl
+    by : (m : Node) (a d b : Bool) → mark m s.name Delete ≡ mark (unmark m s.name) s.name Delete → not (a || d || b) ≡ true
+        → cond a (unmark m s.name) (cond b m (record m { queue = cond d m.queue (marked m.queue s.name Delete) }))
+        ≡ mark (record m { queue = cond d m.queue (unmarked m.queue s.name) }) s.name Delete
+    by m true d b same e = absurd (cc)
+    by m false true b same e = absurd (cc)
+    by m false false true same e = absurd (cc)
+    by m false false false same e = same
 
 no_mark : (n : Node) (s : State) → AreParts n → maps.get n.states s.name ≡ Some s → s.no_sync ≡ true → (o : Option Mark)
     → maps.get n.queue.marks s.name ≡ o → o ≡ None
 no_mark n s is stands quiet None at = refl
-no_mark n s is stands quiet (Some k) at = let told = subst IsTold stands (is.marks s.name k at).1.1 in absurd (cc)
+no_mark n s is stands quiet (Some k) at = let told = subst IsTold stands (is.marks s.name k at).1.1.1 in absurd (cc)
 
--- or on no queue
-pub gone-unannounced : (n : Node) (s : State) → AreParts n → maps.get n.states s.name ≡ Some s → is_deletion_announced n s ≡ false
-    → deletion_announced (without_state n s.name) s ≡ unmark (without_state n s.name) s.name
+insert-no_delete : (o : Option Kind) → is_insert o ≡ true → is_delete o ≡ false
+insert-no_delete (Some Insert) e = refl
+insert-no_delete other e = absurd (cc)
+
+-- or where it is already, or on no queue
+pub gone-unannounced : (n : Node) (s : State) → AreParts n → maps.get n.states s.name ≡ Some s
+    → is_deletion_announced (kind_of n.queue s.name) s ≡ false
+    → deletion_announced (without_state n s.name) s ≡ withdraw (without_state n s.name) s.name
 gone-unannounced n s is stands told =
-    by (is_insert (kind_of n.queue s.name)) s.no_sync (unmark (without_state n s.name) s.name) (without_state n s.name) _ told
-    (λ quiet. ap (λ (q : Queue). record (without_state n s.name) { queue = q })
-    (unmarked_absent n.queue s.name (no_mark n s is stands quiet (maps.get n.queue.marks s.name) refl)))
+    let m = without_state n s.name in
+    by m (is_insert (kind_of n.queue s.name)) (is_delete (kind_of n.queue s.name)) s.no_sync (insert-no_delete (kind_of n.queue s.name))
+    (λ quiet. ap (λ (q : Queue). record m { queue = q }) (unmarked_absent n.queue s.name (no_mark n s is stands quiet (maps.get n.queue.marks s.name) refl)))
+    told
   where
-    by : (a b : Bool) (x y z : Node) → (not a && not b) ≡ false → (b ≡ true → y ≡ x) → cond a x (cond b y z) ≡ x
-    by true b x y z e f = refl
-    by false true x y z e f = f refl
-    by false false x y z e f = absurd (cc)
+    by : (m : Node) (a d b : Bool) → (a ≡ true → d ≡ false) → (b ≡ true → m ≡ unmark m s.name) → not (a || d || b) ≡ false
+        → cond a (unmark m s.name) (cond b m (record m { queue = cond d m.queue (marked m.queue s.name Delete) }))
+        ≡ record m { queue = cond d m.queue (unmarked m.queue s.name) }
+    by m true d b apart absent e = ap (λ (k : Bool). record m { queue = cond k m.queue (unmarked m.queue s.name) }) (sym (apart refl))
+    by m false true true apart absent e = refl
+    by m false true false apart absent e = refl
+    by m false false true apart absent e = absent refl
+    by m false false false apart absent e = absurd (cc)
 
 -- ---- what it leaves alone
 
@@ -115,7 +157,7 @@ pub deleted-is : (n : Node) (s : State) → deleted n s ≡ deletion_announced (
 unfolding deleted
 deleted-is n s = refl
 
-pub forgotten-is : (n : Node) (name : StateName) → forgotten n name ≡ unmark (without_state (lost n name) name) name
+pub forgotten-is : (n : Node) (name : StateName) → forgotten n name ≡ withdraw (without_state (lost n name) name) name
 unfolding forgotten
 forgotten-is n name = refl
 

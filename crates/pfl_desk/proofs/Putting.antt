@@ -29,10 +29,11 @@ IsTold at = IfSome at (λ s. s.no_sync ≡ false)
 pub rightly-still : (n : Node) (m : States) (name : StateName) (k : Mark) → maps.get m name ≡ maps.get n.states name
     → MarksRightly n name k → MarksRightly (record n { states = m }) name k
 rightly-still n m name k still rightly =
-    ((λ gone. still ∙ rightly.0.0 gone, λ none. rightly.0.1 (sym still ∙ none)), subst IsTold (sym still) rightly.1)
+    (λ none. rightly.0 (sym still ∙ none), (λ off gone. still ∙ rightly.1.0 off gone, subst IsTold (sym still) rightly.1.1))
 
 pub put-node : (n : Node) (s : State) → AreParts n → OwnsKeys n.states s → maps.len (maps.insert n.states s.name s) ≤ n.limits.states → IsNodeState n s
-    → ((k : Mark) → maps.get n.queue.marks s.name ≡ Some k → (k.kind ≢ Delete) × (s.no_sync ≡ false)) → AreParts (put_state n s)
+    → ((k : Mark) → maps.get n.queue.marks s.name ≡ Some k → (n.limits.kernel.revive ≡ false → k.kind ≢ Delete) × (s.no_sync ≡ false))
+    → AreParts (put_state n s)
 put-node n s is owns few it kinds =
     let m = maps.insert n.states s.name s in
     keeps_states n m is (AreStates-with n.states s is.states owns) few
@@ -44,7 +45,7 @@ put-node n s is owns few it kinds =
       | inl same ↦
           let stands = ap (maps.get m) same ∙ get-set_at_same names_total names_exact n.states s.name (Some s) in
           let facts = kinds k (ap (maps.get n.queue.marks) (sym same) ∙ at) in
-          ((λ gone. absurd (facts.0 gone), λ none. absurd (some_is_none s (sym stands ∙ none))), subst IsTold (sym stands) facts.1)
+          (λ none. absurd (some_is_none s (sym stands ∙ none)), (λ off gone. absurd (facts.0 off gone), subst IsTold (sym stands) facts.1))
       | inr other ↦ rightly-still n m name k (get-set_at_other names_total names_exact n.states s.name (Some s) name other) (is.marks name k at).1
     ])
 
@@ -58,7 +59,7 @@ replaced-node n s is may =
     (let few = is.few in omega (arith, same, few)) may.is
     (λ k at.
     let rightly = (is.marks s.name k at).1 in
-    (λ gone. some_is_none may.former (sym may.stands ∙ rightly.0.0 gone), may.no_sync ∙ subst IsTold may.stands rightly.1))
+    (λ off gone. some_is_none may.former (sym may.stands ∙ rightly.1.0 off gone), may.no_sync ∙ subst IsTold may.stands rightly.1.1))
 
 -- ---- marks
 
@@ -81,9 +82,9 @@ pub told-may : (n : Node) (name : StateName) (kind : Kind) (s : State) → maps.
     → IsGiven n name → kind ≢ Delete → MayMark n name kind
 told-may n name kind s there told given other = record {
   given = given;
-  rightly = ((λ gone. absurd (other gone), λ none. absurd (some_is_none s (sym there ∙ none))), subst IsTold (sym there) told);
+  rightly = (λ none. absurd (some_is_none s (sym there ∙ none)), (λ off gone. absurd (other gone), subst IsTold (sym there) told));
 }
 
 -- a name without a state may be on that
 pub gone-may : (n : Node) (name : StateName) → maps.get n.states name ≡ None → IsGiven n name → MayMark n name Delete
-gone-may n name none given = record { given = given; rightly = ((λ gone. none, λ nothing. refl), subst IsTold (sym none) tt) }
+gone-may n name none given = record { given = given; rightly = (λ nothing. refl, (λ off gone. none, subst IsTold (sym none) tt)) }

@@ -132,7 +132,8 @@ counted n s =
     then push_if (nat_le n.limits.maxupd (min 255 (s.updates + 1))) (put_state n (record s { updates = min 255 (s.updates + 1) }))
     else put_state n s
 
--- the state is announced to the peer by an update, which stands for all that are not sent yet
+-- the state is announced to the peer by an update, which stands for all that are not sent yet; not while its deletion is pending, as it
+-- may be with `revive`
 abbrev pub told : Node → State → Node
 told n s = if is_unannounced (kind_of n.queue s.name) then mark (put_state n (record s { updates = 0 })) s.name UpdateShort else counted n s
 
@@ -145,14 +146,28 @@ abbrev pub is_insert : Option Kind → Bool
 is_insert (Some Insert) = true
 is_insert _ = false
 
+-- its deletion is still to be announced
+abbrev pub is_delete : Option Kind → Bool
+is_delete (Some Delete) = true
+is_delete _ = false
+
+-- the deletion of the name is announced, once: where it is pending already, as it may be with `revive`, it stays in its place
+abbrev pub mark_deletion : Node → StateName → Node
+mark_deletion n name = record n { queue = if is_delete (kind_of n.queue name) then n.queue else marked n.queue name Delete }
+
 -- what the peer has not heard of is forgotten; else the deletion is announced
 abbrev pub deletion_announced : Node → State → Node
-deletion_announced n s = if is_insert (kind_of n.queue s.name) then unmark n s.name else if s.no_sync then n else mark n s.name Delete
+deletion_announced n s =
+    if is_insert (kind_of n.queue s.name) then unmark n s.name else if s.no_sync then n else mark_deletion n s.name
 
 -- the node without its state s, by itself
 unfoldable pub deleted : Node → State → Node
 deleted n s = deletion_announced (without_state (lost n s.name) s.name) s
 
+-- the name on no queue, but that of deletions, where it stays
+abbrev pub withdraw : Node → StateName → Node
+withdraw n name = record n { queue = if is_delete (kind_of n.queue name) then n.queue else unmarked n.queue name }
+
 -- the node without the state of the name, unannounced
 unfoldable pub forgotten : Node → StateName → Node
-forgotten n name = unmark (without_state (lost n name) name) name
+forgotten n name = withdraw (without_state (lost n name) name) name

@@ -1,5 +1,5 @@
 -- A node of the pair, and what is true of each (pf.c, if_pfsync.c; what limits an event is this project's profile).
-use Rattle.std.specs.Prelude.{◌≡◌, ◌≤◌, ◌<◌, ◌+◌, ℕ, Bool, false, nat_lt, List, [], ◌∷◌, length, find, Option, Some, None, Result, Ok, Err, IfSome, ◌↔◌}
+use Rattle.std.specs.Prelude.{◌≡◌, ◌≤◌, ◌<◌, ◌+◌, ℕ, Bool, false, nat_lt, List, [], ◌∷◌, length, find, Option, Some, None, Result, Ok, Err, IfSome}
 use Rattle.std.specs.List.{list_any, slice_get}
 use Rattle.std.specs.Option.{option_map}
 use Rattle.pfl_base.specs.declared.class.Class.{Class}
@@ -132,9 +132,13 @@ most_left = 4294967295000
 abbrev pub LeftFits : Node → State → Type 0
 LeftFits n s = expiry s (timeout n.rules s.rule s.class) ≤ n.clock + most_left
 
--- a mark of a deletion names no state, every other mark names one, and never one with `no-sync` (pf.conf(5))
+-- a mark that names no state is of a deletion; by this project's profile a deletion names none, while with `revive` the peer may have
+-- given the state back since (if_pfsync.c, as far as we know it); a state with `no-sync` is never named (pf.conf(5))
 abbrev pub MarksRightly : Node → StateName → Mark → Type 0
-MarksRightly n name m = ((m.kind ≡ kind.Delete) ↔ (maps.get n.states name ≡ None)) × IfSome (maps.get n.states name) (λ s. s.no_sync ≡ false)
+MarksRightly n name m =
+    (maps.get n.states name ≡ None → m.kind ≡ kind.Delete)
+    × ((n.limits.kernel.revive ≡ false → m.kind ≡ kind.Delete → maps.get n.states name ≡ None)
+    × IfSome (maps.get n.states name) (λ s. s.no_sync ≡ false))
 
 -- since when a server runs
 abbrev pub ServesSince : Node → BulkServer → Type 0

@@ -1,5 +1,5 @@
 -- What the records of a frame do to a node, one after another, and what a frame does that cannot be read.
-use Rattle.std.specs.Prelude.{◌≡◌, ◌≤◌, ◌⊎◌, ◌==◌, ℕ, Bool, true, false, ◌&&◌, ◌||◌, nat_le, List, [], ◌∷◌, All, filter, Option, Some, None}
+use Rattle.std.specs.Prelude.{◌≡◌, ◌≤◌, ◌⊎◌, ◌==◌, ◌-◌, ◌^◌, ℕ, Bool, true, false, ◌&&◌, ◌||◌, nat_le, List, [], ◌∷◌, All, filter, Option, Some, None}
 use Rattle.std.specs.Prelude.{is_some, IsOkAnd, Result, Ok, Err, refl}
 use Rattle.std.specs.List.{fold}
 use Rattle.std.specs.Option.{option_map_or}
@@ -25,13 +25,13 @@ use Rattle.pfl_world.specs.merge.declared.merged.Merged.{Merged}
 use Rattle.pfl_world.specs.queue.Queues.{kind_of}
 use Rattle.pfl_world.specs.defer.declared.Held.{Held}
 use Rattle.pfl_world.specs.desk.Nodes.{Node, timeout_at}
-use Rattle.pfl_world.specs.desk.Changes.{put_state, push_if, count_broken, count_stale, count_freed, count_lost, without_held}
+use Rattle.pfl_world.specs.desk.Changes.{put_state, push_if, count_broken, count_stale, count_freed, count_lost, without_held, is_delete}
 use Rattle.pfl_world.specs.desk.Changes.{is_held, is_unannounced, freed, lost, released, changed, forgotten}
 use Rattle.pfl_world.specs.receive.declared.decision.Decision.{Decision}
 use Rattle.pfl_world.specs.receive.declared.decision.Decision.TheVariants.{Bad, Import, Merge, Ask, Queue, Serve, Release, Delete, Clear, Hear, Nothing}
 use Rattle.pfl_world.specs.merge.declared.received.Received.{Received}
 use Rattle.pfl_world.specs.receive.Bringing.{name_in, received_in}
-use Rattle.pfl_world.specs.receive.Receiving.{clear_taken, cleared_names, decided, does, merged_into, taken}
+use Rattle.pfl_world.specs.receive.Receiving.{clear_bound, clear_taken, cleared_names, decided, does, merged_into, taken}
 use Rattle.pfl_world.proofs.ForCallers.node.{taken-apart}
 use Rattle.pfl_world.proofs.ForCallers.receive.{RestsOn, deletes, rests}
 use Rattle.pfl_world.specs.receive.Delivering.{same_rules}
@@ -95,7 +95,7 @@ merged-ids n x =
 does-ids : (n : Node) (d : Decision) → ids (does n d) ≡ ids n
 unfolding does
 does-ids n (Bad why) = refl
-does-ids n (Import s ack) = ids-either (ids n) ack _ _ refl refl
+does-ids n (Import s ack) = ids-either (ids n) ack _ _ (ids-either (ids n) (is_delete (kind_of n.queue s.name)) _ _ refl refl) refl
 does-ids n (Merge x) = merged-ids (lost n x.state.name) x ∙ lost-ids n x.state.name
 does-ids n (Ask name) = refl
 does-ids n (Queue name) = refl
@@ -114,16 +114,16 @@ taken-ids n b m = does-ids n (decided n b m)
 
 -- it stays, or the record let it go
 abbrev Stays : Node → Message → Held → Node → Type 0
-Stays n m h k = Holds k h ⊎ LetsOut m h.name
+Stays n m h k = Holds k h ⊎ LetsOut n.limits.kernel m h.name
 
 stays-either : (n : Node) (m : Message) (h : Held) (b : Bool) (x y : Node) → Stays n m h x → Stays n m h y → Stays n m h (cond b x y)
 stays-either n m h true x y k l = k
 stays-either n m h false x y k l = l
 
 -- a packet of another name stays, and one of this name goes for a reason
-out : (n k : Node) (m : Message) (name : StateName) (h : Held) → k.held ≡ without n.held name → LetsOut m name → Holds n h → Stays n m h k
+out : (n k : Node) (m : Message) (name : StateName) (h : Held) → k.held ≡ without n.held name → LetsOut n.limits.kernel m name → Holds n h → Stays n m h k
 out n k m name h held reason holds = elim (key_cases names_total names_exact h.name name) [
-  | inl same ↦ inr (subst (LetsOut m) (sym same) reason)
+  | inl same ↦ inr (subst (LetsOut n.limits.kernel m) (sym same) reason)
   | inr other ↦ inl (other-holds h n k name held other holds)
 ]
 
@@ -154,57 +154,66 @@ clear-stays creator bound (name ∷ names) n h holds =
     ]
     by false e rest = rest n holds
 
--- a record that brings something of a known state lets its packet go, and so does one that deletes it
-received-lets : (m : Message) (r : Received) → received_in m ≡ Some r → LetsOut m (name_in m)
-received-lets (message.Clear creator bound) r e = absurd (cc)
-received-lets (message.Insert s) r e = absurd (cc)
-received-lets (message.InsertAck name) r e = absurd (cc)
-received-lets (message.Update s) r e = refl
-received-lets (message.UpdateShort u) r e = refl
-received-lets (message.UpdateRequest name) r e = absurd (cc)
-received-lets (message.Delete s) r e = absurd (cc)
-received-lets (message.DeleteShort name) r e = absurd (cc)
-received-lets (message.Bulk creator status) r e = absurd (cc)
+-- where clears have bounds, that bound is the record's
+within-bound : (n : Node) (h : Held) (creator bound sent : ℕ) → bound ≡ clear_bound n sent
+    → Holds (clear_taken n creator bound) h ⊎ ((h.name.creator ≡ creator) × (h.name.id ≤ bound))
+    → Stays n (message.Clear creator sent) h (clear_taken n creator bound)
+within-bound n h creator bound sent is (inl holds) = inl holds
+within-bound n h creator bound sent is (inr low) =
+    inr (low.0, λ off. subst (λ (k : ℕ). h.name.id ≤ k) (is ∙ ap (λ (b : Bool). cond b (2 ^ 64 - 1) sent) off) low.1)
 
-deleted-lets : (m : Message) → deletes m ≡ true → LetsOut m (name_in m)
-deleted-lets (message.Clear creator bound) e = absurd (cc)
-deleted-lets (message.Insert s) e = absurd (cc)
-deleted-lets (message.InsertAck name) e = absurd (cc)
-deleted-lets (message.Update s) e = absurd (cc)
-deleted-lets (message.UpdateShort u) e = absurd (cc)
-deleted-lets (message.UpdateRequest name) e = absurd (cc)
-deleted-lets (message.Delete s) e = refl
-deleted-lets (message.DeleteShort name) e = refl
-deleted-lets (message.Bulk creator status) e = absurd (cc)
+-- a record that brings something of a known state lets its packet go, and so does one that deletes it
+received-lets : (k : Kernel) (m : Message) (r : Received) → received_in m ≡ Some r → LetsOut k m (name_in m)
+received-lets k (message.Clear creator bound) r e = absurd (cc)
+received-lets k (message.Insert s) r e = absurd (cc)
+received-lets k (message.InsertAck name) r e = absurd (cc)
+received-lets k (message.Update s) r e = refl
+received-lets k (message.UpdateShort u) r e = refl
+received-lets k (message.UpdateRequest name) r e = absurd (cc)
+received-lets k (message.Delete s) r e = absurd (cc)
+received-lets k (message.DeleteShort name) r e = absurd (cc)
+received-lets k (message.Bulk creator status) r e = absurd (cc)
+
+deleted-lets : (k : Kernel) (m : Message) → deletes m ≡ true → LetsOut k m (name_in m)
+deleted-lets k (message.Clear creator bound) e = absurd (cc)
+deleted-lets k (message.Insert s) e = absurd (cc)
+deleted-lets k (message.InsertAck name) e = absurd (cc)
+deleted-lets k (message.Update s) e = absurd (cc)
+deleted-lets k (message.UpdateShort u) e = absurd (cc)
+deleted-lets k (message.UpdateRequest name) e = absurd (cc)
+deleted-lets k (message.Delete s) e = refl
+deleted-lets k (message.DeleteShort name) e = refl
+deleted-lets k (message.Bulk creator status) e = absurd (cc)
 
 -- by the decision
-does-stays : (n : Node) (b : Bool) (m : Message) (d : Decision) (h : Held) → Filed n.states → RestsOn n b m d → Holds n h → Stays n m h (does n d)
+does-stays : (n : Node) (m : Message) (d : Decision) (h : Held) → Filed n.states → RestsOn n m d → Holds n h → Stays n m h (does n d)
 unfolding does RestsOn
-does-stays n b m (Bad why) h filed so holds = inl holds
-does-stays n b m (Import s ack) h filed so holds = stays-either n m h ack _ _ (inl holds) (inl holds)
-does-stays n b m (Merge x) h filed so holds =
+does-stays n m (Bad why) h filed so holds = inl holds
+does-stays n m (Import s ack) h filed so holds = stays-either n m h ack _ _ (stays-either n m h (is_delete (kind_of n.queue s.name)) _ _ (inl holds) (inl holds)) (inl holds)
+does-stays n m (Merge x) h filed so holds =
     let puts : PutsCalm n x.state (merged_into (lost n x.state.name) x) = merged-puts n x in
     let own = merged-name n.limits.kernel so.held so.received (timeout_at n so.held.rule so.received.class) n.clock in
     let name : x.state.name ≡ name_in m = ap (λ (y : Merged). y.state.name) so.is ∙ own ∙ filed (name_in m) so.held so.found in
-    let lets : LetsOut m x.state.name = subst (LetsOut m) (sym name) (received-lets m so.received so.brought) in
+    let lets = subst (LetsOut n.limits.kernel m) (sym name) (received-lets n.limits.kernel m so.received so.brought) in
     out n (merged_into (lost n x.state.name) x) m x.state.name h puts.held lets holds
-does-stays n b m (Ask name) h filed so holds = inl holds
-does-stays n b m (Queue name) h filed so holds = inl holds
-does-stays n b m (Serve begins) h filed so holds = inl holds
-does-stays n b m (Release name) h filed so holds =
+does-stays n m (Ask name) h filed so holds = inl holds
+does-stays n m (Queue name) h filed so holds = inl holds
+does-stays n m (Serve begins) h filed so holds = inl holds
+does-stays n m (Release name) h filed so holds =
     let own : name_in m ≡ name = sym (filed (name_in m) so.0 so.1.0) ∙ sym so.1.1 in
-    let lets = subst (λ (c : Message). LetsOut c name) (sym so.1.3) own in
+    let lets = subst (λ (c : Message). LetsOut n.limits.kernel c name) (sym so.1.3) own in
     out n (released n name) m name h (released-held n name) lets holds
-does-stays n b m (Delete name) h filed so holds =
-    out n (forgotten n name) m name h (forgotten-held n name ∙ lost-held n name) (subst (LetsOut m) (sym so.1) (deleted-lets m so.2)) holds
-does-stays n b m (Clear creator bound) h filed so holds =
-    subst (λ (c : Message). Stays n c h (clear_taken n creator bound)) (sym so) (clear-stays creator bound (maps.keys n.states) n h holds)
-does-stays n b m (Hear status) h filed so holds = inl holds
-does-stays n b m Nothing h filed so holds = inl holds
+does-stays n m (Delete name) h filed so holds =
+    out n (forgotten n name) m name h (forgotten-held n name ∙ lost-held n name) (subst (LetsOut n.limits.kernel m) (sym so.1) (deleted-lets n.limits.kernel m so.2)) holds
+does-stays n m (Clear creator bound) h filed so holds =
+    subst (λ (c : Message). Stays n c h (clear_taken n creator bound)) (sym so.1.0)
+    (within-bound n h creator bound so.0 so.1.1 (clear-stays creator bound (maps.keys n.states) n h holds))
+does-stays n m (Hear status) h filed so holds = inl holds
+does-stays n m Nothing h filed so holds = inl holds
 
 pub record-stays : RecordsLetGoOnlySo
 unfolding taken
-record-stays n b m are h holds = does-stays n b m (decided n b m) h are.filed (rests n b m) holds
+record-stays n b m are h holds = does-stays n m (decided n b m) h are.filed (rests n b m) holds
 
 -- ---- all records of a frame
 
@@ -228,15 +237,18 @@ module _ (b : Bool) where
   all-tied [] n are tied = tied
   all-tied (m ∷ ms) n are tied = all-tied ms (taken n b m) (taken-apart n b m are) (tied-record n b m are tied)
 
-  all-stays : (ms : List Message) (n : Node) (h : Held) → AreStates n.states → Holds n h → Holds (fold (λ k m. taken k b m) n ms) h ⊎ OneLetsOut ms h.name
-  all-stays [] n h are holds = inl holds
-  all-stays (m ∷ ms) n h are holds = elim (record-stays n b m are h holds) [
-    | inl here ↦ elim (all-stays ms (taken n b m) h (taken-apart n b m are) here) [
-      | inl there ↦ inl there
-      | inr one ↦ inr (inr one)
-    ]
-    | inr lets ↦ inr (inl lets)
-  ]
+  all-stays : (x : Kernel) (ms : List Message) (n : Node) (h : Held) → n.limits.kernel ≡ x → AreStates n.states → Holds n h
+      → Holds (fold (λ k m. taken k b m) n ms) h ⊎ OneLetsOut x ms h.name
+  all-stays x [] n h kernel are holds = inl holds
+  all-stays x (m ∷ ms) n h kernel are holds =
+      let next : (taken n b m).limits.kernel ≡ x = ap (λ (i : Ids). i.2.kernel) (taken-ids n b m) ∙ kernel in
+      elim (record-stays n b m are h holds) [
+        | inl here ↦ elim (all-stays x ms (taken n b m) h next (taken-apart n b m are) here) [
+          | inl there ↦ inl there
+          | inr one ↦ inr (inr one)
+        ]
+        | inr lets ↦ inr (inl (subst (λ (k : Kernel). LetsOut k m h.name) kernel lets))
+      ]
 
   all-rightly : (q : StateName) (ms : List Message) (n : Node) → AreStates n.states → AreRecords ms → StandsRightly q n
       → StandsRightly q (fold (λ k m. taken k b m) n ms)
@@ -285,8 +297,8 @@ received-tied n (Ok f) are tied = all-tied (same_rules n f) (records_of f) n are
 received-tied n (Err why) are tied = tied-same n (count_broken n) tied refl refl
 
 pub received-stays : (n : Node) (r : Result Frame BadFrame) (h : Held) → AreStates n.states → Holds n h → Holds (received n r) h
-    ⊎ IsOkAnd r (λ f. OneLetsOut (records_of f) h.name)
-received-stays n (Ok f) h are holds = all-stays (same_rules n f) (records_of f) n h are holds
+    ⊎ IsOkAnd r (λ f. OneLetsOut n.limits.kernel (records_of f) h.name)
+received-stays n (Ok f) h are holds = all-stays (same_rules n f) n.limits.kernel (records_of f) n h refl are holds
 received-stays n (Err why) h are holds = inl holds
 
 pub received-rightly : (q : StateName) (n : Node) (bytes : List ℕ) (r : Result Frame BadFrame) → reading bytes ≡ r → AreStates n.states

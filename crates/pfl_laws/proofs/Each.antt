@@ -33,8 +33,8 @@ module _ (P : State → Type 0) (still : (s : State) (ack : Bool) (updates : ℕ
   Each m = (q : StateName) (s : State) → maps.get m q ≡ Some s → P s
 
   -- what a record has to bring: of a state without a fault, and of what is merged
-  abbrev pub Brings : Node → Bool → Message → Type 0
-  Brings n b m = ((r : StateRecord) → whole_in m ≡ Some r → import_fault n r ≡ None → P (imported n b r))
+  abbrev pub Brings : Node → Message → Type 0
+  Brings n m = ((r : StateRecord) → whole_in m ≡ Some r → import_fault n r ≡ None → (b : Bool) → P (imported n b r))
       × ((r : Received) → received_in m ≡ Some r → (s : State) (seconds now : ℕ) → P s → P (merged n.limits.kernel s r seconds now).state)
 
   -- whatever was so of a state is so of what follows it
@@ -44,13 +44,13 @@ module _ (P : State → Type 0) (still : (s : State) (ack : Bool) (updates : ℕ
   alike-carries : (s t : State) → Alike s t → Carries s t
   alike-carries s t e is = subst P (sym e) (still s t.ack_wanted t.updates is)
 
-  pub each-record : (n : Node) (b : Bool) (m : Message) → Filed n.states → Brings n b m → Each n.states → Each (taken n b m).states
+  pub each-record : (n : Node) (b : Bool) (m : Message) → Filed n.states → Brings n m → Each n.states → Each (taken n b m).states
   each-record n b m filed brings each q t at =
       elim (record-arrives Carries alike-carries n b m filed
       (λ s r brought own seconds now updates is.
       still (merged n.limits.kernel s r seconds now).state false updates (brings.1 r brought s seconds now is)) q t at) [
         | inl from ↦ from.so (each q from.state from.at)
-        | inr new ↦ subst P (sym new.1.is) (brings.0 new.1.sent new.1.brought new.1.free)
+        | inr new ↦ subst P (sym new.1.is) (brings.0 new.1.sent new.1.brought new.1.free new.1.same_rules)
       ]
 
 -- ---- each is a state
@@ -125,9 +125,9 @@ brought-is (message.Delete r) is = (tt, tt)
 brought-is (message.DeleteShort name) is = (tt, tt)
 brought-is (message.Bulk creator status) is = (tt, tt)
 
-record-brings : (q : StateName) (n : Node) (b : Bool) (m : Message) → IsRecord m → Brings (IsOne q) (still-one q) n b m
-record-brings q n b m is = (
-  λ r brought free same. imported-is n b r (subst (λ (o : Option StateRecord). IfSome o IsWhole) brought (brought-is m is).0),
+record-brings : (q : StateName) (n : Node) (m : Message) → IsRecord m → Brings (IsOne q) (still-one q) n m
+record-brings q n m is = (
+  λ r brought free b same. imported-is n b r (subst (λ (o : Option StateRecord). IfSome o IsWhole) brought (brought-is m is).0),
   λ r brought s seconds now one same.
       let ends = subst (λ (o : Option Received). IfSome o (λ e. IsPeer e.src × IsPeer e.dst)) brought (brought-is m is).1 in
       merged-is n.limits.kernel s r seconds now ends.0 ends.1 (one (sym (merged-name n.limits.kernel s r seconds now) ∙ same)),
@@ -138,7 +138,7 @@ abbrev pub StandsRightly : StateName → Node → Type 0
 StandsRightly q n = (k : StateName) (s : State) → maps.get n.states k ≡ Some s → s.name ≡ q → IsState s
 
 pub taken-rightly : (q : StateName) (n : Node) (b : Bool) (m : Message) → Filed n.states → IsRecord m → StandsRightly q n → StandsRightly q (taken n b m)
-taken-rightly q n b m filed is each = each-record (IsOne q) (still-one q) n b m filed (record-brings q n b m is) each
+taken-rightly q n b m filed is each = each-record (IsOne q) (still-one q) n b m filed (record-brings q n m is) each
 
 -- ---- each has a name that was given
 
@@ -149,9 +149,9 @@ Low creator next s = s.name.creator ≡ creator → s.name.id < next
 low-still : (creator next : ℕ) (s : State) (ack : Bool) (updates : ℕ) → Low creator next s → Low creator next (record s { ack_wanted = ack; updates = updates })
 low-still creator next s ack updates low = low
 
-low-brings : (n : Node) (b : Bool) (m : Message) → Brings (Low n.creator n.next_id) (low-still n.creator n.next_id) n b m
-low-brings n b m = (
-  λ r brought free. (may-import n r free).given,
+low-brings : (n : Node) (m : Message) → Brings (Low n.creator n.next_id) (low-still n.creator n.next_id) n m
+low-brings n m = (
+  λ r brought free b. (may-import n r free).given,
   λ r brought s seconds now low.
       subst (λ (name : StateName). name.creator ≡ n.creator → name.id < n.next_id) (sym (merged-name n.limits.kernel s r seconds now)) low,
 )
@@ -160,7 +160,7 @@ low-brings n b m = (
 pub taken-given : (n : Node) (b : Bool) (m : Message) → Filed n.states → Filed (taken n b m).states → (taken n b m).creator ≡ n.creator
     → (taken n b m).next_id ≡ n.next_id → AreGiven n → AreGiven (taken n b m)
 taken-given n b m filed filed_on creator next given q t at =
-    let all = each-record (Low n.creator n.next_id) (low-still n.creator n.next_id) n b m filed (low-brings n b m)
+    let all = each-record (Low n.creator n.next_id) (low-still n.creator n.next_id) n b m filed (low-brings n m)
     (λ name s stands. subst (λ (k : StateName). k.creator ≡ n.creator → k.id < n.next_id) (sym (filed name s stands)) (given name s stands)) in
     let low = subst (λ (k : StateName). k.creator ≡ n.creator → k.id < n.next_id) (filed_on q t at) (all q t at) in
     λ own. subst (λ (limit : ℕ). q.id < limit) (sym next) (low (own ∙ creator))

@@ -190,14 +190,14 @@ put-stays w B m B h stays holds = stays holds
 
 -- a frame at its receiver
 came-lets : (w : World) (to : NodeId) (r : Result Frame BadFrame) (at : NodeId) (h : Held) → IsNode (node_at w at) → Holds (node_at w at) h
-    → Holds (node_at (with_node w to (received (node_at w to) r)) at) h ⊎ ((to ≡ at) × IsOkAnd r (λ f. OneLetsOut (records_of f) h.name))
+    → Holds (node_at (with_node w to (received (node_at w to) r)) at) h ⊎ ((to ≡ at) × IsOkAnd r (λ f. OneLetsOut (node_at w at).limits.kernel (records_of f) h.name))
 came-lets w A r A h is holds = there (received-stays w.a r h is.parts.states holds)
 came-lets w A r B h is holds = inl holds
 came-lets w B r A h is holds = inl holds
 came-lets w B r B h is holds = there (received-stays w.b r h is.parts.states holds)
 
 arrived-lets : (w : World) (o : Option InFlight) (at : NodeId) (h : Held) → IsNode (node_at w at) → Holds (node_at w at) h
-    → Holds (arrived w at o) h ⊎ IsSomeAnd o (FrameLetsOut at h.name)
+    → Holds (arrived w at o) h ⊎ IsSomeAnd o (FrameLetsOut (node_at w at).limits.kernel at h.name)
 arrived-lets w None at h is holds = inl holds
 arrived-lets w (Some f) at h is holds = came-lets w f.to (reading f.bytes) at h is holds
 

@@ -1,7 +1,7 @@
 -- A record of the peer's lowers no level, but that of a destination that `merge` takes: a merge takes an end only where it is not behind the
 -- held one, and else a record leaves states, takes them out, or brings one under a name that had none.
 use Rattle.std.specs.Prelude.{◌≡◌, ◌⊎◌, ℕ, Bool, true, false, Option, Some, None, IfSome, refl}
-use Rattle.std.proofs.Common.{◌∙◌, ap, sym, subst, arith, inl, inr}
+use Rattle.std.proofs.Common.{◌∙◌, cond, ap, sym, subst, arith, inl, inr}
 use Rattle.pfl_base.specs.declared.kernel.Kernel.{Kernel}
 use Rattle.pfl_base.specs.declared.state_name.StateName.{StateName}
 use Rattle.pfl_base.proofs.ForCallers.{names_total, names_exact}
@@ -15,7 +15,9 @@ use Rattle.pfl_world.specs.merge.declared.received.Received.{Received}
 use Rattle.pfl_world.specs.merge.declared.merged.Merged.{Merged}
 use Rattle.pfl_world.specs.merge.Merging.{merged}
 use Rattle.pfl_world.specs.desk.Nodes.{Node, timeout_at}
-use Rattle.pfl_world.specs.desk.Changes.{lost, released, forgotten}
+use Rattle.pfl_world.specs.queue.declared.Kind.TheVariants.{InsertAck}
+use Rattle.pfl_world.specs.queue.Queues.{kind_of}
+use Rattle.pfl_world.specs.desk.Changes.{put_state, mark, lost, released, forgotten, is_delete}
 use Rattle.pfl_world.specs.receive.declared.decision.Decision.{Decision}
 use Rattle.pfl_world.specs.receive.declared.decision.Decision.TheVariants.{Bad, Import, Merge, Ask, Queue, Serve, Release, Delete, Clear, Hear, Nothing}
 use Rattle.pfl_world.specs.receive.Bringing.{name_in, received_in}
@@ -32,8 +34,12 @@ use Rattle.pfl_laws.proofs.Tied.{PutsCalm, merged-puts}
 
 -- what is taken over is put, also where it is acknowledged
 over-states : (n : Node) (s : State) (ack : Bool) → (taken_over n s ack).states ≡ maps.insert n.states s.name s
-over-states n s true = refl
 over-states n s false = refl
+over-states n s true = by (is_delete (kind_of n.queue s.name))
+  where
+    by : (b : Bool) → (cond b (put_state n s) (mark (put_state n s) s.name InsertAck)).states ≡ maps.insert n.states s.name s
+    by true = refl
+    by false = refl
 
 module _ (R : State → State → Type 0) (alike : (s t : State) → Alike s t → R s t) where
   -- each merge by the record leaves a state that is so related to the one before
@@ -42,8 +48,8 @@ module _ (R : State → State → Type 0) (alike : (s t : State) → Alike s t �
       → (seconds now updates : ℕ) → R s (Then (merged n.limits.kernel s r seconds now).state updates)
 
   -- a state stood under the name that leads to t, or t is taken over where none stood
-  abbrev pub Arrives : Node → Bool → Message → StateName → State → Type 0
-  Arrives n b m q t = From R n.states q t ⊎ ((maps.get n.states q ≡ None) × IsImported n b m t)
+  abbrev pub Arrives : Node → Message → StateName → State → Type 0
+  Arrives n m q t = From R n.states q t ⊎ ((maps.get n.states q ≡ None) × IsImported n m t)
 
   -- the same state stood there
   stays-from : (n : Node) (q : StateName) (t : State) → maps.get n.states q ≡ Some t → From R n.states q t
@@ -54,13 +60,13 @@ module _ (R : State → State → Type 0) (alike : (s t : State) → Alike s t �
   alike-from n k q t keeps at = let from = keeps.comes t at in record { state = from.state; at = from.at; so = alike from.state t from.so }
 
   -- a state is taken over only under a new name
-  import-arrives : (n : Node) (b : Bool) (m : Message) (s : State) (ack : Bool) → IsImported n b m s
-      → (q : StateName) (t : State) → maps.get (taken_over n s ack).states q ≡ Some t → Arrives n b m q t
-  import-arrives n b m s ack new q t at =
+  import-arrives : (n : Node) (m : Message) (s : State) (ack : Bool) → IsImported n m s
+      → (q : StateName) (t : State) → maps.get (taken_over n s ack).states q ≡ Some t → Arrives n m q t
+  import-arrives n m s ack new q t at =
       let none = subst (λ (u : State). maps.get n.states u.name ≡ None) (sym new.is) (may-import n new.sent new.free).fresh in
       elim (get-set_at_cases names_total names_exact n.states s.name (Some s) q t
       (ap (λ (l : States). maps.get l q) (sym (over-states n s ack)) ∙ at)) [
-        | inl own ↦ inr (ap (maps.get n.states) own.0 ∙ none, subst (IsImported n b m) (inner s t own.1) new)
+        | inl own ↦ inr (ap (maps.get n.states) own.0 ∙ none, subst (IsImported n m) (inner s t own.1) new)
         | inr other ↦ inl (stays-from n q t other.1)
       ]
 
@@ -80,29 +86,29 @@ module _ (R : State → State → Type 0) (alike : (s t : State) → Alike s t �
       (λ here. record { state = s; at = ap (maps.get n.states) (here ∙ named) ∙ on.found; so = so }))
 
   -- by the decision
-  does-arrives : (n : Node) (b : Bool) (m : Message) (d : Decision) → Filed n.states → Merges n m → RestsOn n b m d
-      → (q : StateName) (t : State) → maps.get (does n d).states q ≡ Some t → Arrives n b m q t
+  does-arrives : (n : Node) (m : Message) (d : Decision) → Filed n.states → Merges n m → RestsOn n m d
+      → (q : StateName) (t : State) → maps.get (does n d).states q ≡ Some t → Arrives n m q t
   unfolding does RestsOn
-  does-arrives n b m (Bad why) filed merges on q t at = inl (stays-from n q t at)
-  does-arrives n b m (Import s ack) filed merges on q t at = import-arrives n b m s ack on q t at
-  does-arrives n b m (Merge x) filed merges on q t at = inl (merge-comes n m x filed merges on q t at)
-  does-arrives n b m (Ask name) filed merges on q t at = inl (stays-from n q t at)
-  does-arrives n b m (Queue name) filed merges on q t at = inl (stays-from n q t at)
-  does-arrives n b m (Serve begins) filed merges on q t at = inl (stays-from n q t at)
-  does-arrives n b m (Release name) filed merges on q t at = inl (alike-from n (released n name) q t (released-keeps q n name filed) at)
-  does-arrives n b m (Delete name) filed merges on q t at =
+  does-arrives n m (Bad why) filed merges on q t at = inl (stays-from n q t at)
+  does-arrives n m (Import s ack) filed merges on q t at = import-arrives n m s ack on q t at
+  does-arrives n m (Merge x) filed merges on q t at = inl (merge-comes n m x filed merges on q t at)
+  does-arrives n m (Ask name) filed merges on q t at = inl (stays-from n q t at)
+  does-arrives n m (Queue name) filed merges on q t at = inl (stays-from n q t at)
+  does-arrives n m (Serve begins) filed merges on q t at = inl (stays-from n q t at)
+  does-arrives n m (Release name) filed merges on q t at = inl (alike-from n (released n name) q t (released-keeps q n name filed) at)
+  does-arrives n m (Delete name) filed merges on q t at =
       inl (alike-from n (forgotten n name) q t (removed-keeps q n (forgotten n name) name (forgotten-removes n name)) at)
-  does-arrives n b m (Clear creator bound) filed merges on q t at =
+  does-arrives n m (Clear creator bound) filed merges on q t at =
       inl (alike-from n (clear_taken n creator bound) q t
       (all-keep forgotten (λ (name : StateName). name) forgotten-removes q (cleared_names n creator bound) n) at)
-  does-arrives n b m (Hear status) filed merges on q t at = inl (stays-from n q t at)
-  does-arrives n b m Nothing filed merges on q t at = inl (stays-from n q t at)
+  does-arrives n m (Hear status) filed merges on q t at = inl (stays-from n q t at)
+  does-arrives n m Nothing filed merges on q t at = inl (stays-from n q t at)
 
   -- whatever stands under a name after a record
   pub record-arrives : (n : Node) (b : Bool) (m : Message) → Filed n.states → Merges n m
-      → (q : StateName) (t : State) → maps.get (taken n b m).states q ≡ Some t → Arrives n b m q t
+      → (q : StateName) (t : State) → maps.get (taken n b m).states q ≡ Some t → Arrives n m q t
   unfolding taken
-  record-arrives n b m filed merges = does-arrives n b m (decided n b m) filed merges (rests n b m)
+  record-arrives n b m filed merges = does-arrives n m (decided n b m) filed merges (rests n b m)
 
   -- whatever name has a state before and after a record
   record-goes : (n : Node) (b : Bool) (m : Message) → AreStates n.states → Merges n m

@@ -12,14 +12,15 @@ use Rattle.pfl_world.specs.track.declared.state.State.{State}
 use Rattle.pfl_world.specs.table.Tables.{States}
 use Rattle.pfl_world.specs.wire.declared.message.Message.{Message}
 use Rattle.pfl_world.specs.queue.declared.Kind.TheVariants.{Insert, InsertAck, Update}
+use Rattle.pfl_world.specs.queue.Queues.{kind_of}
 use Rattle.pfl_world.specs.defer.Deferring.{pushed_out}
 use Rattle.pfl_world.specs.desk.Nodes.{Node, IsGiven}
-use Rattle.pfl_world.specs.desk.Changes.{put_state, mark, push_if, count_bad, count_passed, count_blocked, is_held, freed, lost, changed, forgotten}
+use Rattle.pfl_world.specs.desk.Changes.{put_state, mark, push_if, count_bad, count_passed, count_blocked, is_held, freed, lost, changed, forgotten, is_delete}
 use Rattle.pfl_world.specs.desk.Changes.{released, ask}
 use Rattle.pfl_world.specs.node.Packets.{accepted}
 use Rattle.pfl_world.specs.receive.declared.decision.Decision.{Decision}
 use Rattle.pfl_world.specs.receive.declared.decision.Decision.TheVariants.{Bad, Import, Merge, Ask, Queue, Serve, Release, Delete, Clear, Hear, Nothing}
-use Rattle.pfl_world.specs.receive.Receiving.{taken, does, decided, merged_into, served, heard_of, cleared_names}
+use Rattle.pfl_world.specs.receive.Receiving.{acknowledged, taken, does, decided, merged_into, served, heard_of, cleared_names}
 use Rattle.pfl_world.proofs.ForCallers.receive.{RestsOn, rests, may-import}
 use Rattle.pfl_world.specs.node.Starting.{Handled, announced, hold, is_deferred, judged, next_name, pass, with_new, with_room}
 use Rattle.pfl_world.proofs.ForCallers.node.{judged-by}
@@ -38,32 +39,36 @@ AreGiven n = (name : StateName) (s : State) → maps.get n.states name ≡ Some 
 -- ---- records
 
 -- what is taken over stands under a new name, and waits for nothing; of what is merged the packet is dropped
-does-tied : (n : Node) (b : Bool) (m : Message) (d : Decision) → Filed n.states → RestsOn n b m d → IsTied n → IsTied (does n d)
+does-tied : (n : Node) (m : Message) (d : Decision) → Filed n.states → RestsOn n m d → IsTied n → IsTied (does n d)
 unfolding does RestsOn
-does-tied n b m (Bad why) filed on tied = tied-same n (count_bad n) tied refl refl
-does-tied n b m (Import s ack) filed on tied =
+does-tied n m (Bad why) filed on tied = tied-same n (count_bad n) tied refl refl
+does-tied n m (Import s ack) filed on tied =
     let fresh = subst (λ (t : State). maps.get n.states t.name ≡ None) (sym on.is) (may-import n on.sent on.free).fresh in
     let calm : s.ack_wanted ≡ is_held n s.name = ap (λ (t : State). t.ack_wanted) on.is ∙ sym (tied s.name ∙ ap waits fresh) in
     let new = put_state n s in
-    let told = push_if true (mark new s.name InsertAck) in
-    tied-either ack told new (tied-put n told s tied refl refl calm) (tied-put n new s tied refl refl calm)
-does-tied n b m (Merge x) filed on tied =
+    let told : IsTied (push_if true (acknowledged new s.name)) =
+    elim (is_delete (kind_of n.queue s.name)) as (λ b. IsTied (push_if true (cond b new (mark new s.name InsertAck)))) [
+      | true ↦ tied-put n (push_if true new) s tied refl refl calm
+      | false ↦ tied-put n (push_if true (mark new s.name InsertAck)) s tied refl refl calm
+    ] in
+    tied-either ack (push_if true (acknowledged new s.name)) new told (tied-put n new s tied refl refl calm)
+does-tied n m (Merge x) filed on tied =
     let puts : PutsCalm n x.state (merged_into (lost n x.state.name) x) = merged-puts n x in
     tied-out n (merged_into (lost n x.state.name) x) x.state.name (Some (record x.state { ack_wanted = false; updates = puts.updates })) tied
     puts.states refl puts.held
-does-tied n b m (Ask name) filed on tied = tied-same n (ask n name) tied refl refl
-does-tied n b m (Queue name) filed on tied = tied-same n (push_if true (mark n name Update)) tied refl refl
-does-tied n b m (Serve begins) filed on tied = tied-same n (served n begins) tied refl refl
-does-tied n b m (Release name) filed on tied = tied-released n name filed tied
-does-tied n b m (Delete name) filed on tied = tied-forgotten n name tied
-does-tied n b m (Clear creator bound) filed on tied =
+does-tied n m (Ask name) filed on tied = tied-same n (ask n name) tied refl refl
+does-tied n m (Queue name) filed on tied = tied-same n (push_if true (mark n name Update)) tied refl refl
+does-tied n m (Serve begins) filed on tied = tied-same n (served n begins) tied refl refl
+does-tied n m (Release name) filed on tied = tied-released n name filed tied
+does-tied n m (Delete name) filed on tied = tied-forgotten n name tied
+does-tied n m (Clear creator bound) filed on tied =
     all-tied forgotten (λ (name : StateName). name) forgotten-removes (cleared_names n creator bound) n tied
-does-tied n b m (Hear status) filed on tied = tied-same n (heard_of n status) tied refl refl
-does-tied n b m Nothing filed on tied = tied
+does-tied n m (Hear status) filed on tied = tied-same n (heard_of n status) tied refl refl
+does-tied n m Nothing filed on tied = tied
 
 pub tied-record : RecordsKeepTied
 unfolding taken
-tied-record n b m are tied = does-tied n b m (decided n b m) are.filed (rests n b m) tied
+tied-record n b m are tied = does-tied n m (decided n b m) are.filed (rests n b m) tied
 
 -- ---- packets
 

@@ -289,31 +289,32 @@ Holds n h = held_of n.held h.name ≡ Some h
 abbrev pub asked_at : Node → Dir → Packet → Node
 asked_at n dir p = fold (λ m point. point) n (before_rules n dir p (found n.states (key p dir) dir))
 
--- why a record lets a held packet of the name go: it acknowledges the state, announces it, deletes it, or clears states up to it
-abbrev pub LetsOut : Message → StateName → Type 0
-LetsOut (message.Clear creator bound) name = (name.creator ≡ creator) × (name.id ≤ bound)
-LetsOut (message.Insert r) name = ⊥
-LetsOut (message.InsertAck acknowledged) name = acknowledged ≡ name
-LetsOut (message.Update r) name = r.name ≡ name
-LetsOut (message.UpdateShort u) name = u.name ≡ name
-LetsOut (message.UpdateRequest asked) name = ⊥
-LetsOut (message.Delete r) name = r.name ≡ name
-LetsOut (message.DeleteShort gone) name = gone ≡ name
-LetsOut (message.Bulk creator status) name = ⊥
+-- why a record lets a held packet of the name go: it acknowledges the state, announces it, deletes it, or clears states of its creator, up
+-- to it where clears have bounds
+abbrev pub LetsOut : Kernel → Message → StateName → Type 0
+LetsOut k (message.Clear creator bound) name = (name.creator ≡ creator) × (k.clear ≡ false → name.id ≤ bound)
+LetsOut k (message.Insert r) name = ⊥
+LetsOut k (message.InsertAck acknowledged) name = acknowledged ≡ name
+LetsOut k (message.Update r) name = r.name ≡ name
+LetsOut k (message.UpdateShort u) name = u.name ≡ name
+LetsOut k (message.UpdateRequest asked) name = ⊥
+LetsOut k (message.Delete r) name = r.name ≡ name
+LetsOut k (message.DeleteShort gone) name = gone ≡ name
+LetsOut k (message.Bulk creator status) name = ⊥
 
 -- whatever record a node takes, a packet that was held is still held, since the same time, or the record let it go
 abbrev pub RecordsLetGoOnlySo : Type 0
 RecordsLetGoOnlySo = (n : Node) (same_rules : Bool) (m : Message) → AreStates n.states → (h : Held) → Holds n h
-    → Holds (taken n same_rules m) h ⊎ LetsOut m h.name
+    → Holds (taken n same_rules m) h ⊎ LetsOut n.limits.kernel m h.name
 
 -- one of the records lets it go
-abbrev pub OneLetsOut : List Message → StateName → Type 0
-OneLetsOut [] name = ⊥
-OneLetsOut (m ∷ ms) name = LetsOut m name ⊎ OneLetsOut ms name
+abbrev pub OneLetsOut : Kernel → List Message → StateName → Type 0
+OneLetsOut k [] name = ⊥
+OneLetsOut k (m ∷ ms) name = LetsOut k m name ⊎ OneLetsOut k ms name
 
 -- the frame goes to the node, can be read there, and one of its records lets a held packet of the name go
-abbrev pub FrameLetsOut : NodeId → StateName → InFlight → Type 0
-FrameLetsOut id name f = (f.to ≡ id) × IsOkAnd (reading f.bytes) (λ frame. OneLetsOut (records_of frame) name)
+abbrev pub FrameLetsOut : Kernel → NodeId → StateName → InFlight → Type 0
+FrameLetsOut k id name f = (f.to ≡ id) × IsOkAnd (reading f.bytes) (λ frame. OneLetsOut k (records_of frame) name)
 
 -- a packet of this fate is held, and the list, which is full, lets its oldest go, which is of this name
 abbrev pub LetsOldestGo : Fate → Deferrals → StateName → Type 0
@@ -334,7 +335,7 @@ NodeLetsGo old new _ h = ⊥
 -- why an event lets it go: the node's own does, the peer announces it, or the node begins anew; no other event does
 abbrev pub LetsGo : World → NodeId → Node → Node → Event → Held → Type 0
 LetsGo w id old new (event.At at e) h = (at ≡ id) × NodeLetsGo old new e h
-LetsGo w id old new (event.Of ticket frame.Deliver) h = IsSomeAnd (maps.get w.link.frames ticket) (FrameLetsOut id h.name)
+LetsGo w id old new (event.Of ticket frame.Deliver) h = IsSomeAnd (maps.get w.link.frames ticket) (FrameLetsOut old.limits.kernel id h.name)
 LetsGo w id old new (event.Restart at) h = at ≡ id
 LetsGo w id old new _ h = ⊥
 

@@ -27,7 +27,7 @@ use Rattle.pfl_receive.specs.merge.Merging.{merged, stale_src, stale_dst}
 use Rattle.pfl_receive.specs.defer.declared.Held.{Held}
 use Rattle.pfl_receive.specs.defer.Deferring.{pushed_out}
 use Rattle.pfl_receive.specs.desk.Nodes.{Node}
-use Rattle.pfl_receive.specs.desk.Changes.{put_state, mark, is_unannounced, is_insert, is_held, freed, lost, not_waiting, released, changed, deleted}
+use Rattle.pfl_receive.specs.desk.Changes.{put_state, mark, is_unannounced, is_insert, is_held, freed, lost, not_waiting, released, changed, deleted, is_delete}
 use Rattle.pfl_receive.specs.desk.Changes.{forgotten, count_stale, count_freed, count_lost, without_held}
 use Rattle.pfl_node.specs.Starting.{Handled, announced, hold, is_deferred, judged, with_new, with_room}
 use Rattle.pfl_node.specs.Packets.{handled, handled_by, followed, accepted, tracked_at}
@@ -173,29 +173,29 @@ merge-apart n s x k at same =
     (put-known m s (record x.state { ack_wanted = false }) (lost-apart n x.state.name k) there calm)
 
 -- what was decided of a record, done
-done-apart : (n : Node) (b : Bool) (m : Message) (d : Decision) → RestsOn n b m d → Apart n → Apart (does n d)
+done-apart : (n : Node) (m : Message) (d : Decision) → RestsOn n m d → Apart n → Apart (does n d)
 unfolding does RestsOn
-done-apart n b m (Bad why) so k = k
-done-apart n b m (Import s ack) so k =
+done-apart n m (Bad why) so k = k
+done-apart n m (Import s ack) so k =
     let free = (may-import n so.sent so.free).unused in
     let put = put-unused n s k (subst (λ (t : State). key_in_use n.states t.wire t.stack ≡ false) (sym so.is) free) in
-    either ack _ _ put put
-done-apart n b m (Merge x) so k =
+    either ack _ _ (either (is_delete (kind_of n.queue s.name)) _ _ put put) put
+done-apart n m (Merge x) so k =
     merge-apart n so.held x k (under_its_name n (name_in m) so.held k so.found)
     (subst (λ (y : Merged). SameKeys so.held y.state) (sym so.is) (merged-same n.limits.kernel so.held so.received _ n.clock))
-done-apart n b m (Ask name) so k = k
-done-apart n b m (Queue name) so k = k
-done-apart n b m (Serve begins) so k = k
-done-apart n b m (Release name) so k = released-apart n name k
-done-apart n b m (Delete name) so k = forgotten-apart n name k
-done-apart n b m (Clear creator bound) so k = over_all forgotten (cleared_names n creator bound) n (λ l name t. forgotten-apart l name t) k
-done-apart n b m (Hear status) so k = k
-done-apart n b m Nothing so k = k
+done-apart n m (Ask name) so k = k
+done-apart n m (Queue name) so k = k
+done-apart n m (Serve begins) so k = k
+done-apart n m (Release name) so k = released-apart n name k
+done-apart n m (Delete name) so k = forgotten-apart n name k
+done-apart n m (Clear creator bound) so k = over_all forgotten (cleared_names n creator bound) n (λ l name t. forgotten-apart l name t) k
+done-apart n m (Hear status) so k = k
+done-apart n m Nothing so k = k
 
 -- no record brings two states under one key
 pub taken-apart : (n : Node) (same_rules : Bool) (m : Message) → AreStates n.states → AreStates (taken n same_rules m).states
 unfolding taken
-taken-apart n b m k = done-apart n b m (decided n b m) (rests n b m) k
+taken-apart n b m k = done-apart n m (decided n b m) (rests n b m) k
 
 -- ---- packets
 

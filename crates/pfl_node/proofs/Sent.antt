@@ -36,10 +36,10 @@ has-state None kind other gone = absurd (other (gone refl))
 has-state (Some s) kind other gone = refl
 
 marked-told : (n : Node) → AreParts n → (e : Entry) → Stands n.queue e → IsTold n e
-marked-told n is (Marked Insert number name) at = has-state (maps.get n.states name) Insert (λ e. absurd (cc)) (is.marks name _ at).1.0.1
-marked-told n is (Marked InsertAck number name) at = has-state (maps.get n.states name) InsertAck (λ e. absurd (cc)) (is.marks name _ at).1.0.1
-marked-told n is (Marked Update number name) at = has-state (maps.get n.states name) Update (λ e. absurd (cc)) (is.marks name _ at).1.0.1
-marked-told n is (Marked UpdateShort number name) at = has-state (maps.get n.states name) UpdateShort (λ e. absurd (cc)) (is.marks name _ at).1.0.1
+marked-told n is (Marked Insert number name) at = has-state (maps.get n.states name) Insert (λ e. absurd (cc)) (is.marks name _ at).1.0
+marked-told n is (Marked InsertAck number name) at = has-state (maps.get n.states name) InsertAck (λ e. absurd (cc)) (is.marks name _ at).1.0
+marked-told n is (Marked Update number name) at = has-state (maps.get n.states name) Update (λ e. absurd (cc)) (is.marks name _ at).1.0
+marked-told n is (Marked UpdateShort number name) at = has-state (maps.get n.states name) UpdateShort (λ e. absurd (cc)) (is.marks name _ at).1.0
 marked-told n is (Marked Delete number name) at = tt
 marked-told n is (Request name) at = tt
 marked-told n is (Status status) at = tt

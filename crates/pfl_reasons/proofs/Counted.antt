@@ -27,7 +27,7 @@ use Rattle.pfl_queue.specs.declared.Kind.TheVariants.{Delete, Update}
 use Rattle.pfl_queue.specs.declared.Mark.{Mark}
 use Rattle.pfl_queue.specs.Queues.{Queue, is_requested, kind_of, marked, requested}
 use Rattle.pfl_world.proofs.ForCallers.receive.{RestsOn, may-import, rests}
-use Rattle.pfl_world.specs.desk.Changes.{changed, count_freed, count_lost, count_stale, forgotten, freed, is_held, is_unannounced, lost, not_waiting}
+use Rattle.pfl_world.specs.desk.Changes.{changed, count_freed, count_lost, count_stale, forgotten, freed, is_held, is_unannounced, lost, not_waiting, is_delete}
 use Rattle.pfl_world.specs.desk.Changes.{push_if, put_state, released, without_held}
 use Rattle.pfl_world.specs.desk.declared.counters.Counters.{Counters}
 use Rattle.pfl_world.specs.desk.Nodes.{Node}
@@ -36,7 +36,7 @@ use Rattle.pfl_world.specs.receive.declared.decision.BadRecord.{BadRecord}
 use Rattle.pfl_world.specs.receive.declared.decision.BadRecord.TheVariants as bad
 use Rattle.pfl_world.specs.receive.declared.decision.Decision.{Decision}
 use Rattle.pfl_world.specs.receive.declared.decision.Decision.TheVariants as decision
-use Rattle.pfl_world.specs.receive.Receiving.{acknowledging, answering, cleared_names, decided, does, import_fault, imported, importing, is_delete}
+use Rattle.pfl_world.specs.receive.Receiving.{acknowledging, answering, cleared_names, decided, does, import_fault, imported, importing, is_deleting}
 use Rattle.pfl_world.specs.receive.Receiving.{is_known, is_not_given, is_partly_announced, merged_into, merging, of_state, of_update, taken, taken_over}
 use Rattle.pfl_world.specs.table.Tables.{by_stack, by_wire}
 use Rattle.pfl_reasons.specs.Laws.{RecordsAreCountedSo}
@@ -121,9 +121,13 @@ gone n name = get-set_at_same names_total names_exact (lost n name).states name 
 
 -- ---- why a record is bad
 
-deletes : (o : Option Kind) → is_delete o ≡ true → o ≡ Some Delete
-deletes (Some Delete) is = refl
-deletes other is = absurd (cc)
+deletes : (n : Node) (name : StateName) → is_deleting n name ≡ true → (n.limits.kernel.revive ≡ false) × (kind_of n.queue name ≡ Some Delete)
+deletes n name is = by n.limits.kernel.revive (kind_of n.queue name) is
+  where
+    by : (revive : Bool) (o : Option Kind) → (not revive && is_delete o) ≡ true → (revive ≡ false) × (o ≡ Some Delete)
+    by false (Some Delete) is = (refl, refl)
+    by false other is = absurd (cc)
+    by true o is = absurd (cc)
 
 not-given : (n : Node) (name : StateName) → is_not_given n name ≡ true → (name.creator ≡ n.creator) × (n.next_id ≤ name.id)
 not-given n name is = (grind (arith, nat_tests), grind (arith, nat_tests))
@@ -150,7 +154,7 @@ module _ (n : Node) (r : StateRecord) where
   fault-so =
       tested (is_known n r.name) bad.Known _ (λ is. is)
       (tested (is_not_given n r.name) bad.NotGiven _ (not-given n r.name)
-      (tested (is_delete (kind_of n.queue r.name)) bad.Deleting _ (deletes (kind_of n.queue r.name))
+      (tested (is_deleting n r.name) bad.Deleting _ (deletes n r.name)
       (owned bad.WireInUse (by_wire n.states r.keys.wire) _ (owner n (λ (s : State). is_key s.wire r.keys.wire))
       (owned bad.StackInUse (by_stack n.states r.keys.stack) _ (owner n (λ (s : State). is_key s.stack r.keys.stack))
       (tested (nat_le n.limits.states (maps.len n.states)) bad.Full None (leb-true n.limits.states (maps.len n.states)) tt)))))
@@ -193,7 +197,7 @@ suits n b (message.InsertAck name) =
 suits n b (message.Update r) =
     let m = message.Update r in
     found n m (merging n (of_state r)) (maps.get n.states r.name) _ (λ s. (tt, tt))
-    (λ none. import-suits n m b r false (λ why so. (tt, so)) (λ s. (tt, tt)))
+    (λ none. import-suits n m (b && not n.limits.kernel.rule) r false (λ why so. (tt, so)) (λ s. (tt, tt)))
 suits n b (message.UpdateShort u) =
     found n (message.UpdateShort u) (merging n (of_update u)) (maps.get n.states u.name) _ (λ s. (tt, tt)) (λ none. (tt, tt))
 suits n b (message.UpdateRequest name) =
@@ -217,17 +221,18 @@ whole-named (message.Insert s) r brings = cc
 whole-named (message.Update s) r brings = cc
 whole-named other r brings = absurd (cc)
 
-module _ (n : Node) (b : Bool) (m : Message) where
-  says-so : (d : Decision) → RestsOn n b m d → WhyBad n m d
+module _ (n : Node) (m : Message) where
+  says-so : (d : Decision) → RestsOn n m d → WhyBad n m d
       → CountedSo n (does n d) (name_in m) (keys_in m) (received_in m) (shown_of n d)
   unfolding does RestsOn
   says-so (decision.Bad why) on so = (refl, so)
   says-so (decision.Import s ack) on so =
       let named = whole-named m on.sent on.brought in (
-        either (CountedAsMany n) ack _ _ (refl, refl) (refl, refl),
+        either (CountedAsMany n) ack _ _ (either (CountedAsMany n) (is_delete (kind_of n.queue s.name)) _ _ (refl, refl) (refl, refl)) (refl, refl),
         ap (maps.get n.states) (sym named) ∙ (may-import n on.sent on.free).fresh,
         subst (λ (k : StateName). IsLastUsed (taken_over n s ack) k s.last) (ap (λ (t : State). t.name) on.is ∙ named)
-            (either (λ (o : Node). IsLastUsed o s.name s.last) ack _ _ (put-used n s) (put-used n s)),
+            (either (λ (o : Node). IsLastUsed o s.name s.last) ack _ _ (either (λ (o : Node). IsLastUsed o s.name s.last)
+            (is_delete (kind_of n.queue s.name)) _ _ (put-used n s) (put-used n s)) (put-used n s)),
       )
   says-so (decision.Merge x) on so =
       let still = lost n x.state.name in
@@ -266,4 +271,4 @@ module _ (n : Node) (b : Bool) (m : Message) where
 
 pub counted : RecordsAreCountedSo
 unfolding taken
-counted n b m = let fits = suits n b m in (fits.0, says-so n b m (decided n b m) (rests n b m) fits.1)
+counted n b m = let fits = suits n b m in (fits.0, says-so n m (decided n b m) (rests n b m) fits.1)

@@ -21,8 +21,8 @@ use Rattle.pfl_track.specs.declared.tracked.Tracked.{Tracked}
 use Rattle.pfl_track.specs.declared.tracked.Tracked.TheVariants.{Moved, OutOfWindow, Reused}
 use Rattle.pfl_track.specs.Judging.{branch_of, window_test_by}
 use Rattle.pfl_track.specs.RuleLaws.{OutcomesFollow}
-use Rattle.pfl_track.specs.Rules.{branch, passed, segment_of, tracked_by, tracked_tcp_by}
-use Rattle.pfl_track.specs.Tracking.{is_closed, receiver, sender, tracked_other}
+use Rattle.pfl_track.specs.Rules.{branch, passed, segment_of, tracked_by, tracked_other_by, tracked_tcp_by}
+use Rattle.pfl_track.specs.Tracking.{is_closed, receiver, sender}
 use Rattle.pfl_language.specs.declared.fate.Fate.TheVariants as fate
 use Rattle.pfl_language.specs.declared.fate.Reason.TheVariants as reason
 use Rattle.pfl_world.proofs.ForCallers.track.{Stays, tracked_by-stays}
@@ -190,7 +190,7 @@ tracked-says follow k s p dir now = by (is_tcp p.proto) refl
 
     by : (tcp : Bool) → is_tcp p.proto ≡ tcp → SaysOfTests (option_map_or passes (cond tcp (Some tests) None) true) (tracked_by k s p dir now)
     by true is = subst (SaysOfTests (passes tests)) (sym (follow k s p dir now is)) (unless_again (is_request p && is_closed s) (branch_of tests))
-    by false is = subst (SaysOfTests true) (sym (ap (λ b. cond b (tracked_tcp_by k s p dir now) (Moved (tracked_other s dir now))) is)) refl
+    by false is = subst (SaysOfTests true) (sym (ap (λ b. cond b (tracked_tcp_by k s p dir now) (Moved (tracked_other_by k s p dir now))) is)) refl
 
 -- a new connection over a closed one
 tracked-reuse : (k : Kernel) (s : State) (p : Packet) (dir : Dir) (now : ℕ) → tracked_by k s p dir now ≡ Reused → IsReuse s p

@@ -99,7 +99,7 @@ abbrev pub IsBadFor : Node → StateName → Option KeyFields → BadRecord → 
 IsBadFor n name keys bad.Unknown = maps.get n.states name ≡ None
 IsBadFor n name keys bad.Known = IsSome (maps.get n.states name)
 IsBadFor n name keys bad.NotGiven = (name.creator ≡ n.creator) × (n.next_id ≤ name.id)
-IsBadFor n name keys bad.Deleting = kind_of n.queue name ≡ Some Delete
+IsBadFor n name keys bad.Deleting = (n.limits.kernel.revive ≡ false) × (kind_of n.queue name ≡ Some Delete)
 IsBadFor n name keys (bad.WireInUse other) = IsSomeAnd keys (λ k. HasState n other (λ s. is_key s.wire k.wire ≡ true))
 IsBadFor n name keys (bad.StackInUse other) = IsSomeAnd keys (λ k. HasState n other (λ s. is_key s.stack k.stack ≡ true))
 IsBadFor n name keys bad.Full = n.limits.states ≤ maps.len n.states

@@ -1,5 +1,5 @@
 -- A state that may be taken over may be put.
-use Rattle.std.specs.Prelude.{◌≡◌, ◌≤◌, ◌<◌, ℕ, ◌+◌, ◌==◌, ◌&&◌, ◌||◌, Bool, true, false, nat_le, nat_lt, length, Option, Some, None}
+use Rattle.std.specs.Prelude.{◌≡◌, ◌≢◌, ◌≤◌, ◌<◌, ℕ, ◌+◌, ◌==◌, ◌&&◌, ◌||◌, Bool, true, false, not, nat_le, nat_lt, length, Option, Some, None}
 use Rattle.std.specs.Prelude.{is_some, IfSome, refl}
 use Rattle.std.specs.Option.{option_map, option_or}
 use Rattle.std.proofs.Common.{cond, T, ◌∙◌, ap, sym, subst, arith}
@@ -14,10 +14,10 @@ use Rattle.pfl_desk.specs.table.Tables.{by_stack, by_wire, key_in_use}
 use Rattle.pfl_desk.proofs.ForCallers.table.{OwnsKeys-unused}
 use Rattle.pfl_wire.specs.declared.message.StateRecord.{StateRecord}
 use Rattle.pfl_desk.specs.queue.declared.Kind.{Kind}
-use Rattle.pfl_desk.specs.queue.declared.Kind.TheVariants.{InsertAck}
+use Rattle.pfl_desk.specs.queue.declared.Kind.TheVariants.{Delete, InsertAck}
 use Rattle.pfl_desk.specs.queue.declared.Mark.{Mark}
 use Rattle.pfl_desk.specs.queue.Queues.{kind_of}
-use Rattle.pfl_desk.specs.Changes.{put_state}
+use Rattle.pfl_desk.specs.Changes.{is_delete, put_state}
 use Rattle.pfl_desk.specs.inner.Kept.{MayAdd, MayMark}
 use Rattle.pfl_desk.specs.Nodes.{Node, AreParts, IsNodeState, IsGiven, IsPast, LeftFits}
 use Rattle.pfl_desk.proofs.ForCallers.{put-node, told-may}
@@ -26,7 +26,7 @@ use Rattle.pfl_receive.specs.declared.decision.BadRecord.TheVariants as bad
 use Rattle.pfl_receive.specs.declared.decision.Decision.{Decision}
 use Rattle.pfl_receive.specs.declared.decision.Decision.TheVariants as decision
 use Rattle.pfl_receive.specs.inner.Deciding.{MayDo, MayTakeOver}
-use Rattle.pfl_receive.specs.Receiving.{import_fault, is_known, is_not_given, is_delete, imported, kept_rule}
+use Rattle.pfl_receive.specs.Receiving.{import_fault, is_deleting, is_known, is_not_given, imported, kept_rule}
 
 -- ---- why it may be
 
@@ -34,7 +34,7 @@ use Rattle.pfl_receive.specs.Receiving.{import_fault, is_known, is_not_given, is
 pub record MayImport (n : Node) (r : StateRecord) : Type 0 where
   pub fresh : maps.get n.states r.name ≡ None
   pub given : IsGiven n r.name
-  pub untold : is_delete (kind_of n.queue r.name) ≡ false
+  pub untold : n.limits.kernel.revive ≡ false → is_delete (kind_of n.queue r.name) ≡ false
   pub unused : key_in_use n.states r.keys.wire r.keys.stack ≡ false
   pub room : maps.len n.states < n.limits.states
 
@@ -57,11 +57,11 @@ below a b e = grind (arith, nat_tests)
 
 -- a record with no fault
 pub may-import : (n : Node) (r : StateRecord) → import_fault n r ≡ None → MayImport n r
-may-import n r e = by (is_known n r.name) refl (is_not_given n r.name) refl (is_delete (kind_of n.queue r.name)) refl
+may-import n r e = by (is_known n r.name) refl (is_not_given n r.name) refl (is_deleting n r.name) refl
     (by_wire n.states r.keys.wire) refl (by_stack n.states r.keys.stack) refl (nat_le n.limits.states (maps.len n.states)) refl e
   where
     by : (known : Bool) → is_known n r.name ≡ known → (not_given : Bool) → is_not_given n r.name ≡ not_given
-        → (deleting : Bool) → is_delete (kind_of n.queue r.name) ≡ deleting → (wire : Option State) → by_wire n.states r.keys.wire ≡ wire
+        → (deleting : Bool) → is_deleting n r.name ≡ deleting → (wire : Option State) → by_wire n.states r.keys.wire ≡ wire
         → (stack : Option State) → by_stack n.states r.keys.stack ≡ stack → (full : Bool) → nat_le n.limits.states (maps.len n.states) ≡ full
         → cond known (Some bad.Known) (cond not_given (Some bad.NotGiven) (cond deleting (Some bad.Deleting)
         (option_or (option_map (λ (s : State). bad.WireInUse s.name) wire)
@@ -75,7 +75,7 @@ may-import n r e = by (is_known n r.name) refl (is_not_given n r.name) refl (is_
     by false k false g false d None w None s false f e = record {
       fresh = is-none (maps.get n.states r.name) k;
       given = given-is n r.name g;
-      untold = d;
+      untold = λ off. sym (ap (λ b. not b && is_delete (kind_of n.queue r.name)) off) ∙ d;
       unused = λ i. is_some (w i) || is_some (s i);
       room = below n.limits.states (maps.len n.states) f;
     }
@@ -109,12 +109,13 @@ within : (b : Bool) (len limit : ℕ) → len < limit → cond b len (len + 1) �
 within true len limit h = omega arith
 within false len limit h = omega arith
 
-no-mark : (n : Node) (r : StateRecord) → AreParts n → MayImport n r → (k : Mark) → maps.get n.queue.marks r.name ≡ Some k → ⊥
-no-mark n r is may k at =
-    let deletes = (is.marks r.name k at).1.0.1 may.fresh in
+-- a deletion of its name may be pending with `revive` alone
+no-deletion : (n : Node) (r : StateRecord) → MayImport n r → (k : Mark) → maps.get n.queue.marks r.name ≡ Some k
+    → n.limits.kernel.revive ≡ false → k.kind ≢ Delete
+no-deletion n r may k at off deletes =
     let kind : kind_of n.queue r.name ≡ Some k.kind = ap (option_map (λ (m : Mark). m.kind)) at in
     let told : is_delete (kind_of n.queue r.name) ≡ true = ap is_delete kind ∙ ap (λ (d : Kind). is_delete (Some d)) deletes in
-    subst T (sym told ∙ may.untold) tt
+    subst T (sym told ∙ may.untold off) tt
 
 -- the node with it is one
 imported-node : (n : Node) (b : Bool) (r : StateRecord) → AreParts n → MayImport n r → IsState (imported n b r)
@@ -126,14 +127,15 @@ imported-node n b r is may state past ahead =
     (subst (λ (k : ℕ). k ≤ n.limits.states) (sym (len-insert names_total n.states s.name s))
     (within (maps.contains_key n.states s.name) (maps.len n.states) n.limits.states may.room))
     (imported-state n b r may.given state past ahead)
-    (λ k at. absurd (no-mark n r is may k at))
+    (λ k at. (no-deletion n r may k at, refl))
 
 imported-may : (n : Node) (b : Bool) (r : StateRecord) → MayImport n r → MayAdd n (imported n b r)
 imported-may n b r may = record { fresh = may.fresh; unused = may.unused; room = may.room }
 
 -- and the name may be acknowledged
-acknowledged-may : (n : Node) (b : Bool) (r : StateRecord) → MayImport n r → MayMark (put_state n (imported n b r)) r.name InsertAck
-acknowledged-may n b r may =
+acknowledged-may : (n : Node) (b : Bool) (r : StateRecord) → MayImport n r → is_delete (kind_of n.queue r.name) ≡ false
+    → MayMark (put_state n (imported n b r)) r.name InsertAck
+acknowledged-may n b r may untold =
     let s = imported n b r in
     told-may (put_state n s) r.name InsertAck s (get-set_at_same names_total names_exact n.states s.name (Some s)) refl may.given (λ e. cc)
 

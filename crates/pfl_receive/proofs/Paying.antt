@@ -17,7 +17,7 @@ use Rattle.pfl_desk.specs.queue.Queues.{kind_of}
 use Rattle.pfl_merge.specs.declared.merged.Merged.{Merged}
 use Rattle.pfl_desk.specs.bulk.Bulk.{is_waiting, no_name}
 use Rattle.pfl_desk.specs.Changes.{put_state, is_held, is_unannounced, count_freed, lost, count_lost, without_held, released, not_waiting, changed}
-use Rattle.pfl_desk.specs.Changes.{count_stale, forgotten}
+use Rattle.pfl_desk.specs.Changes.{count_stale, forgotten, is_delete}
 use Rattle.pfl_desk.specs.Drafts.{Draft, Writes}
 use Rattle.pfl_desk.specs.Nodes.{Node}
 use Rattle.pfl_receive.specs.declared.decision.BadRecord.{BadRecord}
@@ -28,7 +28,7 @@ use Rattle.pfl_receive.specs.inner.Deciding.{cleared_in, done_edits}
 use Rattle.pfl_receive.specs.inner.Delivering.{IsPaid, paid_edits}
 use Rattle.pfl_receive.specs.Delivering.{cleared_by}
 use Rattle.pfl_receive.specs.Receiving.{acknowledging, answering, decided, has_states, import_fault, imported, importing, is_known, is_partly_announced}
-use Rattle.pfl_receive.specs.Receiving.{merged_into, merging, of_state, of_update, taken_over}
+use Rattle.pfl_receive.specs.Receiving.{merged_into, merging, of_state, of_update, taken_over, updating}
 use Rattle.pfl_receive.proofs.Cleared.{forgotten-states, known-some}
 
 -- k edits that leave l states more at most
@@ -69,7 +69,8 @@ few-changed n s k h =
     (either (k + 1) (is_tcp s.wire.proto) _ _ (few-put n _ k h) (few-put n s k h)))
 
 pub few-taken_over : (n : Node) (s : State) (ack : Bool) → Few (maps.len n.states + 1) (taken_over n s ack)
-few-taken_over n s ack = let put = few-put n s (maps.len n.states) (omega arith) in either _ ack _ _ put put
+few-taken_over n s ack = let put = few-put n s (maps.len n.states) (omega arith) in
+    either _ ack _ _ (either _ (is_delete (kind_of n.queue s.name)) _ _ put put) put
 
 pub few-merged : (n : Node) (m : Merged) → Few (maps.len n.states + 1) (merged_into (lost n m.state.name) m)
 few-merged n m =
@@ -139,8 +140,8 @@ pays n b (message.InsertAck name) = by (maps.get n.states name)
     by (Some s) = waits s.ack_wanted s
 pays n b (message.Update r) = by (maps.get n.states r.name)
   where
-    by : (o : Option State) → done_edits (option_map_or (merging n (of_state r)) o (importing n b r false)) ≤ paid_edits (message.Update r)
-    by None = fault-pays n b r false _ (lit≤ tt)
+    by : (o : Option State) → done_edits (option_map_or (merging n (of_state r)) o (updating n b r)) ≤ paid_edits (message.Update r)
+    by None = fault-pays n (b && not n.limits.kernel.rule) r false _ (lit≤ tt)
     by (Some s) = lit≤ tt
 pays n b (message.UpdateShort u) = by (maps.get n.states u.name)
   where
@@ -186,8 +187,8 @@ clears n b (message.InsertAck name) = by (maps.get n.states name)
     by (Some s) = elim s.ack_wanted as (λ w. cleared_in n (cond w (decision.Release s.name) decision.Nothing) ≡ 0) [ true ↦ refl | false ↦ refl ]
 clears n b (message.Update r) = by (maps.get n.states r.name)
   where
-    by : (o : Option State) → cleared_in n (option_map_or (merging n (of_state r)) o (importing n b r false)) ≡ 0
-    by None = import-clears n b r false
+    by : (o : Option State) → cleared_in n (option_map_or (merging n (of_state r)) o (updating n b r)) ≡ 0
+    by None = import-clears n (b && not n.limits.kernel.rule) r false
     by (Some s) = refl
 clears n b (message.UpdateShort u) = by (maps.get n.states u.name)
   where

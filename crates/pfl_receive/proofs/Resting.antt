@@ -1,5 +1,5 @@
 -- What a decision rests on: the record that it is of, and what was found at the node.
-use Rattle.std.specs.Prelude.{◌≡◌, Bool, true, false, not, ◌&&◌, Option, Some, None, refl}
+use Rattle.std.specs.Prelude.{◌≡◌, ℕ, Bool, true, false, not, ◌&&◌, Option, Some, None, refl}
 use Rattle.std.specs.Option.{option_map_or}
 use Rattle.std.proofs.Common.{cond, ◌∙◌, ap, subst}
 use Rattle.pfl_base.specs.Names.{is_name}
@@ -20,18 +20,19 @@ use Rattle.pfl_receive.specs.declared.decision.Decision.{Decision}
 use Rattle.pfl_receive.specs.declared.decision.Decision.TheVariants.{Import, Merge, Ask, Queue, Serve, Release, Delete, Clear, Hear, Nothing, Bad}
 use Rattle.pfl_receive.specs.Bringing.{name_in, received_in, whole_in}
 use Rattle.pfl_receive.specs.Receiving.{acknowledging, answering, decided, has_states, import_fault, imported, importing, is_known, is_partly_announced}
-use Rattle.pfl_receive.specs.Receiving.{does, merging, of_state, of_update, taken}
+use Rattle.pfl_receive.specs.Receiving.{clear_bound, does, merging, of_state, of_update, taken, updating}
 
 -- a state that the record is about stands at the node
 abbrev pub IsFound : Node → Message → State → Type 0
 IsFound n m s = maps.get n.states (name_in m) ≡ Some s
 
--- the record brings a state without a fault, which is kept so
-pub record IsImported (n : Node) (b : Bool) (m : Message) (s : State) : Type 0 where
+-- the record brings a state without a fault, which is kept so, with its rule or without
+pub record IsImported (n : Node) (m : Message) (s : State) : Type 0 where
   pub sent : StateRecord
   pub brought : whole_in m ≡ Some sent
   pub free : import_fault n sent ≡ None
-  pub is : s ≡ imported n b sent
+  pub same_rules : Bool
+  pub is : s ≡ imported n same_rules sent
 
 -- the record brings something of a state of the node, and a merge gives this
 pub record IsMergedFrom (n : Node) (m : Message) (x : Merged) : Type 0 where
@@ -48,28 +49,28 @@ deletes (message.DeleteShort name) = true
 deletes other = false
 
 -- what each decision rests on
-unfoldable pub RestsOn : Node → Bool → Message → Decision → Type 0
-RestsOn n b m (Import s ack) = IsImported n b m s
-RestsOn n b m (Merge x) = IsMergedFrom n m x
-RestsOn n b m (Ask name) = (maps.get n.states name ≡ None) × (name ≡ name_in m)
-RestsOn n b m (Queue name) = (s : State) × (IsFound n m s × (name ≡ s.name))
-RestsOn n b m (Serve begins) = begins ≡ has_states n
-RestsOn n b m (Release name) = (s : State) × (IsFound n m s × (name ≡ s.name) × (s.ack_wanted ≡ true) × (m ≡ message.InsertAck (name_in m)))
-RestsOn n b m (Delete name) = (is_known n name ≡ true) × (name ≡ name_in m) × (deletes m ≡ true)
-RestsOn n b m (Clear creator bound) = m ≡ message.Clear creator bound
-RestsOn n b m (Hear status) = is_waiting n.client ≡ true
-RestsOn n b m other = Unit {0}
+unfoldable pub RestsOn : Node → Message → Decision → Type 0
+RestsOn n m (Import s ack) = IsImported n m s
+RestsOn n m (Merge x) = IsMergedFrom n m x
+RestsOn n m (Ask name) = (maps.get n.states name ≡ None) × (name ≡ name_in m)
+RestsOn n m (Queue name) = (s : State) × (IsFound n m s × (name ≡ s.name))
+RestsOn n m (Serve begins) = begins ≡ has_states n
+RestsOn n m (Release name) = (s : State) × (IsFound n m s × (name ≡ s.name) × (s.ack_wanted ≡ true) × (m ≡ message.InsertAck (name_in m)))
+RestsOn n m (Delete name) = (is_known n name ≡ true) × (name ≡ name_in m) × (deletes m ≡ true)
+RestsOn n m (Clear creator bound) = (sent : ℕ) × ((m ≡ message.Clear creator sent) × (bound ≡ clear_bound n sent))
+RestsOn n m (Hear status) = is_waiting n.client ≡ true
+RestsOn n m other = Unit {0}
 
-module _ (n : Node) (b : Bool) (m : Message) where
+module _ (n : Node) (m : Message) where
   abbrev So : Decision → Type 0
-  So = RestsOn n b m
+  So = RestsOn n m
 
-  import-rests : (r : StateRecord) (ack : Bool) → whole_in m ≡ Some r → So (importing n b r ack)
+  import-rests : (b : Bool) (r : StateRecord) (ack : Bool) → whole_in m ≡ Some r → So (importing n b r ack)
   unfolding RestsOn
-  import-rests r ack brings = by (import_fault n r) refl
+  import-rests b r ack brings = by (import_fault n r) refl
     where
       by : (o : Option BadRecord) → import_fault n r ≡ o → So (option_map_or Bad o (Import (imported n b r) ack))
-      by None free = record { sent = r; brought = brings; free = free; is = refl }
+      by None free = record { sent = r; brought = brings; free = free; same_rules = b; is = refl }
       by (Some why) found = tt
 
   merge-rests : (r : Received) (s : State) → received_in m ≡ Some r → IsFound n m s → So (merging n r s)
@@ -84,48 +85,48 @@ module _ (n : Node) (b : Bool) (m : Message) where
       by true known = (known, refl, is)
       by false known = tt
 
-pub rests : (n : Node) (b : Bool) (m : Message) → RestsOn n b m (decided n b m)
+pub rests : (n : Node) (b : Bool) (m : Message) → RestsOn n m (decided n b m)
 unfolding RestsOn decided
-rests n b (message.Clear creator bound) = refl
-rests n b (message.Insert r) = import-rests n b (message.Insert r) r r.ack_wanted refl
+rests n b (message.Clear creator bound) = (bound, (refl, refl))
+rests n b (message.Insert r) = import-rests n (message.Insert r) b r r.ack_wanted refl
 rests n b (message.InsertAck name) = by (maps.get n.states name) refl
   where
     waits : (s : State) → maps.get n.states name ≡ Some s → (w : Bool) → s.ack_wanted ≡ w
-        → RestsOn n b (message.InsertAck name) (cond w (Release s.name) Nothing)
+        → RestsOn n (message.InsertAck name) (cond w (Release s.name) Nothing)
     waits s at true wanted = (s, (at, refl, wanted, refl))
     waits s at false wanted = tt
 
-    by : (o : Option State) → maps.get n.states name ≡ o → RestsOn n b (message.InsertAck name) (option_map_or acknowledging o Nothing)
+    by : (o : Option State) → maps.get n.states name ≡ o → RestsOn n (message.InsertAck name) (option_map_or acknowledging o Nothing)
     by None at = tt
     by (Some s) at = waits s at s.ack_wanted refl
 rests n b (message.Update r) = by (maps.get n.states r.name) refl
   where
     by : (o : Option State) → maps.get n.states r.name ≡ o
-        → RestsOn n b (message.Update r) (option_map_or (merging n (of_state r)) o (importing n b r false))
-    by None at = import-rests n b (message.Update r) r false refl
-    by (Some s) at = merge-rests n b (message.Update r) (of_state r) s refl at
+        → RestsOn n (message.Update r) (option_map_or (merging n (of_state r)) o (updating n b r))
+    by None at = import-rests n (message.Update r) (b && not n.limits.kernel.rule) r false refl
+    by (Some s) at = merge-rests n (message.Update r) (of_state r) s refl at
 rests n b (message.UpdateShort u) = by (maps.get n.states u.name) refl
   where
     by : (o : Option State) → maps.get n.states u.name ≡ o
-        → RestsOn n b (message.UpdateShort u) (option_map_or (merging n (of_update u)) o (Ask u.name))
+        → RestsOn n (message.UpdateShort u) (option_map_or (merging n (of_update u)) o (Ask u.name))
     by None at = (at, refl)
-    by (Some s) at = merge-rests n b (message.UpdateShort u) (of_update u) s refl at
+    by (Some s) at = merge-rests n (message.UpdateShort u) (of_update u) s refl at
 rests n b (message.UpdateRequest name) = by (is_name no_name name) (maps.get n.states name) refl
   where
-    answers : (s : State) → maps.get n.states name ≡ Some s → (w : Bool) → RestsOn n b (message.UpdateRequest name) (cond w (Queue s.name) Nothing)
+    answers : (s : State) → maps.get n.states name ≡ Some s → (w : Bool) → RestsOn n (message.UpdateRequest name) (cond w (Queue s.name) Nothing)
     answers s at true = (s, (at, refl))
     answers s at false = tt
 
     by : (all : Bool) (o : Option State) → maps.get n.states name ≡ o
-        → RestsOn n b (message.UpdateRequest name) (cond all (Serve (has_states n)) (option_map_or (answering n) o (Bad bad.Unknown)))
+        → RestsOn n (message.UpdateRequest name) (cond all (Serve (has_states n)) (option_map_or (answering n) o (Bad bad.Unknown)))
     by true o at = refl
     by false None at = tt
     by false (Some s) at = answers s at (not s.no_sync && is_partly_announced (kind_of n.queue s.name))
-rests n b (message.Delete r) = delete-rests n b (message.Delete r) refl
-rests n b (message.DeleteShort name) = delete-rests n b (message.DeleteShort name) refl
+rests n b (message.Delete r) = delete-rests n (message.Delete r) refl
+rests n b (message.DeleteShort name) = delete-rests n (message.DeleteShort name) refl
 rests n b (message.Bulk creator status) = by (is_waiting n.client) refl
   where
-    by : (w : Bool) → is_waiting n.client ≡ w → RestsOn n b (message.Bulk creator status) (cond w (Hear status) Nothing)
+    by : (w : Bool) → is_waiting n.client ≡ w → RestsOn n (message.Bulk creator status) (cond w (Hear status) Nothing)
     by true waits = waits
     by false waits = tt
 

@@ -9,7 +9,7 @@ use Rattle.pfl_wire.specs.declared.message.Message.TheVariants as message
 use Rattle.pfl_wire.specs.Frames.{Frame, records_of}
 use Rattle.pfl_desk.specs.Nodes.{Node}
 use Rattle.pfl_desk.specs.Weights.{forgotten_edits}
-use Rattle.pfl_receive.specs.Receiving.{taken, cleared_names}
+use Rattle.pfl_receive.specs.Receiving.{taken, cleared_names, clear_bound}
 
 -- ---- records
 
@@ -17,9 +17,9 @@ use Rattle.pfl_receive.specs.Receiving.{taken, cleared_names}
 abbrev pub taken_points : Node → Bool → List Message → List Node
 taken_points n same_rules messages = folds (λ m r. taken m same_rules r) n messages
 
--- the states that a record removes by its bound
+-- the states that a clear removes
 unfoldable pub cleared_by : Node → Message → ℕ
-cleared_by n (message.Clear creator bound) = length (cleared_names n creator bound)
+cleared_by n (message.Clear creator bound) = length (cleared_names n creator (clear_bound n bound))
 cleared_by n _ = 0
 
 -- what records are about: themselves, and the states that they clear

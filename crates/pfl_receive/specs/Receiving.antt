@@ -1,6 +1,6 @@
--- What a record from the peer comes to at a node, and what that does (if_pfsync.c; when a record is bad, the bound of a clear, taking
--- over by an update and, without `expiry`, the last use that is kept are this project's profile).
-use Rattle.std.specs.Prelude.{ℕ, Bool, true, false, not, ◌&&◌, ◌||◌, ◌==◌, nat_lt, nat_le, List, length, filter, Option, Some, None, is_some, if◌then◌else◌}
+-- What a record from the peer comes to at a node, and what that does (if_pfsync.c; when a record is bad and, each without its word of
+-- `kernel`, the bound of a clear, the rule that an update brings and the last use that is kept are this project's profile).
+use Rattle.std.specs.Prelude.{ℕ, ◌-◌, ◌^◌, Bool, true, false, not, ◌&&◌, ◌||◌, ◌==◌, nat_lt, nat_le, List, length, filter, Option, Some, None, is_some, if◌then◌else◌}
 use Rattle.std.specs.List.{fold}
 use Rattle.std.specs.Option.{option_map, option_map_or, option_or}
 use Rattle.pfl_base.specs.declared.state_name.StateName.{StateName}
@@ -17,14 +17,14 @@ use Rattle.pfl_wire.specs.declared.message.UpdateRecord.{UpdateRecord}
 use Rattle.pfl_wire.specs.declared.message.Message.{Message}
 use Rattle.pfl_wire.specs.declared.message.Message.TheVariants as message
 use Rattle.pfl_desk.specs.queue.declared.Kind.{Kind}
-use Rattle.pfl_desk.specs.queue.declared.Kind.TheVariants.{InsertAck, Update, UpdateShort, Delete}
+use Rattle.pfl_desk.specs.queue.declared.Kind.TheVariants.{InsertAck, Update, UpdateShort}
 use Rattle.pfl_desk.specs.queue.Queues.{kind_of}
 use Rattle.pfl_merge.specs.declared.received.Received.{Received}
 use Rattle.pfl_merge.specs.declared.merged.Merged.{Merged}
 use Rattle.pfl_merge.specs.Merging.{merged, imported_use}
 use Rattle.pfl_desk.specs.bulk.Bulk.{no_name, is_waiting, server_started, after_status}
 use Rattle.pfl_desk.specs.Nodes.{Node, timeout_at}
-use Rattle.pfl_desk.specs.Changes.{put_state, mark, push_if, ask, announce_status, count_bad, count_stale, lost, released, changed, forgotten}
+use Rattle.pfl_desk.specs.Changes.{put_state, mark, push_if, ask, announce_status, count_bad, count_stale, lost, released, changed, is_delete, forgotten}
 use Rattle.pfl_receive.specs.declared.decision.BadRecord.{BadRecord}
 use Rattle.pfl_receive.specs.declared.decision.BadRecord.TheVariants as bad
 use Rattle.pfl_receive.specs.declared.decision.Decision.{Decision}
@@ -40,11 +40,6 @@ is_known n name = is_some (maps.get n.states name)
 abbrev pub is_not_given : Node → StateName → Bool
 is_not_given n name = (name.creator == n.creator) && nat_le n.next_id name.id
 
--- its deletion is still to be announced
-abbrev pub is_delete : Option Kind → Bool
-is_delete (Some Delete) = true
-is_delete _ = false
-
 -- the state with a key of the record's, or else the limit
 abbrev pub key_fault : Node → StateRecord → Option BadRecord
 key_fault n r =
@@ -52,12 +47,17 @@ key_fault n r =
     (option_or (option_map (λ (s : State). bad.StackInUse s.name) (by_stack n.states r.keys.stack))
     (if nat_le n.limits.states (maps.len n.states) then Some bad.Full else None))
 
+-- the peer does not know yet that the node deleted the state, which is why it is not taken over again, but with `revive` (if_pfsync.c, as far
+-- as we know it)
+abbrev pub is_deleting : Node → StateName → Bool
+is_deleting n name = not n.limits.kernel.revive && is_delete (kind_of n.queue name)
+
 -- why a state may not be taken over, if there is a reason: the first one
 abbrev pub import_fault : Node → StateRecord → Option BadRecord
 import_fault n r =
     if is_known n r.name then Some bad.Known else
     if is_not_given n r.name then Some bad.NotGiven else
-    if is_delete (kind_of n.queue r.name) then Some bad.Deleting else key_fault n r
+    if is_deleting n r.name then Some bad.Deleting else key_fault n r
 
 -- a rule number means a rule only under the same rules
 abbrev pub kept_rule : Node → Bool → Option ℕ → Option ℕ
@@ -137,12 +137,20 @@ deleting n name = if is_known n name then decision.Delete name else decision.Bad
 abbrev pub hearing : Node → BulkStatus → Decision
 hearing n status = if is_waiting n.client then decision.Hear status else decision.Nothing
 
+-- a state of an update that the node has not: with `rule` it has no rule, whatever the peer's are (if_pfsync.c, as far as we know it)
+abbrev pub updating : Node → Bool → StateRecord → Decision
+updating n same_rules r = importing n (same_rules && not n.limits.kernel.rule) r false
+
+-- the bound of a clear: with `clear` all ids, which have 64 bits (if_pfsync.c, as far as we know it)
+abbrev pub clear_bound : Node → ℕ → ℕ
+clear_bound n bound = if n.limits.kernel.clear then 2 ^ 64 - 1 else bound
+
 -- what a record of the peer's comes to at the node; same_rules says that the peer's rules are the node's own
 unfoldable pub decided : Node → Bool → Message → Decision
-decided n same_rules (message.Clear creator bound) = decision.Clear creator bound
+decided n same_rules (message.Clear creator bound) = decision.Clear creator (clear_bound n bound)
 decided n same_rules (message.Insert r) = importing n same_rules r r.ack_wanted
 decided n same_rules (message.InsertAck name) = option_map_or acknowledging (maps.get n.states name) decision.Nothing
-decided n same_rules (message.Update r) = option_map_or (merging n (of_state r)) (maps.get n.states r.name) (importing n same_rules r false)
+decided n same_rules (message.Update r) = option_map_or (merging n (of_state r)) (maps.get n.states r.name) (updating n same_rules r)
 decided n same_rules (message.UpdateShort u) = option_map_or (merging n (of_update u)) (maps.get n.states u.name) (decision.Ask u.name)
 decided n same_rules (message.UpdateRequest name) = requesting n name
 decided n same_rules (message.Delete r) = deleting n r.name
@@ -151,9 +159,13 @@ decided n same_rules (message.Bulk creator status) = hearing n status
 
 -- ---- what that does
 
+-- the name is to be acknowledged, but not in the place of a deletion that is still to be announced
+abbrev pub acknowledged : Node → StateName → Node
+acknowledged n name = if is_delete (kind_of n.queue name) then n else mark n name InsertAck
+
 -- a state is taken over, and acknowledged if that is wanted
 abbrev pub taken_over : Node → State → Bool → Node
-taken_over n s ack_wanted = if ack_wanted then push_if true (mark (put_state n s) s.name InsertAck) else put_state n s
+taken_over n s ack_wanted = if ack_wanted then push_if true (acknowledged (put_state n s) s.name) else put_state n s
 
 -- where an end was stale, the state is sent back, also with `merge`, by which a stale destination may have been taken
 abbrev pub merged_into : Node → Merged → Node

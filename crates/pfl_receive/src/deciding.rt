@@ -26,7 +26,7 @@ pub fn decide<A: Allocator>(parts: &Parts<A>, message: &Message, same_rules: boo
     match message {
         Message::Clear { creator, bound } => Decision::Clear {
             creator: *creator,
-            bound: *bound,
+            bound: clear_bound(parts, *bound),
         },
         Message::Insert(sent) => import_decision(parts, sent, sent.ack_wanted, same_rules),
         Message::InsertAck(name) => ack_decision(parts, *name),
@@ -36,6 +36,17 @@ pub fn decide<A: Allocator>(parts: &Parts<A>, message: &Message, same_rules: boo
         Message::Delete(sent) => delete_decision(parts, sent.name),
         Message::DeleteShort(name) => delete_decision(parts, *name),
         Message::Bulk { status, .. } => status_decision(parts, *status),
+    }
+}
+
+/// The bound of a clear, which is none with `clear` (if_pfsync.c, as far as we know it).
+fn clear_bound<A: Allocator>(parts: &Parts<A>, bound: u64) -> u64
+    ensures { result ≡ receiving.clear_bound parts.now bound }
+{
+    if parts.kernel().clear {
+        u64::MAX
+    } else {
+        bound
     }
 }
 
@@ -50,15 +61,15 @@ fn ack_decision<A: Allocator>(parts: &Parts<A>, name: StateName) -> Decision
     }
 }
 
-/// A whole state: it is merged, or taken over.
+/// A whole state: it is merged, or taken over, by `rule` without its rule (if_pfsync.c, as far as we know it).
 fn update_decision<A: Allocator>(parts: &Parts<A>, sent: &StateRecord, same_rules: bool) -> Decision
     ensures decided { result ≡ option_map_or (receiving.merging parts.now (receiving.of_state sent.now)) (maps.get parts.now.states sent.now.name)
-        (receiving.importing parts.now same_rules sent.now false) }
+        (receiving.updating parts.now same_rules sent.now) }
     ensures may { MayDo parts.now result }
 {
     match parts.states().by_name(sent.name) {
         Some(state) => merge_decision(parts, state, &of_state(sent)),
-        None => import_decision(parts, sent, false, same_rules),
+        None => import_decision(parts, sent, false, same_rules && !parts.kernel().rule),
     }
 }
 

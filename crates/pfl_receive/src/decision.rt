@@ -31,7 +31,8 @@ pub enum Decision {
     Bad(BadRecord),
     /// This state is taken over, and acknowledged if that is wanted.
     Import { state: State, ack_wanted: bool },
-    /// What a merge gave takes the place of the node's state, and is sent back where an end was older than the node's.
+    /// What a merge gave takes the place of the node's state. Where an end was older than the node's, it is sent back, unless its
+    /// deletion is pending.
     Merge(Merged),
     /// The whole state is asked for.
     Ask(StateName),

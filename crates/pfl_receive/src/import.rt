@@ -45,7 +45,7 @@ fn import_fault<A: Allocator>(parts: &Parts<A>, sent: &StateRecord) -> Option<Ba
     if is_not_given(parts, name) {
         return Some(BadRecord::NotGiven);
     }
-    if is_deletion(parts.queue().kind_of(name)) {
+    if is_deleting(parts, name) {
         return Some(BadRecord::Deleting);
     }
     key_fault(parts, sent)
@@ -58,11 +58,11 @@ fn is_not_given<A: Allocator>(parts: &Parts<A>, name: StateName) -> bool
     name.creator == parts.creator() && parts.next_id() <= name.id
 }
 
-/// A deletion is still to be announced.
-fn is_deletion(kind: Option<Kind>) -> bool
-    ensures { result ≡ receiving.is_delete kind }
+/// The peer does not know yet that the node deleted the state; with `revive` that does not matter (if_pfsync.c, as far as we know it).
+fn is_deleting<A: Allocator>(parts: &Parts<A>, name: StateName) -> bool
+    ensures deleting { result ≡ receiving.is_deleting parts.now name }
 {
-    matches!(kind, Some(Kind::Delete))
+    !parts.kernel().revive && parts.queue().kind_of(name) == Some(Kind::Delete)
 }
 
 /// The state that has a key of the record's, the wire key first, or else the limit.

@@ -2,4 +2,4 @@
 
 /// The release, the sum of its sources, and the logic that proves them.
 pub(crate) const VERSION: &str =
-    "release 25, sources 08b9e79378126660ff510672d0346908159d8942281c615418a555a488ac8b04, logic dac8208d650f15bf";
+    "release 26, sources cc830c6be74e8e855f9b57235771a10cb2544b3935e6911b047fc18cf69ed740, logic dac8208d650f15bf";

@@ -5,6 +5,7 @@ pub mod Keeping
 pub mod Along
 pub mod Families
 mod Worked
+mod WorkedLevels
 mod WorkedRules
 mod WorkedScales
 pub mod ForCallers

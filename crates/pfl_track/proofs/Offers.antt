@@ -11,7 +11,8 @@ use Rattle.pfl_track.specs.declared.tracked.Tracked.{Tracked}
 use Rattle.pfl_track.specs.declared.tracked.Tracked.TheVariants.{Moved, Reused}
 use Rattle.pfl_track.specs.RuleLaws.{ScaleAnswersOffers, UnitsCover}
 use Rattle.pfl_track.specs.Rules.{branch, eased, is_to_begin, passed, plain, segment_of, tracked_tcp_by, without_scale}
-use Rattle.pfl_track.specs.Tracking.{is_closed, receiver, sender, tracked_other}
+use Rattle.pfl_track.specs.Tracking.{is_closed, receiver, sender}
+use Rattle.pfl_track.specs.Rules.{tracked_other_by}
 
 never : (b x y : Bool) → (x && y) ≡ false → (b && x && y) ≡ false
 never true x y e = e
@@ -47,8 +48,8 @@ answers-offers kernel s p dir now none = by-proto (is_tcp p.proto)
     by-tcp : tracked_tcp_by with_it s p dir now ≡ tracked_tcp_by without s p dir now
     by-tcp = ap by-way segments
 
-    by-proto : (b : Bool) → cond b (tracked_tcp_by with_it s p dir now) (Moved (tracked_other s dir now))
-        ≡ cond b (tracked_tcp_by without s p dir now) (Moved (tracked_other s dir now))
+    by-proto : (b : Bool) → cond b (tracked_tcp_by with_it s p dir now) (Moved (tracked_other_by kernel s p dir now))
+        ≡ cond b (tracked_tcp_by without s p dir now) (Moved (tracked_other_by kernel s p dir now))
     by-proto true = by-tcp
     by-proto false = refl
 

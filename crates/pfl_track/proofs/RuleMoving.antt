@@ -17,7 +17,7 @@ use Rattle.pfl_track.specs.declared.tracked.Tracked.TheVariants.{Moved, OutOfWin
 use Rattle.pfl_track.specs.Levels.{receiver_level}
 use Rattle.pfl_track.specs.RuleLaws.{AllRenewBy, EndsMoveBy, LooseAdds, NoneIsProfile, ResetRefuses}
 use Rattle.pfl_track.specs.Rules.{asks_number, branch, is_beside, is_in_window, is_inside_by, is_lenient, is_near, is_nearby}
-use Rattle.pfl_track.specs.Rules.{passed, plain, receiver_by}
+use Rattle.pfl_track.specs.Rules.{has_no_levels, passed, plain, receiver_by, tracked_other_by}
 use Rattle.pfl_track.specs.Rules.{segment_of, sender_by, touched, tracked_by, tracked_tcp_by, tracks_by_profile, widened}
 use Rattle.pfl_track.specs.Tracking.{from_src, is_closed, moved, receiver, sender, tracked_other, tracked_tcp, used}
 use Rattle.pfl_track.specs.Windows.{acknowledges, at_scale, begun, is_inside, is_scaled, left_edge, max_ack_window}
@@ -46,9 +46,18 @@ loose-on true loose lenient nearby e = cc
 loose-on false true lenient nearby e = refl
 loose-on false false lenient nearby e = cc
 
+-- what holds of the state that is only used, and by the profile, holds after a packet of another protocol
+pub other-by : (P : State → Type 0) (kernel : Kernel) (s : State) (p : Packet) (dir : Dir) (now : ℕ) → P (used s s.src s.dst now)
+    → P (tracked_other s dir now) → P (tracked_other_by kernel s p dir now)
+other-by P kernel s p dir now in_place moves = by (has_no_levels kernel p.proto)
+  where
+    by : (b : Bool) → P (cond b (used s s.src s.dst now) (tracked_other s dir now))
+    by true = in_place
+    by false = moves
+
 -- what holds of the state after each branch holds of the moved state
 module _ (P : State → Type 0) (kernel : Kernel) (s : State) (p : Packet) (dir : Dir) (now : ℕ) (t : State) (in_window : P (renewed kernel s p dir now))
-    (in_loose : kernel.loose ≡ true → P (loosened kernel s p dir)) (in_other : P (tracked_other s dir now)) where
+    (in_loose : kernel.loose ≡ true → P (loosened kernel s p dir)) (in_other : P (tracked_other_by kernel s p dir now)) where
   by-way : (b : Option Branch) → (b ≡ Some Loose → kernel.loose ≡ true) → passed s (segment-in kernel s p dir) p dir now b ≡ Moved t → P t
   by-way None on e = cc
   by-way (Some Window) on e = let same : renewed kernel s p dir now ≡ t = cc in subst P same in_window
@@ -65,9 +74,9 @@ module _ (P : State → Type 0) (kernel : Kernel) (s : State) (p : Packet) (dir 
       by-reuse (is_request p && is_closed s) (branch kernel g p)
       (loose-on (is_inside_by kernel g p) kernel.loose (is_lenient g) (is_nearby g)) e
 
-  by-proto : (b : Bool) → cond b (tracked_tcp_by kernel s p dir now) (Moved (tracked_other s dir now)) ≡ Moved t → P t
+  by-proto : (b : Bool) → cond b (tracked_tcp_by kernel s p dir now) (Moved (tracked_other_by kernel s p dir now)) ≡ Moved t → P t
   by-proto true e = by-tcp e
-  by-proto false e = let same : tracked_other s dir now ≡ t = cc in subst P same in_other
+  by-proto false e = let same : tracked_other_by kernel s p dir now ≡ t = cc in subst P same in_other
 
   pub moved-by : tracked_by kernel s p dir now ≡ Moved t → P t
   moved-by e = by-proto (is_tcp p.proto) e
@@ -83,6 +92,9 @@ moved-used s dir from to now = by (from_src s dir)
     by true = refl
     by false = refl
 
+other-used : (kernel : Kernel) (s : State) (p : Packet) (dir : Dir) (now : ℕ) → IsUsed s now (tracked_other_by kernel s p dir now)
+other-used kernel s p dir now = other-by (IsUsed s now) kernel s p dir now refl (moved-used s dir _ _ now)
+
 -- the state is s with its own ends
 abbrev IsTouched : State → State → Type 0
 IsTouched s t = t ≡ record s { src = t.src; dst = t.dst }
@@ -97,15 +109,15 @@ touched-is s dir from to = by (from_src s dir)
 pub ends-move : EndsMoveBy
 ends-move kernel s p dir now t e =
     moved-by (λ (u : State). IsUsed s now u ⊎ IsTouched s u) kernel s p dir now t (inl (moved-used s dir _ _ now)) (λ _. inr (touched-is s dir _ _))
-    (inl (moved-used s dir _ _ now)) e
+    (inl (other-used kernel s p dir now)) e
 
 pub all-renew : AllRenewBy
 all-renew kernel s p dir now t off e =
-    moved-by (IsUsed s now) kernel s p dir now t (moved-used s dir _ _ now) (λ on. let no : true ≡ false = cc in cc) (moved-used s dir _ _ now) e
+    moved-by (IsUsed s now) kernel s p dir now t (moved-used s dir _ _ now) (λ on. let no : true ≡ false = cc in cc) (other-used kernel s p dir now) e
 
--- the profile, whatever updates do
-abbrev pub untracked : Bool → Bool → Kernel
-untracked merge expiry = record { window = false; loose = false; merge = merge; expiry = expiry; reset = false; scale = false }
+-- packets are tracked by the profile
+abbrev pub untracked : Kernel → Kernel
+untracked kernel = record kernel { window = false; loose = false; reset = false; scale = false; icmp = false }
 
 -- with none of the kernel's rules the tests are those of the profile
 inside-by : (right left counts : Bool) (near : ℕ → Bool) (number : ℕ)
@@ -119,9 +131,9 @@ inside-by true true true near number = by (near number)
     by true = refl
     by false = refl
 
-profile-inside : (merge expiry : Bool) (s d : Peer) (p : Packet)
-    → is_inside_by (untracked merge expiry) (plain false s d p) p ≡ is_inside (begun s d p) d p
-profile-inside merge expiry s d p =
+profile-inside : (kernel : Kernel) (s d : Peer) (p : Packet)
+    → is_inside_by (untracked kernel) (plain false s d p) p ≡ is_inside (begun s d p) d p
+profile-inside kernel s d p =
     let from = begun s d p in
     inside-by (right_edge from p) (left_edge from (at_scale (is_scaled from d p) d d.window) p) (acknowledges d p)
     (is_near (at_scale (is_scaled from d p) from max_ack_window) d.lo) p.ack
@@ -137,9 +149,9 @@ profile-receiver s d p = ap with_hi (allowed-by (acknowledges d p) p.ack (offere
     with_hi : ℕ → Peer
     with_hi hi = record d { level = receiver_level p d.level; hi = hi }
 
-profile-tcp : (merge expiry : Bool) (s : State) (p : Packet) (dir : Dir) (now : ℕ)
-    → tracked_tcp_by (untracked merge expiry) s p dir now ≡ tracked_tcp s p dir now
-profile-tcp merge expiry s p dir now = ap after (by-inside (is_inside_by (untracked merge expiry) g p) ∙ same)
+profile-tcp : (kernel : Kernel) (s : State) (p : Packet) (dir : Dir) (now : ℕ)
+    → tracked_tcp_by (untracked kernel) s p dir now ≡ tracked_tcp s p dir now
+profile-tcp kernel s p dir now = ap after (by-inside (is_inside_by (untracked kernel) g p) ∙ same)
   where
     from : Peer
     from = sender s dir
@@ -160,27 +172,28 @@ profile-tcp merge expiry s p dir now = ap after (by-inside (is_inside_by (untrac
     by-inside true = refl
     by-inside false = refl
 
-    same : outcome (is_inside_by (untracked merge expiry) g p) (receiver_by Window g p)
+    same : outcome (is_inside_by (untracked kernel) g p) (receiver_by Window g p)
         ≡ outcome (is_inside (begun from to p) to p) (receiver_after (begun from to p) to p)
-    same = ap (λ (b : Bool). outcome b (receiver_by Window g p)) (profile-inside merge expiry from to p)
+    same = ap (λ (b : Bool). outcome b (receiver_by Window g p)) (profile-inside kernel from to p)
         ∙ ap (λ (e : Peer). outcome (is_inside (begun from to p) to p) e) (profile-receiver from to p)
 
--- where none of these rules is the kernel's, it is the profile but for what updates do
-none-is : (window loose merge expiry reset scale : Bool) → not (window || loose || reset || scale) ≡ true
-    → record { window = window; loose = loose; merge = merge; expiry = expiry; reset = reset; scale = scale } ≡ untracked merge expiry
-none-is false false merge expiry false false e = refl
-none-is true loose merge expiry reset scale e = cc
-none-is false true merge expiry reset scale e = cc
-none-is false false merge expiry true scale e = cc
-none-is false false merge expiry false true e = cc
+-- where none of these rules is the kernel's, packets are tracked by the profile
+none-is : (k : Kernel) (window loose reset scale icmp : Bool) → not (window || loose || reset || scale || icmp) ≡ true
+    → record k { window = window; loose = loose; reset = reset; scale = scale; icmp = icmp } ≡ untracked k
+none-is k false false false false false e = refl
+none-is k true loose reset scale icmp e = cc
+none-is k false true reset scale icmp e = cc
+none-is k false false true scale icmp e = cc
+none-is k false false false true icmp e = cc
+none-is k false false false false true e = cc
 
-pub is-profile : (kernel : Kernel) → tracks_by_profile kernel ≡ true → kernel ≡ untracked kernel.merge kernel.expiry
-is-profile kernel e = none-is kernel.window kernel.loose kernel.merge kernel.expiry kernel.reset kernel.scale e
+pub is-profile : (kernel : Kernel) → tracks_by_profile kernel ≡ true → kernel ≡ untracked kernel
+is-profile kernel e = none-is kernel kernel.window kernel.loose kernel.reset kernel.scale kernel.icmp e
 
 pub profile-tracked : NoneIsProfile
 profile-tracked kernel s p dir now e =
     ap (λ (k : Kernel). tracked_by k s p dir now) (is-profile kernel e)
-    ∙ ap (λ (r : Tracked). cond (is_tcp p.proto) r (Moved (tracked_other s dir now))) (profile-tcp kernel.merge kernel.expiry s p dir now)
+    ∙ ap (λ (r : Tracked). cond (is_tcp p.proto) r (Moved (tracked_other s dir now))) (profile-tcp kernel s p dir now)
 
 -- what passes by no rule that is taken away, passes so still
 pub loose-adds : LooseAdds
@@ -199,8 +212,8 @@ loose-adds kernel s p dir now t e = by-proto (is_tcp p.proto) e
     by-reuse true e = cc
     by-reuse false e = by-way (is_inside_by kernel g p) (is_lenient g && is_nearby g) e
 
-    by-proto : (b : Bool) → cond b (tracked_tcp_by (record kernel { loose = false }) s p dir now) (Moved (tracked_other s dir now)) ≡ Moved t
-        → cond b (tracked_tcp_by (record kernel { loose = true }) s p dir now) (Moved (tracked_other s dir now)) ≡ Moved t
+    by-proto : (b : Bool) → cond b (tracked_tcp_by (record kernel { loose = false }) s p dir now) (Moved (tracked_other_by kernel s p dir now)) ≡ Moved t
+        → cond b (tracked_tcp_by (record kernel { loose = true }) s p dir now) (Moved (tracked_other_by kernel s p dir now)) ≡ Moved t
     by-proto true e = by-reuse (is_request p && is_closed s) e
     by-proto false e = e
 
@@ -230,8 +243,8 @@ reset-refuses kernel s p dir now t off e = by-proto (is_tcp p.proto) e
     by-reuse true e = cc
     by-reuse false e = by-rule kernel.loose off e
 
-    by-proto : (b : Bool) → cond b (tracked_tcp_by (record kernel { reset = true }) s p dir now) (Moved (tracked_other s dir now)) ≡ Moved t
-        → cond b (tracked_tcp_by (record kernel { reset = false }) s p dir now) (Moved (tracked_other s dir now)) ≡ Moved t
+    by-proto : (b : Bool) → cond b (tracked_tcp_by (record kernel { reset = true }) s p dir now) (Moved (tracked_other_by kernel s p dir now)) ≡ Moved t
+        → cond b (tracked_tcp_by (record kernel { reset = false }) s p dir now) (Moved (tracked_other_by kernel s p dir now)) ≡ Moved t
     by-proto true e = by-reuse (is_request p && is_closed s) e
     by-proto false e = e
 

@@ -20,7 +20,7 @@ use Rattle.pfl_track.specs.Tracking.{from_src, moved, receiver, sender, used}
 use Rattle.pfl_track.proofs.Keeping.{IsShift, begun-shift, receiver-shift, sender-shift}
 use Rattle.pfl_track.proofs.Rising.{begun-rises, moved-rises, other-rises, receiver_level-most, receiver_level-rises}
 use Rattle.pfl_track.proofs.Rising.{sender_level-most, sender_level-rises, side-level}
-use Rattle.pfl_track.proofs.RuleMoving.{moved-by, segment-in}
+use Rattle.pfl_track.proofs.RuleMoving.{moved-by, other-by, segment-in}
 
 -- a level that has risen, and is in its range
 record Lifted (from to : ℕ) : Type 0 where
@@ -112,7 +112,8 @@ lowers-none kernel s p dir now t is e =
     moved-by (RisesInRange s) kernel s p dir now t
     (moved-rises s dir _ _ now (sent Window).least (heard Window).least (sent Window).most (heard Window).most)
     (λ _. touched-rises s dir _ _ (sent Loose).least (heard Loose).least (sent Loose).most (heard Loose).most)
-    (other-rises s dir now is) e
+    (other-by (RisesInRange s) kernel s p dir now
+    (record { src = omega arith; dst = omega arith; src_most = is.src.level; dst_most = is.dst.level }) (other-rises s dir now is)) e
   where
     trans-le : (a b c : ℕ) → a ≤ b → b ≤ c → a ≤ c
     trans-le a b c h k = omega arith
@@ -180,7 +181,7 @@ shifts-by kernel s p dir now t is packet e =
     let begun = segment-shift kernel (sender s dir) (receiver s dir) p packet from in
     let other = other-shift kernel (sender s dir) (receiver s dir) p to in
     moved-by (Shifts s) kernel s p dir now t (moved-shifts s dir _ _ now begun other) (λ _. touched-shifts s dir _ _ begun other)
-    (moved-shifts s dir _ _ now from to) e
+    (other-by (Shifts s) kernel s p dir now (record { src = is.src.scale; dst = is.dst.scale; rest = refl }) (moved-shifts s dir _ _ now from to)) e
 
 pub stays-state : StaysStateBy
 stays-state kernel s p dir now t is packet e =

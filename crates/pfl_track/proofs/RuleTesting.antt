@@ -18,7 +18,8 @@ use Rattle.pfl_track.specs.RuleLaws.{JudgementsAgree, NoneTestsByProfile, Outcom
 use Rattle.pfl_track.specs.Rules.{ahead_of, asks_number, back_of, is_beside, is_in_window, is_inside_by, is_lenient, is_near, is_nearby}
 use Rattle.pfl_track.specs.Rules.{loose_back, loose_end, plain}
 use Rattle.pfl_track.specs.Rules.{branch, passed, segment_of}
-use Rattle.pfl_track.specs.Tracking.{is_closed, receiver, sender, tracked_other}
+use Rattle.pfl_track.specs.Tracking.{is_closed, receiver, sender}
+use Rattle.pfl_track.specs.Rules.{tracked_other_by}
 use Rattle.pfl_track.specs.Windows.{acknowledges}
 use Rattle.pfl_track.proofs.RuleMoving.{is-profile}
 
@@ -79,7 +80,7 @@ outcomes-follow kernel s p dir now tcp = by-proto (is_tcp p.proto) tcp
     after : Option Branch → Tracked
     after b = cond (is_request p && is_closed s) Reused (passed s g p dir now b)
 
-    by-proto : (b : Bool) → b ≡ true → cond b (after (branch kernel g p)) (Moved (tracked_other s dir now))
+    by-proto : (b : Bool) → b ≡ true → cond b (after (branch kernel g p)) (Moved (tracked_other_by kernel s p dir now))
         ≡ after (branch_of (judged kernel g p))
     by-proto true e = ap after (sym (judgements-agree kernel g p))
     by-proto false e = cc

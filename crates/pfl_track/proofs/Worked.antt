@@ -28,7 +28,7 @@ tcp Outbound flags seq ack window =
 tcp Inbound flags seq ack window =
     record { proto = Tcp; src = outside 80; dst = inside; flags = flags; seq = seq; ack = ack; window = window; len = 0; scale = None }
 
-abbrev udp : Dir → Packet
+abbrev pub udp : Dir → Packet
 udp Outbound = record { proto = Udp; src = inside; dst = outside 53; flags = 0; seq = 0; ack = 0; window = 0; len = 40; scale = None }
 udp Inbound = record { proto = Udp; src = outside 53; dst = inside; flags = 0; seq = 0; ack = 0; window = 0; len = 80; scale = None }
 
@@ -36,10 +36,10 @@ abbrev pub begin : Packet → State
 begin p = start_state (record { creator = 1; id = 1 }) (key p Outbound) (key p Outbound) Outbound p (Some 0) false 0
 
 -- levels and class, or none where the packet is dropped or the state reused
-abbrev Seen : Type 0
+abbrev pub Seen : Type 0
 Seen = ℕ × ℕ × Class
 
-abbrev seen : State → Seen
+abbrev pub seen : State → Seen
 seen s = (s.src.level, s.dst.level, s.class)
 
 abbrev then : Tracked → Dir → Packet → Tracked
@@ -47,7 +47,7 @@ then (Moved s) dir p = tracked s p dir 0
 then OutOfWindow dir p = OutOfWindow
 then Reused dir p = Reused
 
-abbrev shown : Tracked → Option Seen
+abbrev pub shown : Tracked → Option Seen
 shown (Moved s) = Some (seen s)
 shown OutOfWindow = None
 shown Reused = None

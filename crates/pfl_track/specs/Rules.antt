@@ -5,7 +5,8 @@ use Rattle.std.specs.Prelude.{if◌then◌else◌, is_some, is_none}
 use Rattle.std.specs.Option.{option_map_or}
 use Rattle.pfl_base.specs.declared.direction.Dir.{Dir}
 use Rattle.pfl_base.specs.declared.packet.Packet.{Packet}
-use Rattle.pfl_base.specs.Packets.{is_tcp, is_request, syn, fin, rst}
+use Rattle.pfl_base.specs.declared.proto.Proto.{Proto}
+use Rattle.pfl_base.specs.Packets.{is_tcp, is_icmp, is_request, syn, fin, rst}
 use Rattle.pfl_base.specs.Sequence.{add32, sub32, seq_gt, seq_geq}
 use Rattle.pfl_track.specs.declared.peer.Peer.{Peer}
 use Rattle.pfl_track.specs.declared.branch.Branch.{Branch}
@@ -16,22 +17,32 @@ use Rattle.pfl_track.specs.declared.state.State.{State}
 use Rattle.pfl_track.specs.declared.tracked.Tracked.{Tracked}
 use Rattle.pfl_track.specs.declared.tracked.Tracked.TheVariants.{Moved, OutOfWindow, Reused}
 use Rattle.pfl_track.specs.Levels.{syn_sent, closing, fin_wait_2, time_wait, sender_level, receiver_level}
-use Rattle.pfl_track.specs.Tracking.{from_src, sender, receiver, moved, is_closed, tracked_other}
+use Rattle.pfl_track.specs.Tracking.{from_src, sender, receiver, moved, used, is_closed, tracked_other}
 use Rattle.pfl_track.specs.Windows.{end_of, is_scaled, at_scale, begun, acknowledges, max_ack_window}
 
 -- none of the rules by which packets are tracked is the kernel's
 abbrev pub tracks_by_profile : Kernel → Bool
-tracks_by_profile kernel = not (kernel.window || kernel.loose || kernel.reset || kernel.scale)
+tracks_by_profile kernel = not (kernel.window || kernel.loose || kernel.reset || kernel.scale || kernel.icmp)
 
 -- a window in units of a scale: the whole ones, and one more for what is left; where no scale was offered, as it is (RFC 7323, 2.2; pf.c)
 abbrev pub in_units : Option ℕ → ℕ → ℕ
 in_units None window = window
 in_units (Some scale) window = window / 2 ^ scale + min 1 (window % 2 ^ scale)
 
--- the state that a packet has made: the window of its SYN is kept in units of the scale that it offers (the rule `scale`)
+-- the ends of states of this protocol have no levels (the rule `icmp`)
+abbrev pub has_no_levels : Kernel → Proto → Bool
+has_no_levels kernel proto = kernel.icmp && is_icmp proto
+
+-- the end that sent the packet which made the state: the window of its SYN is kept in units of the scale that it offers (the rule `scale`)
+abbrev pub first_end : Kernel → Proto → Peer → Peer
+first_end kernel proto s = record s {
+  level = if has_no_levels kernel proto then 0 else s.level;
+  window = if kernel.scale then in_units s.scale s.window else s.window;
+}
+
+-- the state that a packet has made
 abbrev pub started_by : Kernel → State → State
-started_by kernel s =
-    record s { src = record s.src { window = if kernel.scale then in_units s.src.scale s.src.window else s.src.window } }
+started_by kernel s = record s { src = first_end kernel s.wire.proto s.src }
 
 -- nothing was heard of the end (pf asks for lo 0 alone; that it has no window either is ours, since a number 0 is met in examples)
 abbrev pub is_unheard : Peer → Bool
@@ -248,6 +259,10 @@ tracked_tcp_by kernel s p dir now =
     if is_request p && is_closed s then Reused else
     passed s g p dir now (branch kernel g p)
 
+-- a packet of another protocol, where these rules are the kernel's: where its ends have no levels, it only uses the state
+abbrev pub tracked_other_by : Kernel → State → Packet → Dir → ℕ → State
+tracked_other_by kernel s p dir now = if has_no_levels kernel p.proto then used s s.src s.dst now else tracked_other s dir now
+
 -- what a packet of the state's flow does to it, where these rules are the kernel's
 abbrev pub tracked_by : Kernel → State → Packet → Dir → ℕ → Tracked
-tracked_by kernel s p dir now = if is_tcp p.proto then tracked_tcp_by kernel s p dir now else Moved (tracked_other s dir now)
+tracked_by kernel s p dir now = if is_tcp p.proto then tracked_tcp_by kernel s p dir now else Moved (tracked_other_by kernel s p dir now)

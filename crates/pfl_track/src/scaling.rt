@@ -1,4 +1,5 @@
-//! Windows in units of the scales that ends offer in their SYNs (RFC 7323; pf.c, as far as we know it).
+//! How states begin by the kernel's rules, as far as we know them: with windows in units of the scales that ends offer in their SYNs
+//! (RFC 7323; pf.c), and those of ICMP without levels (pf.c).
 
 ghost use Rattle.std.specs.Prelude.{◌≡◌, ◌≤◌, true, IfSome};
 ghost use Rattle.pfl_track.specs.Rules as meant;
@@ -7,28 +8,44 @@ ghost use Rattle.pfl_track.specs.States.{IsState};
 use crate::peer::{Peer, PeerFields};
 use crate::state::State;
 use crate::window::at_scale;
-use pfl_base::{Kernel, Packet, TcpFlags};
+use pfl_base::{Kernel, Packet, Proto, TcpFlags};
 
 /// The state that a packet has made, where these rules are the kernel's, as far as we know it: by `scale` the window of its SYN
-/// is kept in units of the scale that it offers.
+/// is kept in units of the scale that it offers, and by `icmp` the ends of one of ICMP have no levels.
 pub fn started_by(kernel: Kernel, state: State) -> State
     ensures state { result ≡ meant.started_by kernel state }
     ensures known { IsState result }
 {
-    if kernel.scale {
-        state.with_ends(in_its_units(&state.src()), state.dst())
+    if kernel.scale || kernel.icmp {
+        state.with_ends(first_end(kernel, state.proto(), &state.src()), state.dst())
     } else {
         state
     }
 }
 
-/// An end whose window counts in units of the scale that it offered.
-fn in_its_units(end: &Peer) -> Peer
-    ensures { result ≡ record end.now { window = meant.in_units end.now.scale end.now.window } }
+/// Whether the ends of states of this protocol have no levels.
+pub(crate) fn has_no_levels(kernel: Kernel, proto: Proto) -> bool
+    ensures { result ≡ meant.has_no_levels kernel proto }
+{
+    kernel.icmp && proto == Proto::Icmp
+}
+
+/// The end that sent the packet which made the state.
+fn first_end(kernel: Kernel, proto: Proto, end: &Peer) -> Peer
+    ensures { result ≡ meant.first_end kernel proto end.now }
 {
     let fields = end.fields();
     Peer::with(PeerFields {
-        window: in_units(fields.scale, fields.window),
+        level: if has_no_levels(kernel, proto) {
+            0
+        } else {
+            fields.level
+        },
+        window: if kernel.scale {
+            in_units(fields.scale, fields.window)
+        } else {
+            fields.window
+        },
         ..fields
     })
 }

@@ -9,6 +9,7 @@ use crate::branch::Branch;
 use crate::levels::{FIN_WAIT_2, answered, class_after, heard};
 use crate::passing::{branch, receiver_by, sender_by};
 use crate::peer::{Peer, PeerFields};
+use crate::scaling::has_no_levels;
 use crate::segment::{Segment, segment_of};
 use crate::state::State;
 use crate::tracked::Tracked;
@@ -50,7 +51,9 @@ pub fn track_by(kernel: Kernel, state: &State, packet: &Packet, dir: Dir, now: M
     }
     match packet.proto() {
         Proto::Tcp => track_tcp_by(kernel, state, packet, dir, now),
-        Proto::Udp | Proto::Icmp | Proto::Other(_) => Tracked::Moved(track_other(state, dir, now)),
+        Proto::Udp | Proto::Icmp | Proto::Other(_) => {
+            Tracked::Moved(track_other_by(kernel, state, packet, dir, now))
+        }
     }
 }
 
@@ -58,7 +61,7 @@ pub fn track_by(kernel: Kernel, state: &State, packet: &Packet, dir: Dir, now: M
 fn tracks_by_profile(kernel: Kernel) -> bool
     ensures { result ≡ ruled.tracks_by_profile kernel }
 {
-    !(kernel.window || kernel.loose || kernel.reset || kernel.scale)
+    !(kernel.window || kernel.loose || kernel.reset || kernel.scale || kernel.icmp)
 }
 
 fn track_tcp_by(kernel: Kernel, state: &State, packet: &Packet, dir: Dir, now: Millis) -> Tracked
@@ -119,6 +122,18 @@ fn track_other(state: &State, dir: Dir, now: Millis) -> State
         at_level(&to, answered(to.level())),
         now,
     )
+}
+
+/// A packet of another protocol than TCP, where these rules are the kernel's: by `icmp` one of ICMP moves no level.
+fn track_other_by(kernel: Kernel, state: &State, packet: &Packet, dir: Dir, now: Millis) -> State
+    ensures { result ≡ ruled.tracked_other_by kernel state.now packet.now dir now }
+{
+    if !has_no_levels(kernel, packet.proto()) {
+        return track_other(state, dir, now);
+    }
+    let (src, dst) = (state.src(), state.dst());
+    let class = class_after(state.proto(), src.level(), dst.level());
+    state.renewed(src, dst, class, now)
 }
 
 /// Whether the packet begins a connection anew whose ends have both closed.

@@ -1,7 +1,7 @@
 //! The small changes that events are made of: held packets that go, states that change, states that go, and when that is announced to the peer
 //! (pfsync(4), if_pfsync.c).
 
-ghost use Rattle.std.specs.Prelude.{◌≡◌, ◌≤◌, ◌<◌, ◌+◌, true, false, None, OnOk, OnErr, ◌&&◌, not, Some};
+ghost use Rattle.std.specs.Prelude.{◌≡◌, ◌≤◌, ◌<◌, ◌+◌, true, false, None, OnOk, OnErr, ◌||◌, not, Some};
 ghost use Rattle.pfl_edits.specs.Maps as maps;
 ghost use Rattle.pfl_desk.specs.Changes as to;
 ghost use Rattle.pfl_desk.specs.Drafts.{Writes};
@@ -83,7 +83,7 @@ impl<A: Allocator> Desk<A> {
         Ok(())
     }
 
-    /// Puts a state in the place of one, and announces it to the peer by an update.
+    /// Puts a state in the place of one, and announces it to the peer by an update, unless its deletion is pending.
     fn announce(&mut self, slot: Slot, state: State) -> Result<(), Overfull>
         requires room { 2 ≤ self.old.edits.spare }
         requires known { MayReplace self.old.node state }
@@ -101,7 +101,7 @@ impl<A: Allocator> Desk<A> {
         Ok(())
     }
 
-    /// Puts a state in the place of one that is announced to the peer already.
+    /// Puts a state in the place of one whose name is on a queue already.
     fn count_update(&mut self, slot: Slot, state: State)
         requires room { 2 ≤ self.old.edits.spare }
         requires known { MayReplace self.old.node state }
@@ -160,48 +160,65 @@ impl<A: Allocator> Desk<A> {
         ensures node { OnOk result (self.new.node ≡ to.deletion_announced (to.without_state self.old.node state.now.name) state.now) }
         ensures writes { Writes 3 self.old self.new }
     {
+        self.known();
         let name = state.name();
-        let told = self.is_deletion_announced(state);
-        self.take_out(slot, name);
+        let kind = self.parts().queue().kind_of(name);
+        let told = is_deletion_announced(kind, state);
+        self.take_out(slot, name, kind);
         if !told {
             return Ok(());
         }
         self.mark(name, Kind::Delete)
     }
 
-    /// Takes a name off its queue, and its state out, which may stand at this slot.
-    pub fn take_out(&mut self, slot: Slot, name: StateName)
-        requires room { taken_out_edits ≤ self.old.edits.spare }
-        ensures node { self.new.node ≡ to.unmark (to.without_state self.old.node name) name }
-        ensures writes { Writes taken_out_edits self.old self.new }
-    {
-        self.unmark(name);
-        self.take_state(slot, name);
-    }
-
-    /// Drops the packet of a name, takes the name off its queue and its state out, and sends the peer nothing.
+    /// Drops the packet of a name, takes its state out and sends the peer nothing. The name goes off its queue; a deletion that is
+    /// still to be announced stays.
     pub fn forget(&mut self, name: StateName)
         requires room { forgotten_edits ≤ self.old.edits.spare }
         ensures node { self.new.node ≡ to.forgotten self.old.node name }
         ensures writes { Writes forgotten_edits self.old self.new }
     {
         self.drop_held(name);
-        self.take_out(Slot::UNKNOWN, name);
+        let kind = self.parts().queue().kind_of(name);
+        self.take_out(Slot::UNKNOWN, name, kind);
     }
 
-    /// The deletion of the state is announced to the peer.
-    fn is_deletion_announced(&self, state: &State) -> bool
-        ensures told { result ≡ (not (to.is_insert (kind_of self.now.node.queue state.now.name)) && not state.now.no_sync) }
-        ensures parts { AreParts self.now.node }
+    /// Takes the state of a name out, which may stand at this slot, and the name off its queue, which is this one; a deletion that is
+    /// still to be announced stays.
+    fn take_out(&mut self, slot: Slot, name: StateName, kind: Option<Kind>)
+        requires room { taken_out_edits ≤ self.old.edits.spare }
+        requires kind { kind ≡ kind_of self.old.node.queue name }
+        ensures node { self.new.node ≡ to.withdraw (to.without_state self.old.node name) name }
+        ensures writes { Writes taken_out_edits self.old self.new }
+    {
+        self.withdraw(name, kind);
+        self.take_state(slot, name);
+    }
+
+    /// Takes a name off its queue, which is this one; a deletion that is still to be announced stays.
+    fn withdraw(&mut self, name: StateName, kind: Option<Kind>)
+        requires room { 0 < self.old.edits.spare }
+        requires kind { kind ≡ kind_of self.old.node.queue name }
+        ensures node { self.new.node ≡ to.withdraw self.old.node name }
+        ensures parts { AreParts self.new.node }
+        ensures writes { Writes 1 self.old self.new }
     {
         self.known();
-        !is_insert(self.parts().queue().kind_of(state.name())) && !state.no_sync()
+        match kind {
+            None => {}
+            Some(Kind::Delete) => {}
+            Some(_) => self.unmark(name),
+        }
     }
 }
 
-/// The peer has not heard of it.
-fn is_insert(kind: Option<Kind>) -> bool
-    ensures { result ≡ to.is_insert kind }
+/// The deletion of the state, whose name is on this queue, is announced to the peer: not if the peer has not heard of the state or is
+/// never told of it, nor if a deletion is pending already.
+fn is_deletion_announced(kind: Option<Kind>, state: &State) -> bool
+    ensures { result ≡ not (to.is_insert kind || to.is_delete kind || state.now.no_sync) }
 {
-    matches!(kind, Some(Kind::Insert))
+    match kind {
+        Some(Kind::Insert) | Some(Kind::Delete) => false,
+        None | Some(_) => !state.no_sync(),
+    }
 }

@@ -2,7 +2,7 @@ use Rattle.std.proofs.Common.{◌∙◌, sym, ap}
 use Rattle.std.proofs.lemmas.Result.{err_from_is_err_and}
 use Rattle.pfl_lines.specs.Words.{words}
 use Rattle.pfl_lines.specs.Setup.{kernel_with}
-use Rattle.pfl_lines.proofs.KernelWords.{kernel-goes, kernel-stops}
+use Rattle.pfl_lines.proofs.KernelWords.{kernel-goes, kernel-shorter, kernel-stops}
 use Rattle.pfl_lines.proofs.setup.kernel_with.Goals as goal
 
 pub returns-in_err-kernel_rules_of : goal.returns-in_err-kernel_rules_of
@@ -17,3 +17,6 @@ loop-word-preserved c = record {
       ∙ kernel-goes c.loop-word.kernel _ (words c.loop-word.rest.now) _ _ c.in-Ok.ensures (sym c.kernel_rules_of.ensures ∙ c.in_ok-kernel_rules_of.was)
       ∙ ap (λ k. kernel_with k (words c.in-Ok.others.now)) (sym c.union-kernel.ensures);
 }
+
+pub loop-word-smaller : goal.loop-word-smaller
+loop-word-smaller c = kernel-shorter (words c.loop-word.rest.now) _ _ c.in-Ok.ensures

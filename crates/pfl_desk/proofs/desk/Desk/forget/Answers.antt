@@ -7,7 +7,7 @@ use Rattle.pfl_desk.proofs.desk.Desk.forget.Goals as goal
 
 pub returns-clause-node : goal.returns-clause-node
 returns-clause-node g c =
-    c.take_out.ensures.node ∙ (ap (λ (n : Node). to.unmark (to.without_state n c.args.name) c.args.name) c.drop_held.ensures.node
+    c.take_out.ensures.node ∙ (ap (λ (n : Node). to.withdraw (to.without_state n c.args.name) c.args.name) c.drop_held.ensures.node
     ∙ sym (forgotten-is c.args.self.now.node c.args.name))
 
 pub returns-clause-writes : goal.returns-clause-writes

@@ -6,7 +6,7 @@ use Rattle.pfl_desk.proofs.desk.Desk.take_out.Goals as goal
 
 pub take_state-requires-clause-parts : goal.take_state-requires-clause-parts
 take_state-requires-clause-parts g c =
-    rw c.unmark.ensures.node (taken_out-node c.args.self.now.node c.args.name (subst AreParts c.unmark.ensures.node c.unmark.ensures.parts))
+    rw c.withdraw.ensures.node (taken_out-node c.args.self.now.node c.args.name (subst AreParts c.withdraw.ensures.node c.withdraw.ensures.parts))
 
 pub returns-clause-writes : goal.returns-clause-writes
-returns-clause-writes g c = writes-then 1 1 _ _ _ c.unmark.ensures.writes c.take_state.ensures.writes
+returns-clause-writes g c = writes-then 1 1 _ _ _ c.withdraw.ensures.writes c.take_state.ensures.writes
