@@ -1,5 +1,5 @@
 -- The deletion of a state: what stays a node's parts on the way, what is announced to the peer, and what is left alone.
-use Rattle.std.specs.Prelude.{◌≡◌, ◌≤◌, ℕ, ◌+◌, ◌-◌, Bool, true, false, not, ◌||◌, Option, Some, None, refl}
+use Rattle.std.specs.Prelude.{◌≡◌, ◌≢◌, ◌≤◌, ℕ, ◌+◌, ◌-◌, Bool, true, false, not, ◌&&◌, ◌||◌, Option, Some, None, refl}
 use Rattle.std.specs.Option.{option_map}
 use Rattle.std.proofs.Common.{cond, ◌∙◌, ap, sym, subst, arith, inl, inr}
 use Rattle.pfl_base.specs.declared.state_name.StateName.{StateName}
@@ -19,7 +19,7 @@ use Rattle.pfl_queue.specs.Queues.{Queue, kind_of, marked, unmarked}
 use Rattle.pfl_queue.proofs.ForCallers.{unmarked_kept, unmarked_absent, kept}
 use Rattle.pfl_language.specs.declared.limits.Limits.{Limits}
 use Rattle.pfl_desk.specs.Changes.{without_state, mark, unmark, withdraw, is_held, is_insert, is_delete, lost, count_lost, without_held, deleted}
-use Rattle.pfl_desk.specs.Changes.{deletion_announced, forgotten}
+use Rattle.pfl_desk.specs.Changes.{deletion_announced, forgotten, keeps_deletion}
 use Rattle.pfl_desk.specs.Nodes.{Node, AreParts}
 use Rattle.pfl_desk.proofs.Keeps.{keeps_states, keeps_queue}
 use Rattle.pfl_desk.proofs.Putting.{IsTold, rightly-still}
@@ -58,27 +58,20 @@ deletes_only : (kind : Kind) → is_delete (Some kind) ≡ true → kind ≡ Del
 deletes_only Delete e = refl
 deletes_only other e = absurd (cc)
 
--- a name that was taken off its queue, unless that is the one of deletions, is on no other
-withdrawn-deletes : (n : Node) (name : StateName) (k : Mark) → maps.get (withdraw n name).queue.marks name ≡ Some k → k.kind ≡ Delete
-withdrawn-deletes n name k = by (is_delete (kind_of n.queue name)) refl
-  where
-    by : (b : Bool) → is_delete (kind_of n.queue name) ≡ b → maps.get (cond b n.queue (unmarked n.queue name)).marks name ≡ Some k → k.kind ≡ Delete
-    by true is at = deletes_only k.kind (sym (ap (λ (o : Option Mark). is_delete (option_map (λ (m : Mark). m.kind) o)) at) ∙ is)
-    by false is at = absurd (some_is_none k (sym at ∙ get-set_at_same names_total names_exact n.queue.marks name None))
+second : (a b : Bool) → (a && b) ≡ true → b ≡ true
+second true b e = e
+second false b e = absurd (cc)
 
--- and its state out
-pub taken_out-node : (n : Node) (name : StateName) → AreParts (withdraw n name) → AreParts (without_state (withdraw n name) name)
-taken_out-node n name is = without-node (withdraw n name) name is (withdrawn-deletes n name)
+-- a name off its queue, and its state out
+pub unmarked-out : (n : Node) (name : StateName) → AreParts n → AreParts (without_state (unmark n name) name)
+unmarked-out n name is = without-node (unmark n name) name (unmarked-node n name is)
+    (λ k at. absurd (some_is_none k (sym at ∙ get-set_at_same names_total names_exact n.queue.marks name None)))
 
--- a name on no queue stays so
-pub withdrawn-none : (n : Node) (name : StateName) → kind_of n.queue name ≡ None → n ≡ withdraw n name
-withdrawn-none n name none =
-    ap (λ (q : Queue). record n { queue = q }) (unmarked_absent n.queue name (by (maps.get n.queue.marks name) none))
-    ∙ ap (λ (b : Bool). record n { queue = cond b n.queue (unmarked n.queue name) }) (sym (ap is_delete none))
-  where
-    by : (o : Option Mark) → option_map (λ (m : Mark). m.kind) o ≡ None → o ≡ None
-    by None e = refl
-    by (Some m) e = absurd (cc)
+-- or its state out where its deletion stays
+pub kept-out : (n : Node) (name : StateName) → AreParts n → keeps_deletion n name ≡ true → AreParts (without_state n name)
+kept-out n name is keeps = without-node n name is (λ k at.
+    deletes_only k.kind (sym (ap (λ (o : Option Mark). is_delete (option_map (λ (m : Mark). m.kind) o)) at)
+    ∙ second n.limits.kernel.revive (is_delete (kind_of n.queue name)) keeps))
 
 -- ---- what is announced
 
@@ -86,15 +79,32 @@ withdrawn-none n name none =
 abbrev pub is_deletion_announced : Option Kind → State → Bool
 is_deletion_announced kind s = not (is_insert kind || is_delete kind || s.no_sync)
 
+-- a pending deletion of a name with a state stays: without `revive` there is none
+stays-pending : (n : Node) (s : State) → AreParts n → maps.get n.states s.name ≡ Some s
+    → keeps_deletion n s.name ≡ is_delete (kind_of n.queue s.name)
+stays-pending n s is stands = by n.limits.kernel.revive refl (maps.get n.queue.marks s.name) refl
+  where
+    by : (revive : Bool) → n.limits.kernel.revive ≡ revive → (o : Option Mark) → maps.get n.queue.marks s.name ≡ o
+        → (revive && is_delete (option_map (λ (m : Mark). m.kind) o)) ≡ is_delete (option_map (λ (m : Mark). m.kind) o)
+    by true on o at = refl
+    by false off None at = refl
+    by false off (Some k) at = none k.kind (λ deletes. some_is_none s (sym stands ∙ (is.marks s.name k at).1.1.0 off deletes))
+      where
+        none : (kind : Kind) → kind ≢ Delete → false ≡ is_delete (Some kind)
+        none Delete other = absurd (other refl)
+        none kind other = refl
+
 -- the name ends on the deletions
-pub gone-told : (n : Node) (s : State) → is_deletion_announced (kind_of n.queue s.name) s ≡ true
+pub gone-told : (n : Node) (s : State) → AreParts n → maps.get n.states s.name ≡ Some s
+    → is_deletion_announced (kind_of n.queue s.name) s ≡ true
     → deletion_announced (without_state n s.name) s ≡ mark (withdraw (without_state n s.name) s.name) s.name Delete
-gone-told n s told =
+gone-told n s is stands told =
     let m = without_state n s.name in
-    by m (is_insert (kind_of n.queue s.name)) (is_delete (kind_of n.queue s.name)) s.no_sync
+    rw (stays-pending n s is stands)
+    (by m (is_insert (kind_of n.queue s.name)) (is_delete (kind_of n.queue s.name)) s.no_sync
     (ap (λ (k : Map name_cmp Mark). record m { queue = record n.queue { next = n.queue.next + 1; marks = k } })
     (sym (set_at-set_at names_total names_exact n.queue.marks s.name None
-    (Some (record { name = s.name; kind = Delete; number = n.queue.next }))))) told
+    (Some (record { name = s.name; kind = Delete; number = n.queue.next }))))) told)
   where
     by : (m : Node) (a d b : Bool) → mark m s.name Delete ≡ mark (unmark m s.name) s.name Delete → not (a || d || b) ≡ true
         → cond a (unmark m s.name) (cond b m (record m { queue = cond d m.queue (marked m.queue s.name Delete) }))
@@ -119,9 +129,10 @@ pub gone-unannounced : (n : Node) (s : State) → AreParts n → maps.get n.stat
     → deletion_announced (without_state n s.name) s ≡ withdraw (without_state n s.name) s.name
 gone-unannounced n s is stands told =
     let m = without_state n s.name in
-    by m (is_insert (kind_of n.queue s.name)) (is_delete (kind_of n.queue s.name)) s.no_sync (insert-no_delete (kind_of n.queue s.name))
+    rw (stays-pending n s is stands)
+    (by m (is_insert (kind_of n.queue s.name)) (is_delete (kind_of n.queue s.name)) s.no_sync (insert-no_delete (kind_of n.queue s.name))
     (λ quiet. ap (λ (q : Queue). record m { queue = q }) (unmarked_absent n.queue s.name (no_mark n s is stands quiet (maps.get n.queue.marks s.name) refl)))
-    told
+    told)
   where
     by : (m : Node) (a d b : Bool) → (a ≡ true → d ≡ false) → (b ≡ true → m ≡ unmark m s.name) → not (a || d || b) ≡ false
         → cond a (unmark m s.name) (cond b m (record m { queue = cond d m.queue (marked m.queue s.name Delete) }))

@@ -1,6 +1,6 @@
 -- The small changes that events are made of (pfsync(4): all local changes are announced, several of one state in one record, those
 -- of a rule with `no-sync` never; when a push is asked, and how deletions are announced, is this project's profile, after if_pfsync.c).
-use Rattle.std.specs.Prelude.{ℕ, ◌+◌, ◌-◌, Bool, true, false, not, ◌||◌, nat_lt, nat_le, min, Option, Some, None, is_some, if◌then◌else◌}
+use Rattle.std.specs.Prelude.{ℕ, ◌+◌, ◌-◌, Bool, true, false, not, ◌&&◌, ◌||◌, nat_lt, nat_le, min, Option, Some, None, is_some, if◌then◌else◌}
 use Rattle.std.specs.Option.{option_map_or}
 use Rattle.pfl_base.specs.declared.state_name.StateName.{StateName}
 use Rattle.pfl_base.specs.Packets.{is_tcp}
@@ -125,7 +125,7 @@ is_unannounced (Some _) = false
 abbrev pub is_recent : Node → State → Bool
 is_recent n s = option_map_or (λ t. nat_lt (n.clock - t) 2000) s.peer_change false
 
--- a state that is announced already counts its updates, and asks for a push after enough of them
+-- a state whose name is on a queue already counts its updates, and asks for a push after enough of them
 abbrev pub counted : Node → State → Node
 counted n s =
     if is_tcp s.wire.proto
@@ -151,9 +151,13 @@ abbrev pub is_delete : Option Kind → Bool
 is_delete (Some Delete) = true
 is_delete _ = false
 
+-- with `revive` a name with a state may have a pending deletion, which then stays (if_pfsync.c, as far as we know it)
+abbrev pub keeps_deletion : Node → StateName → Bool
+keeps_deletion n name = n.limits.kernel.revive && is_delete (kind_of n.queue name)
+
 -- the deletion of the name is announced, once: where it is pending already, as it may be with `revive`, it stays in its place
 abbrev pub mark_deletion : Node → StateName → Node
-mark_deletion n name = record n { queue = if is_delete (kind_of n.queue name) then n.queue else marked n.queue name Delete }
+mark_deletion n name = record n { queue = if keeps_deletion n name then n.queue else marked n.queue name Delete }
 
 -- what the peer has not heard of is forgotten; else the deletion is announced
 abbrev pub deletion_announced : Node → State → Node
@@ -164,9 +168,9 @@ deletion_announced n s =
 unfoldable pub deleted : Node → State → Node
 deleted n s = deletion_announced (without_state (lost n s.name) s.name) s
 
--- the name on no queue, but that of deletions, where it stays
+-- the name is taken off its queue; a pending deletion stays
 abbrev pub withdraw : Node → StateName → Node
-withdraw n name = record n { queue = if is_delete (kind_of n.queue name) then n.queue else unmarked n.queue name }
+withdraw n name = record n { queue = if keeps_deletion n name then n.queue else unmarked n.queue name }
 
 -- the node without the state of the name, unannounced
 unfoldable pub forgotten : Node → StateName → Node

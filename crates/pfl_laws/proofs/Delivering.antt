@@ -25,7 +25,7 @@ use Rattle.pfl_world.specs.merge.declared.merged.Merged.{Merged}
 use Rattle.pfl_world.specs.queue.Queues.{kind_of}
 use Rattle.pfl_world.specs.defer.declared.Held.{Held}
 use Rattle.pfl_world.specs.desk.Nodes.{Node, timeout_at}
-use Rattle.pfl_world.specs.desk.Changes.{put_state, push_if, count_broken, count_stale, count_freed, count_lost, without_held, is_delete}
+use Rattle.pfl_world.specs.desk.Changes.{put_state, push_if, count_broken, count_stale, count_freed, count_lost, without_held, keeps_deletion}
 use Rattle.pfl_world.specs.desk.Changes.{is_held, is_unannounced, freed, lost, released, changed, forgotten}
 use Rattle.pfl_world.specs.receive.declared.decision.Decision.{Decision}
 use Rattle.pfl_world.specs.receive.declared.decision.Decision.TheVariants.{Bad, Import, Merge, Ask, Queue, Serve, Release, Delete, Clear, Hear, Nothing}
@@ -95,7 +95,7 @@ merged-ids n x =
 does-ids : (n : Node) (d : Decision) → ids (does n d) ≡ ids n
 unfolding does
 does-ids n (Bad why) = refl
-does-ids n (Import s ack) = ids-either (ids n) ack _ _ (ids-either (ids n) (is_delete (kind_of n.queue s.name)) _ _ refl refl) refl
+does-ids n (Import s ack) = ids-either (ids n) ack _ _ (ids-either (ids n) (keeps_deletion n s.name) _ _ refl refl) refl
 does-ids n (Merge x) = merged-ids (lost n x.state.name) x ∙ lost-ids n x.state.name
 does-ids n (Ask name) = refl
 does-ids n (Queue name) = refl
@@ -189,7 +189,7 @@ deleted-lets k (message.Bulk creator status) e = absurd (cc)
 does-stays : (n : Node) (m : Message) (d : Decision) (h : Held) → Filed n.states → RestsOn n m d → Holds n h → Stays n m h (does n d)
 unfolding does RestsOn
 does-stays n m (Bad why) h filed so holds = inl holds
-does-stays n m (Import s ack) h filed so holds = stays-either n m h ack _ _ (stays-either n m h (is_delete (kind_of n.queue s.name)) _ _ (inl holds) (inl holds)) (inl holds)
+does-stays n m (Import s ack) h filed so holds = stays-either n m h ack _ _ (stays-either n m h (keeps_deletion n s.name) _ _ (inl holds) (inl holds)) (inl holds)
 does-stays n m (Merge x) h filed so holds =
     let puts : PutsCalm n x.state (merged_into (lost n x.state.name) x) = merged-puts n x in
     let own = merged-name n.limits.kernel so.held so.received (timeout_at n so.held.rule so.received.class) n.clock in

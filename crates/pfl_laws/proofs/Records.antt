@@ -16,8 +16,7 @@ use Rattle.pfl_world.specs.merge.declared.merged.Merged.{Merged}
 use Rattle.pfl_world.specs.merge.Merging.{merged}
 use Rattle.pfl_world.specs.desk.Nodes.{Node, timeout_at}
 use Rattle.pfl_world.specs.queue.declared.Kind.TheVariants.{InsertAck}
-use Rattle.pfl_world.specs.queue.Queues.{kind_of}
-use Rattle.pfl_world.specs.desk.Changes.{put_state, mark, lost, released, forgotten, is_delete}
+use Rattle.pfl_world.specs.desk.Changes.{put_state, mark, lost, released, forgotten, keeps_deletion}
 use Rattle.pfl_world.specs.receive.declared.decision.Decision.{Decision}
 use Rattle.pfl_world.specs.receive.declared.decision.Decision.TheVariants.{Bad, Import, Merge, Ask, Queue, Serve, Release, Delete, Clear, Hear, Nothing}
 use Rattle.pfl_world.specs.receive.Bringing.{name_in, received_in}
@@ -35,7 +34,7 @@ use Rattle.pfl_laws.proofs.Tied.{PutsCalm, merged-puts}
 -- what is taken over is put, also where it is acknowledged
 over-states : (n : Node) (s : State) (ack : Bool) → (taken_over n s ack).states ≡ maps.insert n.states s.name s
 over-states n s false = refl
-over-states n s true = by (is_delete (kind_of n.queue s.name))
+over-states n s true = by (keeps_deletion n s.name)
   where
     by : (b : Bool) → (cond b (put_state n s) (mark (put_state n s) s.name InsertAck)).states ≡ maps.insert n.states s.name s
     by true = refl

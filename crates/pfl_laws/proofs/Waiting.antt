@@ -12,10 +12,9 @@ use Rattle.pfl_world.specs.track.declared.state.State.{State}
 use Rattle.pfl_world.specs.table.Tables.{States}
 use Rattle.pfl_world.specs.wire.declared.message.Message.{Message}
 use Rattle.pfl_world.specs.queue.declared.Kind.TheVariants.{Insert, InsertAck, Update}
-use Rattle.pfl_world.specs.queue.Queues.{kind_of}
 use Rattle.pfl_world.specs.defer.Deferring.{pushed_out}
 use Rattle.pfl_world.specs.desk.Nodes.{Node, IsGiven}
-use Rattle.pfl_world.specs.desk.Changes.{put_state, mark, push_if, count_bad, count_passed, count_blocked, is_held, freed, lost, changed, forgotten, is_delete}
+use Rattle.pfl_world.specs.desk.Changes.{put_state, mark, push_if, count_bad, count_passed, count_blocked, is_held, freed, lost, changed, forgotten, keeps_deletion}
 use Rattle.pfl_world.specs.desk.Changes.{released, ask}
 use Rattle.pfl_world.specs.node.Packets.{accepted}
 use Rattle.pfl_world.specs.receive.declared.decision.Decision.{Decision}
@@ -47,7 +46,7 @@ does-tied n m (Import s ack) filed on tied =
     let calm : s.ack_wanted ≡ is_held n s.name = ap (λ (t : State). t.ack_wanted) on.is ∙ sym (tied s.name ∙ ap waits fresh) in
     let new = put_state n s in
     let told : IsTied (push_if true (acknowledged new s.name)) =
-    elim (is_delete (kind_of n.queue s.name)) as (λ b. IsTied (push_if true (cond b new (mark new s.name InsertAck)))) [
+    elim (keeps_deletion n s.name) as (λ b. IsTied (push_if true (cond b new (mark new s.name InsertAck)))) [
       | true ↦ tied-put n (push_if true new) s tied refl refl calm
       | false ↦ tied-put n (push_if true (mark new s.name InsertAck)) s tied refl refl calm
     ] in

@@ -13,7 +13,7 @@ use Rattle.pfl_receive.specs.queue.Queues.{kind_of}
 use Rattle.pfl_language.specs.declared.limits.Limits.{Limits}
 use Rattle.pfl_node.specs.Laws.{RecordsLeaveTheRest}
 use Rattle.pfl_receive.specs.desk.Nodes.{Node}
-use Rattle.pfl_receive.specs.desk.Changes.{is_held, lost, freed, released, is_unannounced, changed, forgotten, is_delete}
+use Rattle.pfl_receive.specs.desk.Changes.{is_held, lost, freed, released, is_unannounced, changed, forgotten, keeps_deletion}
 use Rattle.pfl_receive.specs.declared.decision.Decision.{Decision}
 use Rattle.pfl_receive.specs.declared.decision.Decision.TheVariants.{Bad, Import, Merge, Ask, Queue, Serve, Release, Delete, Clear, Hear, Nothing}
 use Rattle.pfl_receive.specs.Receiving.{cleared_names, decided, does, taken}
@@ -60,7 +60,7 @@ forgotten-keeps n name = lost-keeps n name
 done-keeps : (n : Node) (d : Decision) → Keeps n (does n d)
 unfolding does
 done-keeps n (Bad why) = refl
-done-keeps n (Import s ack) = either ack n _ _ (either (is_delete (kind_of n.queue s.name)) n _ _ refl refl) refl
+done-keeps n (Import s ack) = either ack n _ _ (either (keeps_deletion n s.name) n _ _ refl refl) refl
 done-keeps n (Merge x) =
     let l = lost n x.state.name in
     either (x.stale_src || x.stale_dst) l _ _ (changed-keeps _ _) refl ∙ lost-keeps n x.state.name

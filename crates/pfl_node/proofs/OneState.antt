@@ -27,7 +27,7 @@ use Rattle.pfl_receive.specs.merge.Merging.{merged, stale_src, stale_dst}
 use Rattle.pfl_receive.specs.defer.declared.Held.{Held}
 use Rattle.pfl_receive.specs.defer.Deferring.{pushed_out}
 use Rattle.pfl_receive.specs.desk.Nodes.{Node}
-use Rattle.pfl_receive.specs.desk.Changes.{put_state, mark, is_unannounced, is_insert, is_held, freed, lost, not_waiting, released, changed, deleted, is_delete}
+use Rattle.pfl_receive.specs.desk.Changes.{put_state, mark, is_unannounced, is_insert, is_held, freed, lost, not_waiting, released, changed, deleted, keeps_deletion}
 use Rattle.pfl_receive.specs.desk.Changes.{forgotten, count_stale, count_freed, count_lost, without_held}
 use Rattle.pfl_node.specs.Starting.{Handled, announced, hold, is_deferred, judged, with_new, with_room}
 use Rattle.pfl_node.specs.Packets.{handled, handled_by, followed, accepted, tracked_at}
@@ -179,7 +179,7 @@ done-apart n m (Bad why) so k = k
 done-apart n m (Import s ack) so k =
     let free = (may-import n so.sent so.free).unused in
     let put = put-unused n s k (subst (λ (t : State). key_in_use n.states t.wire t.stack ≡ false) (sym so.is) free) in
-    either ack _ _ (either (is_delete (kind_of n.queue s.name)) _ _ put put) put
+    either ack _ _ (either (keeps_deletion n s.name) _ _ put put) put
 done-apart n m (Merge x) so k =
     merge-apart n so.held x k (under_its_name n (name_in m) so.held k so.found)
     (subst (λ (y : Merged). SameKeys so.held y.state) (sym so.is) (merged-same n.limits.kernel so.held so.received _ n.clock))

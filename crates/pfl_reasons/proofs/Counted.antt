@@ -28,7 +28,7 @@ use Rattle.pfl_queue.specs.declared.Mark.{Mark}
 use Rattle.pfl_queue.specs.Queues.{Queue, is_requested, kind_of, marked, requested}
 use Rattle.pfl_world.proofs.ForCallers.receive.{RestsOn, may-import, rests}
 use Rattle.pfl_world.specs.desk.Changes.{changed, count_freed, count_lost, count_stale, forgotten, freed, is_held, is_unannounced, lost, not_waiting, is_delete}
-use Rattle.pfl_world.specs.desk.Changes.{push_if, put_state, released, without_held}
+use Rattle.pfl_world.specs.desk.Changes.{keeps_deletion, push_if, put_state, released, without_held}
 use Rattle.pfl_world.specs.desk.declared.counters.Counters.{Counters}
 use Rattle.pfl_world.specs.desk.Nodes.{Node}
 use Rattle.pfl_world.specs.receive.Bringing.{name_in, received_in, whole_in}
@@ -228,11 +228,11 @@ module _ (n : Node) (m : Message) where
   says-so (decision.Bad why) on so = (refl, so)
   says-so (decision.Import s ack) on so =
       let named = whole-named m on.sent on.brought in (
-        either (CountedAsMany n) ack _ _ (either (CountedAsMany n) (is_delete (kind_of n.queue s.name)) _ _ (refl, refl) (refl, refl)) (refl, refl),
+        either (CountedAsMany n) ack _ _ (either (CountedAsMany n) (keeps_deletion n s.name) _ _ (refl, refl) (refl, refl)) (refl, refl),
         ap (maps.get n.states) (sym named) ∙ (may-import n on.sent on.free).fresh,
         subst (λ (k : StateName). IsLastUsed (taken_over n s ack) k s.last) (ap (λ (t : State). t.name) on.is ∙ named)
             (either (λ (o : Node). IsLastUsed o s.name s.last) ack _ _ (either (λ (o : Node). IsLastUsed o s.name s.last)
-            (is_delete (kind_of n.queue s.name)) _ _ (put-used n s) (put-used n s)) (put-used n s)),
+            (keeps_deletion n s.name) _ _ (put-used n s) (put-used n s)) (put-used n s)),
       )
   says-so (decision.Merge x) on so =
       let still = lost n x.state.name in

@@ -133,9 +133,8 @@ imported-may : (n : Node) (b : Bool) (r : StateRecord) → MayImport n r → May
 imported-may n b r may = record { fresh = may.fresh; unused = may.unused; room = may.room }
 
 -- and the name may be acknowledged
-acknowledged-may : (n : Node) (b : Bool) (r : StateRecord) → MayImport n r → is_delete (kind_of n.queue r.name) ≡ false
-    → MayMark (put_state n (imported n b r)) r.name InsertAck
-acknowledged-may n b r may untold =
+acknowledged-may : (n : Node) (b : Bool) (r : StateRecord) → MayImport n r → MayMark (put_state n (imported n b r)) r.name InsertAck
+acknowledged-may n b r may =
     let s = imported n b r in
     told-may (put_state n s) r.name InsertAck s (get-set_at_same names_total names_exact n.states s.name (Some s)) refl may.given (λ e. cc)
 

@@ -17,7 +17,7 @@ use Rattle.pfl_desk.specs.queue.Queues.{kind_of}
 use Rattle.pfl_merge.specs.declared.merged.Merged.{Merged}
 use Rattle.pfl_desk.specs.bulk.Bulk.{is_waiting, no_name}
 use Rattle.pfl_desk.specs.Changes.{put_state, is_held, is_unannounced, count_freed, lost, count_lost, without_held, released, not_waiting, changed}
-use Rattle.pfl_desk.specs.Changes.{count_stale, forgotten, is_delete}
+use Rattle.pfl_desk.specs.Changes.{count_stale, forgotten, keeps_deletion}
 use Rattle.pfl_desk.specs.Drafts.{Draft, Writes}
 use Rattle.pfl_desk.specs.Nodes.{Node}
 use Rattle.pfl_receive.specs.declared.decision.BadRecord.{BadRecord}
@@ -70,7 +70,7 @@ few-changed n s k h =
 
 pub few-taken_over : (n : Node) (s : State) (ack : Bool) → Few (maps.len n.states + 1) (taken_over n s ack)
 few-taken_over n s ack = let put = few-put n s (maps.len n.states) (omega arith) in
-    either _ ack _ _ (either _ (is_delete (kind_of n.queue s.name)) _ _ put put) put
+    either _ ack _ _ (either _ (keeps_deletion n s.name) _ _ put put) put
 
 pub few-merged : (n : Node) (m : Merged) → Few (maps.len n.states + 1) (merged_into (lost n m.state.name) m)
 few-merged n m =

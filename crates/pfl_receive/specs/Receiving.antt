@@ -24,7 +24,7 @@ use Rattle.pfl_merge.specs.declared.merged.Merged.{Merged}
 use Rattle.pfl_merge.specs.Merging.{merged, imported_use}
 use Rattle.pfl_desk.specs.bulk.Bulk.{no_name, is_waiting, server_started, after_status}
 use Rattle.pfl_desk.specs.Nodes.{Node, timeout_at}
-use Rattle.pfl_desk.specs.Changes.{put_state, mark, push_if, ask, announce_status, count_bad, count_stale, lost, released, changed, is_delete, forgotten}
+use Rattle.pfl_desk.specs.Changes.{put_state, mark, push_if, ask, announce_status, count_bad, count_stale, lost, released, changed, is_delete, keeps_deletion, forgotten}
 use Rattle.pfl_receive.specs.declared.decision.BadRecord.{BadRecord}
 use Rattle.pfl_receive.specs.declared.decision.BadRecord.TheVariants as bad
 use Rattle.pfl_receive.specs.declared.decision.Decision.{Decision}
@@ -47,7 +47,7 @@ key_fault n r =
     (option_or (option_map (λ (s : State). bad.StackInUse s.name) (by_stack n.states r.keys.stack))
     (if nat_le n.limits.states (maps.len n.states) then Some bad.Full else None))
 
--- the peer does not know yet that the node deleted the state, which is why it is not taken over again, but with `revive` (if_pfsync.c, as far
+-- the node deleted the state, and the peer does not know that yet: it is not taken over again, except with `revive` (if_pfsync.c, as far
 -- as we know it)
 abbrev pub is_deleting : Node → StateName → Bool
 is_deleting n name = not n.limits.kernel.revive && is_delete (kind_of n.queue name)
@@ -137,7 +137,8 @@ deleting n name = if is_known n name then decision.Delete name else decision.Bad
 abbrev pub hearing : Node → BulkStatus → Decision
 hearing n status = if is_waiting n.client then decision.Hear status else decision.Nothing
 
--- a state of an update that the node has not: with `rule` it has no rule, whatever the peer's are (if_pfsync.c, as far as we know it)
+-- what an update brings and the node does not have: with `rule` it has no rule here, also where the peer's rules are the node's own
+-- (if_pfsync.c, as far as we know it)
 abbrev pub updating : Node → Bool → StateRecord → Decision
 updating n same_rules r = importing n (same_rules && not n.limits.kernel.rule) r false
 
@@ -159,15 +160,16 @@ decided n same_rules (message.Bulk creator status) = hearing n status
 
 -- ---- what that does
 
--- the name is to be acknowledged, but not in the place of a deletion that is still to be announced
+-- the name is on the queue of acknowledgements, but a pending deletion stays
 abbrev pub acknowledged : Node → StateName → Node
-acknowledged n name = if is_delete (kind_of n.queue name) then n else mark n name InsertAck
+acknowledged n name = if keeps_deletion n name then n else mark n name InsertAck
 
 -- a state is taken over, and acknowledged if that is wanted
 abbrev pub taken_over : Node → State → Bool → Node
 taken_over n s ack_wanted = if ack_wanted then push_if true (acknowledged (put_state n s) s.name) else put_state n s
 
--- where an end was stale, the state is sent back, also with `merge`, by which a stale destination may have been taken
+-- where an end was stale, the state is sent back, unless its deletion is pending; also with `merge`, by which a stale destination may
+-- have been taken
 abbrev pub merged_into : Node → Merged → Node
 merged_into n m =
     if m.stale_src || m.stale_dst

@@ -1,14 +1,12 @@
 //! A record from the peer: it is decided what it comes to, and then that is done.
 
-ghost use Rattle.std.specs.Prelude.{◌≡◌, ◌≤◌, ◌<◌, ◌+◌, ◌*◌, true, false, OnOk, OnErr, if◌then◌else◌};
+ghost use Rattle.std.specs.Prelude.{◌≡◌, ◌≤◌, ◌<◌, ◌+◌, ◌*◌, true, OnOk, OnErr, if◌then◌else◌};
 ghost use Rattle.pfl_edits.specs.Maps as maps;
 ghost use Rattle.pfl_desk.specs.Changes as to;
-ghost use Rattle.pfl_desk.specs.Changes.{is_delete};
 ghost use Rattle.pfl_desk.specs.Drafts.{Writes};
 ghost use Rattle.pfl_desk.specs.inner.Kept.{MayMark, MayReplace};
 ghost use Rattle.pfl_desk.specs.Nodes.{is_overfull};
 ghost use Rattle.pfl_desk.specs.queue.declared.Kind.TheVariants.{InsertAck, Update as Whole};
-ghost use Rattle.pfl_desk.specs.queue.Queues.{kind_of};
 ghost use Rattle.pfl_desk.specs.Weights.{forgotten_edits};
 ghost use Rattle.pfl_receive.specs.inner.Deciding.{MayDo, MayTakeOver, cleared_in, done_edits};
 ghost use Rattle.pfl_receive.specs.inner.Delivering.{IsPaid, paid_edits};
@@ -106,15 +104,15 @@ fn take_over<A: Allocator>(
     Ok(())
 }
 
-/// Has the name acknowledged, but not in the place of a deletion that is still to be announced.
+/// Has the name acknowledged, but a pending deletion stays.
 fn acknowledge<A: Allocator>(desk: &mut Desk<A>, name: StateName) -> Result<(), Overfull>
     requires room { 1 ≤ desk.old.edits.spare }
-    requires may { is_delete (kind_of desk.old.node.queue name) ≡ false → MayMark desk.old.node name InsertAck }
+    requires may { MayMark desk.old.node name InsertAck }
     ensures full { OnErr result (is_overfull (receiving.acknowledged desk.old.node name) ≡ true) }
     ensures node { OnOk result (desk.new.node ≡ receiving.acknowledged desk.old.node name) }
     ensures writes { Writes 1 desk.old desk.new }
 {
-    if desk.parts().queue().kind_of(name) == Some(Kind::Delete) {
+    if desk.parts().keeps_deletion(name) {
         return Ok(());
     }
     desk.mark(name, Kind::InsertAck)

@@ -2,4 +2,4 @@
 
 /// The release, the sum of its sources, and the logic that proves them.
 pub(crate) const VERSION: &str =
-    "release 26, sources cc830c6be74e8e855f9b57235771a10cb2544b3935e6911b047fc18cf69ed740, logic dac8208d650f15bf";
+    "release 27, sources 9942a8f05bfdbcf3108a8ffb7907e4affe885a301129bb1b695f4778671d2dc8, logic dac8208d650f15bf";

@@ -10,9 +10,8 @@ use Rattle.pfl_track.specs.declared.segment.Segment.{Segment}
 use Rattle.pfl_track.specs.declared.tracked.Tracked.{Tracked}
 use Rattle.pfl_track.specs.declared.tracked.Tracked.TheVariants.{Moved, Reused}
 use Rattle.pfl_track.specs.RuleLaws.{ScaleAnswersOffers, UnitsCover}
-use Rattle.pfl_track.specs.Rules.{branch, eased, is_to_begin, passed, plain, segment_of, tracked_tcp_by, without_scale}
+use Rattle.pfl_track.specs.Rules.{branch, eased, is_to_begin, passed, plain, segment_of, tracked_other_by, tracked_tcp_by, without_scale}
 use Rattle.pfl_track.specs.Tracking.{is_closed, receiver, sender}
-use Rattle.pfl_track.specs.Rules.{tracked_other_by}
 
 never : (b x y : Bool) → (x && y) ≡ false → (b && x && y) ≡ false
 never true x y e = e

@@ -19,7 +19,7 @@ use Rattle.pfl_track.specs.RuleLaws.{AllRenewBy, EndsMoveBy, LooseAdds, NoneIsPr
 use Rattle.pfl_track.specs.Rules.{asks_number, branch, is_beside, is_in_window, is_inside_by, is_lenient, is_near, is_nearby}
 use Rattle.pfl_track.specs.Rules.{has_no_levels, passed, plain, receiver_by, tracked_other_by}
 use Rattle.pfl_track.specs.Rules.{segment_of, sender_by, touched, tracked_by, tracked_tcp_by, tracks_by_profile, widened}
-use Rattle.pfl_track.specs.Tracking.{from_src, is_closed, moved, receiver, sender, tracked_other, tracked_tcp, used}
+use Rattle.pfl_track.specs.Tracking.{from_src, is_closed, moved, receiver, sender, tracked, tracked_other, tracked_tcp, used}
 use Rattle.pfl_track.specs.Windows.{acknowledges, at_scale, begun, is_inside, is_scaled, left_edge, max_ack_window}
 use Rattle.pfl_track.specs.Windows.{offered, receiver_after, right_edge, sender_after}
 use Rattle.pfl_track.proofs.Names.{Same, Stays}
@@ -115,9 +115,9 @@ pub all-renew : AllRenewBy
 all-renew kernel s p dir now t off e =
     moved-by (IsUsed s now) kernel s p dir now t (moved-used s dir _ _ now) (λ on. let no : true ≡ false = cc in cc) (other-used kernel s p dir now) e
 
--- packets are tracked by the profile
+-- packets of TCP are tracked by the profile
 abbrev pub untracked : Kernel → Kernel
-untracked kernel = record kernel { window = false; loose = false; reset = false; scale = false; icmp = false }
+untracked kernel = record kernel { window = false; loose = false; reset = false; scale = false }
 
 -- with none of the kernel's rules the tests are those of the profile
 inside-by : (right left counts : Bool) (near : ℕ → Bool) (number : ℕ)
@@ -178,22 +178,27 @@ profile-tcp kernel s p dir now = ap after (by-inside (is_inside_by (untracked ke
         ∙ ap (λ (e : Peer). outcome (is_inside (begun from to p) to p) e) (profile-receiver from to p)
 
 -- where none of these rules is the kernel's, packets are tracked by the profile
-none-is : (k : Kernel) (window loose reset scale icmp : Bool) → not (window || loose || reset || scale || icmp) ≡ true
-    → record k { window = window; loose = loose; reset = reset; scale = scale; icmp = icmp } ≡ untracked k
-none-is k false false false false false e = refl
-none-is k true loose reset scale icmp e = cc
-none-is k false true reset scale icmp e = cc
-none-is k false false true scale icmp e = cc
-none-is k false false false true icmp e = cc
-none-is k false false false false true e = cc
+none-is : (k : Kernel) (window loose reset scale : Bool) → not (window || loose || reset || scale) ≡ true
+    → record k { window = window; loose = loose; reset = reset; scale = scale } ≡ untracked k
+none-is k false false false false e = refl
+none-is k true loose reset scale e = cc
+none-is k false true reset scale e = cc
+none-is k false false true scale e = cc
+none-is k false false false true e = cc
 
 pub is-profile : (kernel : Kernel) → tracks_by_profile kernel ≡ true → kernel ≡ untracked kernel
-is-profile kernel e = none-is kernel kernel.window kernel.loose kernel.reset kernel.scale kernel.icmp e
+is-profile kernel e = none-is kernel kernel.window kernel.loose kernel.reset kernel.scale e
 
 pub profile-tracked : NoneIsProfile
-profile-tracked kernel s p dir now e =
+profile-tracked kernel s p dir now e levels =
     ap (λ (k : Kernel). tracked_by k s p dir now) (is-profile kernel e)
-    ∙ ap (λ (r : Tracked). cond (is_tcp p.proto) r (Moved (tracked_other s dir now))) (profile-tcp kernel s p dir now)
+    ∙ ap (λ (r : Tracked). cond (is_tcp p.proto) r (Moved (tracked_other_by kernel s p dir now))) (profile-tcp kernel s p dir now)
+    ∙ ap (λ (b : Bool). cond (is_tcp p.proto) (tracked_tcp s p dir now) (Moved (cond b (used s s.src s.dst now) (tracked_other s dir now)))) levels
+
+-- packets of other protocols than TCP are tracked by it, whichever of these rules are the kernel's, but for those of ICMP by `icmp`
+pub profile-other : (kernel : Kernel) (s : State) (p : Packet) (dir : Dir) (now : ℕ) → is_tcp p.proto ≡ false
+    → has_no_levels kernel p.proto ≡ false → tracked_by kernel s p dir now ≡ tracked s p dir now
+profile-other kernel s p dir now other levels = rw (other, levels)
 
 -- what passes by no rule that is taken away, passes so still
 pub loose-adds : LooseAdds

@@ -15,11 +15,9 @@ use Rattle.pfl_track.specs.declared.tracked.Tracked.TheVariants.{Moved, Reused}
 use Rattle.pfl_track.specs.Edges.{is_met, tested_by, unless, window_test}
 use Rattle.pfl_track.specs.Judging.{branch_of, edges_of, is_met_loosely, judged, loose_test, misses_no_number, near_test, reset_test, window_test_by}
 use Rattle.pfl_track.specs.RuleLaws.{JudgementsAgree, NoneTestsByProfile, OutcomesFollow}
-use Rattle.pfl_track.specs.Rules.{ahead_of, asks_number, back_of, is_beside, is_in_window, is_inside_by, is_lenient, is_near, is_nearby}
-use Rattle.pfl_track.specs.Rules.{loose_back, loose_end, plain}
-use Rattle.pfl_track.specs.Rules.{branch, passed, segment_of}
+use Rattle.pfl_track.specs.Rules.{ahead_of, asks_number, back_of, branch, is_beside, is_in_window, is_inside_by, is_lenient, is_near, is_nearby}
+use Rattle.pfl_track.specs.Rules.{loose_back, loose_end, passed, plain, segment_of, tracked_other_by}
 use Rattle.pfl_track.specs.Tracking.{is_closed, receiver, sender}
-use Rattle.pfl_track.specs.Rules.{tracked_other_by}
 use Rattle.pfl_track.specs.Windows.{acknowledges}
 use Rattle.pfl_track.proofs.RuleMoving.{is-profile}
 

@@ -19,7 +19,7 @@ use Rattle.pfl_track.specs.Tracking.{start_state, tracked}
 abbrev inside : End
 inside = record { addr = V4 0x0a000001; port = 1000 }
 
-abbrev outside : ℕ → End
+abbrev pub outside : ℕ → End
 outside port = record { addr = V4 0xc0000209; port = port }
 
 abbrev pub tcp : Dir → ℕ → ℕ → ℕ → ℕ → Packet

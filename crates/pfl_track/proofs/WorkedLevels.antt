@@ -9,14 +9,15 @@ use Rattle.pfl_base.specs.declared.proto.Proto.TheVariants.{Icmp}
 use Rattle.pfl_base.specs.Kernels.{profile}
 use Rattle.pfl_track.specs.declared.state.State.{State}
 use Rattle.pfl_track.specs.Rules.{started_by, tracked_by}
-use Rattle.pfl_track.proofs.Worked.{Seen, begin, seen, shown, udp}
+use Rattle.pfl_track.proofs.Worked.{Seen, begin, outside, seen, shown, udp}
 
 abbrev icmp : Kernel
 icmp = record profile { icmp = true }
 
--- an echo and its reply: the numbers of the packets' ports are that of the echo
+-- an echo and its reply, whose identifier is both ports
 abbrev echo : Dir → Packet
-echo dir = record (udp dir) { proto = Icmp }
+echo Outbound = record (udp Outbound) { proto = Icmp; dst = outside 1000 }
+echo Inbound = record (udp Inbound) { proto = Icmp; src = outside 1000 }
 
 -- the state that a packet makes
 abbrev made : Kernel → Packet → State

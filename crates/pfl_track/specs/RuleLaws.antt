@@ -13,8 +13,8 @@ use Rattle.pfl_track.specs.Edges.{window_test}
 use Rattle.pfl_track.specs.Judging.{branch_of, judged, window_test_by}
 use Rattle.pfl_track.specs.Laws.{Arrival, RisesInRange, left_of}
 use Rattle.pfl_track.specs.Peers.{IsPeer}
-use Rattle.pfl_track.specs.Rules.{branch, eased, heard, in_units, is_acknowledgement, is_empty, is_in_window, passed, segment_of}
-use Rattle.pfl_track.specs.Rules.{tracked_by, tracks_by_profile}
+use Rattle.pfl_track.specs.Rules.{branch, eased, has_no_levels, heard, in_units, is_acknowledgement, is_empty, is_in_window, passed}
+use Rattle.pfl_track.specs.Rules.{segment_of, tracked_by, tracks_by_profile}
 use Rattle.pfl_track.specs.States.{IsState}
 use Rattle.pfl_track.specs.Tracking.{is_closed, receiver, sender, tracked, used}
 
@@ -26,12 +26,13 @@ after_packet_by kernel s a = left_of s (tracked_by kernel s a.packet a.dir a.now
 abbrev pub after_all_by : Kernel → State → List Arrival → Option State
 after_all_by kernel s run = fold (λ at a. option_and_then (λ t. after_packet_by kernel t a) at) (Some s) run
 
--- where none of the rules by which packets are tracked is the kernel's, they move states by the profile
+-- where none of the rules by which packets of TCP are tracked is the kernel's, packets move states by the profile, but for those of ICMP
+-- by `icmp`
 abbrev pub NoneIsProfile : Type 0
 NoneIsProfile = (kernel : Kernel) (s : State) (p : Packet) (dir : Dir) (now : ℕ) → tracks_by_profile kernel ≡ true
-    → tracked_by kernel s p dir now ≡ tracked s p dir now
+    → has_no_levels kernel p.proto ≡ false → tracked_by kernel s p dir now ≡ tracked s p dir now
 
--- and they are tested by the profile, and by nothing else
+-- and all of them are tested by the profile, and by nothing else
 abbrev pub NoneTestsByProfile : Type 0
 NoneTestsByProfile = (kernel : Kernel) (s : State) (dir : Dir) (p : Packet) → tracks_by_profile kernel ≡ true
     → window_test_by kernel s dir p ≡ record { eased = false; test = window_test s dir p; reset = None; loose = None }

@@ -1,5 +1,6 @@
--- The window as FreeBSD 13's pf_tcp_track_full has it (pf.c, as far as we know it), by the rules that are the kernel's; with none of
--- them it is that of this project's profile (Windows).
+-- How states begin, and how packets move them, by the rules that are the kernel's: the window as FreeBSD 13's pf_tcp_track_full has it,
+-- and states of ICMP without levels (pf.c, as far as we know it). With none of these rules it is as in this project's profile (Tracking,
+-- Windows).
 use Rattle.std.specs.Prelude.{ℕ, ◌+◌, ◌-◌, ◌/◌, ◌%◌, ◌^◌, Bool, true, not, ◌&&◌, ◌||◌, ◌==◌, nat_lt, nat_le, max, min, Option, Some, None}
 use Rattle.std.specs.Prelude.{if◌then◌else◌, is_some, is_none}
 use Rattle.std.specs.Option.{option_map_or}
@@ -20,9 +21,9 @@ use Rattle.pfl_track.specs.Levels.{syn_sent, closing, fin_wait_2, time_wait, sen
 use Rattle.pfl_track.specs.Tracking.{from_src, sender, receiver, moved, used, is_closed, tracked_other}
 use Rattle.pfl_track.specs.Windows.{end_of, is_scaled, at_scale, begun, acknowledges, max_ack_window}
 
--- none of the rules by which packets are tracked is the kernel's
+-- none of the rules by which packets of TCP are tracked is the kernel's
 abbrev pub tracks_by_profile : Kernel → Bool
-tracks_by_profile kernel = not (kernel.window || kernel.loose || kernel.reset || kernel.scale || kernel.icmp)
+tracks_by_profile kernel = not (kernel.window || kernel.loose || kernel.reset || kernel.scale)
 
 -- a window in units of a scale: the whole ones, and one more for what is left; where no scale was offered, as it is (RFC 7323, 2.2; pf.c)
 abbrev pub in_units : Option ℕ → ℕ → ℕ
@@ -33,7 +34,8 @@ in_units (Some scale) window = window / 2 ^ scale + min 1 (window % 2 ^ scale)
 abbrev pub has_no_levels : Kernel → Proto → Bool
 has_no_levels kernel proto = kernel.icmp && is_icmp proto
 
--- the end that sent the packet which made the state: the window of its SYN is kept in units of the scale that it offers (the rule `scale`)
+-- the end that sent the packet which made the state: the window of its SYN is kept in units of the scale that it offers (the rule
+-- `scale`), and by `icmp` one of ICMP has no level
 abbrev pub first_end : Kernel → Proto → Peer → Peer
 first_end kernel proto s = record s {
   level = if has_no_levels kernel proto then 0 else s.level;

@@ -5,8 +5,8 @@ ghost use Rattle.pfl_track.specs.RuleLaws.{AllRenewBy, EndsMoveBy, JudgementsAgr
 ghost use Rattle.pfl_track.specs.RuleLaws.{BareAcksByAck, NoneIsProfile, NoneTestsByProfile, OnlyMotionBy, OutcomesFollow};
 ghost use Rattle.pfl_track.specs.RuleLaws.{ResetRefuses, ScaleAnswersOffers, StaysStateAlongBy, StaysStateBy, UnitsCover};
 
-/// Where none of the rules `window`, `loose`, `reset`, `scale` and `icmp` is the kernel's, packets move states by the profile, and are
-/// tested by it and by nothing else.
+/// Where none of the rules `window`, `loose`, `reset` and `scale` is the kernel's, packets move states by the profile, but for those
+/// of ICMP by `icmp`, and are tested by it and by nothing else.
 pub fn no_rules_are_the_profile()
     ensures moved { NoneIsProfile }
     ensures tested { NoneTestsByProfile }

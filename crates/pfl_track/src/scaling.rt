@@ -16,7 +16,7 @@ pub fn started_by(kernel: Kernel, state: State) -> State
     ensures state { result ≡ meant.started_by kernel state }
     ensures known { IsState result }
 {
-    if kernel.scale || kernel.icmp {
+    if kernel.scale || has_no_levels(kernel, state.proto()) {
         state.with_ends(first_end(kernel, state.proto(), &state.src()), state.dst())
     } else {
         state
@@ -24,7 +24,7 @@ pub fn started_by(kernel: Kernel, state: State) -> State
 }
 
 /// Whether the ends of states of this protocol have no levels.
-pub(crate) fn has_no_levels(kernel: Kernel, proto: Proto) -> bool
+fn has_no_levels(kernel: Kernel, proto: Proto) -> bool
     ensures { result ≡ meant.has_no_levels kernel proto }
 {
     kernel.icmp && proto == Proto::Icmp

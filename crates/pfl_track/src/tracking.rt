@@ -9,7 +9,6 @@ use crate::branch::Branch;
 use crate::levels::{FIN_WAIT_2, answered, class_after, heard};
 use crate::passing::{branch, receiver_by, sender_by};
 use crate::peer::{Peer, PeerFields};
-use crate::scaling::has_no_levels;
 use crate::segment::{Segment, segment_of};
 use crate::state::State;
 use crate::tracked::Tracked;
@@ -42,26 +41,23 @@ fn track_tcp(state: &State, packet: &Packet, dir: Dir, now: Millis) -> Tracked
     Tracked::Moved(moved(state, dir, from, to, now))
 }
 
-/// The same, where these rules are the kernel's, as far as we know it. A packet that passes loosely moves the ends alone.
+/// The same, where these rules are the kernel's, as far as we know it. A packet that passes loosely moves the ends alone, and by `icmp`
+/// one of ICMP moves no level.
 pub fn track_by(kernel: Kernel, state: &State, packet: &Packet, dir: Dir, now: Millis) -> Tracked
     ensures { result ≡ ruled.tracked_by kernel state.now packet.now dir now }
 {
-    if tracks_by_profile(kernel) {
-        return track(state, packet, dir, now);
-    }
     match packet.proto() {
-        Proto::Tcp => track_tcp_by(kernel, state, packet, dir, now),
-        Proto::Udp | Proto::Icmp | Proto::Other(_) => {
-            Tracked::Moved(track_other_by(kernel, state, packet, dir, now))
-        }
+        Proto::Icmp if kernel.icmp => Tracked::Moved(used(state, state.src(), state.dst(), now)),
+        Proto::Tcp if !tracks_by_profile(kernel) => track_tcp_by(kernel, state, packet, dir, now),
+        _ => track(state, packet, dir, now),
     }
 }
 
-/// Whether none of the rules by which packets are tracked is the kernel's.
+/// Whether none of the rules by which packets of TCP are tracked is the kernel's.
 fn tracks_by_profile(kernel: Kernel) -> bool
     ensures { result ≡ ruled.tracks_by_profile kernel }
 {
-    !(kernel.window || kernel.loose || kernel.reset || kernel.scale || kernel.icmp)
+    !(kernel.window || kernel.loose || kernel.reset || kernel.scale)
 }
 
 fn track_tcp_by(kernel: Kernel, state: &State, packet: &Packet, dir: Dir, now: Millis) -> Tracked
@@ -124,18 +120,6 @@ fn track_other(state: &State, dir: Dir, now: Millis) -> State
     )
 }
 
-/// A packet of another protocol than TCP, where these rules are the kernel's: by `icmp` one of ICMP moves no level.
-fn track_other_by(kernel: Kernel, state: &State, packet: &Packet, dir: Dir, now: Millis) -> State
-    ensures { result ≡ ruled.tracked_other_by kernel state.now packet.now dir now }
-{
-    if !has_no_levels(kernel, packet.proto()) {
-        return track_other(state, dir, now);
-    }
-    let (src, dst) = (state.src(), state.dst());
-    let class = class_after(state.proto(), src.level(), dst.level());
-    state.renewed(src, dst, class, now)
-}
-
 /// Whether the packet begins a connection anew whose ends have both closed.
 fn is_reused(state: &State, packet: &Packet) -> bool
     ensures { result ≡ (packets.is_request packet.now && meant.is_closed state.now) }
@@ -188,6 +172,13 @@ fn moved(state: &State, dir: Dir, from: Peer, to: Peer, now: Millis) -> State
     } else {
         (to, from)
     };
+    used(state, src, dst, now)
+}
+
+/// The state with these ends, used now.
+fn used(state: &State, src: Peer, dst: Peer, now: Millis) -> State
+    ensures { result ≡ meant.used state.now src dst now }
+{
     let class = class_after(state.proto(), src.level(), dst.level());
     state.renewed(src, dst, class, now)
 }

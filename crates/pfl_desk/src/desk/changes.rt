@@ -6,7 +6,7 @@ ghost use Rattle.pfl_edits.specs.Maps as maps;
 ghost use Rattle.pfl_desk.specs.Changes as to;
 ghost use Rattle.pfl_desk.specs.Drafts.{Writes};
 ghost use Rattle.pfl_desk.specs.inner.Kept.{MayReplace};
-ghost use Rattle.pfl_desk.specs.Nodes.{Node as Whole, AreParts, is_overfull};
+ghost use Rattle.pfl_desk.specs.Nodes.{is_overfull};
 ghost use Rattle.pfl_queue.specs.Queues.{kind_of};
 ghost use Rattle.pfl_desk.specs.Weights.{freed_edits, released_edits, changed_edits, taken_out_edits, forgotten_edits, deleted_edits};
 
@@ -164,51 +164,35 @@ impl<A: Allocator> Desk<A> {
         let name = state.name();
         let kind = self.parts().queue().kind_of(name);
         let told = is_deletion_announced(kind, state);
-        self.take_out(slot, name, kind);
+        self.take_out(slot, name);
         if !told {
             return Ok(());
         }
         self.mark(name, Kind::Delete)
     }
 
-    /// Drops the packet of a name, takes its state out and sends the peer nothing. The name goes off its queue; a deletion that is
-    /// still to be announced stays.
+    /// Drops the packet of a name, takes its state out and sends the peer nothing. The name goes off its queue; with `revive` a pending
+    /// deletion stays.
     pub fn forget(&mut self, name: StateName)
         requires room { forgotten_edits ≤ self.old.edits.spare }
         ensures node { self.new.node ≡ to.forgotten self.old.node name }
         ensures writes { Writes forgotten_edits self.old self.new }
     {
         self.drop_held(name);
-        let kind = self.parts().queue().kind_of(name);
-        self.take_out(Slot::UNKNOWN, name, kind);
+        self.take_out(Slot::UNKNOWN, name);
     }
 
-    /// Takes the state of a name out, which may stand at this slot, and the name off its queue, which is this one; a deletion that is
-    /// still to be announced stays.
-    fn take_out(&mut self, slot: Slot, name: StateName, kind: Option<Kind>)
+    /// Takes the state of a name out, which may stand at this slot, and the name off its queue; with `revive` a pending deletion stays.
+    fn take_out(&mut self, slot: Slot, name: StateName)
         requires room { taken_out_edits ≤ self.old.edits.spare }
-        requires kind { kind ≡ kind_of self.old.node.queue name }
         ensures node { self.new.node ≡ to.withdraw (to.without_state self.old.node name) name }
         ensures writes { Writes taken_out_edits self.old self.new }
     {
-        self.withdraw(name, kind);
-        self.take_state(slot, name);
-    }
-
-    /// Takes a name off its queue, which is this one; a deletion that is still to be announced stays.
-    fn withdraw(&mut self, name: StateName, kind: Option<Kind>)
-        requires room { 0 < self.old.edits.spare }
-        requires kind { kind ≡ kind_of self.old.node.queue name }
-        ensures node { self.new.node ≡ to.withdraw self.old.node name }
-        ensures parts { AreParts self.new.node }
-        ensures writes { Writes 1 self.old self.new }
-    {
         self.known();
-        match kind {
-            None => {}
-            Some(Kind::Delete) => {}
-            Some(_) => self.unmark(name),
+        if !self.parts().keeps_deletion(name) {
+            self.unmark(name);
         }
+        self.take_state(slot, name);
     }
 }
 
@@ -218,7 +202,7 @@ fn is_deletion_announced(kind: Option<Kind>, state: &State) -> bool
     ensures { result ≡ not (to.is_insert kind || to.is_delete kind || state.now.no_sync) }
 {
     match kind {
-        Some(Kind::Insert) | Some(Kind::Delete) => false,
+        Some(Kind::Insert | Kind::Delete) => false,
         None | Some(_) => !state.no_sync(),
     }
 }

@@ -3,6 +3,7 @@
 ghost use Rattle.std.specs.Prelude.{◌≡◌, ◌≤◌, Some};
 ghost use Rattle.pfl_base.specs.declared.state_name.StateName.{StateName};
 ghost use Rattle.pfl_edits.specs.Maps as maps;
+ghost use Rattle.pfl_desk.specs.Changes as to;
 ghost use Rattle.pfl_desk.specs.Nodes.{AreParts, last_millisecond, timeout_at};
 ghost use Rattle.pfl_rules.specs.Rules.{timeout as rule_timeout};
 ghost use Rattle.pfl_table.specs.Tables.{states_of};
@@ -10,11 +11,11 @@ ghost use Rattle.pfl_table.specs.declared.row.Row.{Row};
 
 use crate::counters::Counters;
 use crate::parts::Parts;
-use pfl_base::{Class, Kernel, Millis};
+use pfl_base::{Class, Kernel, Millis, StateName};
 use pfl_bulk::{BulkClient, BulkServer};
 use pfl_defer::Deferrals;
 use pfl_language::Limits;
-use pfl_queue::Pending;
+use pfl_queue::{Kind, Pending};
 use pfl_rules::{RuleSet, scaled};
 use pfl_table::StateTable;
 use std::alloc::Allocator;
@@ -68,6 +69,14 @@ impl<A: Allocator> Parts<A> {
         ensures queue { result.now ≡ self.now.queue }
     {
         &self.queue
+    }
+
+    /// A deletion of the name is pending, and stays where its state comes back or goes: with `revive` alone (if_pfsync.c, as far as we
+    /// know it).
+    pub fn keeps_deletion(&self, name: StateName) -> bool
+        ensures keeps { result ≡ to.keeps_deletion self.now name }
+    {
+        self.kernel().revive && self.queue().kind_of(name) == Some(Kind::Delete)
     }
 
     /// The packets that it holds until its peer knows of their states.

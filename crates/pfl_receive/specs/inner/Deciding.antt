@@ -1,9 +1,8 @@
 -- What it takes to do what was decided.
-use Rattle.std.specs.Prelude.{ℕ, ◌≡◌, true, false, length}
+use Rattle.std.specs.Prelude.{ℕ, ◌≡◌, true, length}
 use Rattle.pfl_track.specs.declared.state.State.{State}
 use Rattle.pfl_desk.specs.queue.declared.Kind.TheVariants.{InsertAck, Update}
-use Rattle.pfl_desk.specs.queue.Queues.{kind_of}
-use Rattle.pfl_desk.specs.Changes.{is_delete, lost, put_state}
+use Rattle.pfl_desk.specs.Changes.{lost, put_state}
 use Rattle.pfl_desk.specs.inner.Kept.{MayAdd, MayMark, MayReplace}
 use Rattle.pfl_desk.specs.Nodes.{Node, AreParts}
 use Rattle.pfl_receive.specs.declared.decision.Decision.{Decision}
@@ -14,7 +13,7 @@ use Rattle.pfl_receive.specs.Receiving.{cleared_names, is_known}
 pub record MayTakeOver (n : Node) (s : State) : Type 0 where
   pub parts : AreParts (put_state n s)
   pub add : MayAdd n s
-  pub mark : is_delete (kind_of n.queue s.name) ≡ false → MayMark (put_state n s) s.name InsertAck
+  pub mark : MayMark (put_state n s) s.name InsertAck
 
 -- what was decided may be done at the node
 abbrev pub MayDo : Node → Decision → Type 0

@@ -42,7 +42,7 @@ returns-clause-full g c =
     let told : c.is_deletion_announced-told.result ≡ true = search rules in
     let announced = ap (λ (k : Option Kind). is_deletion_announced k s) (sym kind) ∙ (sym c.is_deletion_announced-told.ensures ∙ told) in
     let out = c.take_out.ensures.node ∙ ap (λ name. to.withdraw (to.without_state n name) name) c.name-name.ensures in
-    let same = (λ i. to.mark (out i) (c.name-name.ensures i) Delete) ∙ sym (gone-told n s announced) in
+    let same = (λ i. to.mark (out i) (c.name-name.ensures i) Delete) ∙ sym (gone-told n s c.known.ensures.parts c.requires.stands announced) in
     subst (λ (m : Node). OnErr c.mark.result (is_overfull m ≡ true)) same c.mark.ensures.full
 
 pub returns-clause-node : goal.returns-clause-node
@@ -53,7 +53,7 @@ returns-clause-node g c =
     let told : c.is_deletion_announced-told.result ≡ true = search rules in
     let announced = ap (λ (k : Option Kind). is_deletion_announced k s) (sym kind) ∙ (sym c.is_deletion_announced-told.ensures ∙ told) in
     let out = c.take_out.ensures.node ∙ ap (λ name. to.withdraw (to.without_state n name) name) c.name-name.ensures in
-    let same = (λ i. to.mark (out i) (c.name-name.ensures i) Delete) ∙ sym (gone-told n s announced) in
+    let same = (λ i. to.mark (out i) (c.name-name.ensures i) Delete) ∙ sym (gone-told n s c.known.ensures.parts c.requires.stands announced) in
     subst (λ (m : Node). OnOk c.mark.result (c.mark.new.self.node ≡ m)) same c.mark.ensures.node
 
 pub returns-clause-writes : goal.returns-clause-writes

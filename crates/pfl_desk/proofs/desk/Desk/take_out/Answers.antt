@@ -1,12 +1,15 @@
-use Rattle.std.proofs.Common.{subst}
-use Rattle.pfl_desk.specs.Nodes.{AreParts}
-use Rattle.pfl_desk.proofs.Recording.{writes-then}
-use Rattle.pfl_desk.proofs.Deletions.{taken_out-node}
+use Rattle.std.proofs.Common.{◌≡◌, true, rules}
+use Rattle.pfl_desk.specs.Changes as to
+use Rattle.pfl_desk.proofs.Deletions.{kept-out, unmarked-out}
 use Rattle.pfl_desk.proofs.desk.Desk.take_out.Goals as goal
+use Rattle.pfl_desk.proofs.desk.Desk.take_out.Goals.{then-not-keeps_deletion, else-not-keeps_deletion}
 
 pub take_state-requires-clause-parts : goal.take_state-requires-clause-parts
 take_state-requires-clause-parts g c =
-    rw c.withdraw.ensures.node (taken_out-node c.args.self.now.node c.args.name (subst AreParts c.withdraw.ensures.node c.withdraw.ensures.parts))
-
-pub returns-clause-writes : goal.returns-clause-writes
-returns-clause-writes g c = writes-then 1 1 _ _ _ c.withdraw.ensures.writes c.take_state.ensures.writes
+    let n = c.args.self.now.node in
+    elim c.if-not-keeps_deletion.branch [
+      | then-not-keeps_deletion w ↦ rw (w.self-is, w.unmark.ensures.node) (unmarked-out n c.args.name c.known.ensures.parts)
+      | else-not-keeps_deletion w ↦
+          let keeps : to.keeps_deletion n c.args.name ≡ true = search rules in
+          rw w.self-is (kept-out n c.args.name c.known.ensures.parts keeps)
+    ]
